@@ -63,7 +63,7 @@ module _ (source : List ℕ) where
   module _ (rules : RulesView) where
     -- without constants and EQU names
     abbrev plain : ContextView
-    plain = record { source = source; constants = []; rules = rules; equs = [] }
+    plain = record { source = source; given = record { constants = []; rules = rules }; equs = [] }
 
     -- a line defines no name and is added
     line_next : (p : PlainLine) (r : LinesSoFarView) → length p.others < MOST_TOKENS

@@ -20,6 +20,7 @@ use Rattle.rc_expand.specs.declared.line.Line.{Line}
 use Rattle.rc_expand.specs.declared.line.LineWord.TheVariants as line
 use Rattle.rc_expand.specs.Read.Lines.{is_name_kind, is_reserved_class, is_unjoined, bytes_of, is_free, word_of_name, word_of_kind, no_labels, label_split, line_with_word, line_after_labels, raw_line_of, line_of_tokens, up_to_end, lines_from}
 use Rattle.rc_expand.specs.Read.Tree.{BlockTree, NoLine, OneLine, line_before, blocks_of}
+use Rattle.rc_expand.specs.Names.{GivenNamesView}
 use Rattle.rc_instr.specs.Results.{mapped, and_then}
 use Rattle.rc_expand.specs.Read.{text_lines, equs_from, equs_of, first_pass_of_blocks, first_pass}
 use Rattle.rc_expand.proofs.Reading.TextFaults.{no_fault}
@@ -214,26 +215,30 @@ module _ (source : List ℕ) where
     by_word AStart = refl
 
   module _ (rules : RulesView) where
+    -- without constants
+    abbrev no_constants : GivenNamesView
+    no_constants = record { constants = []; rules = rules }
+
     -- no EQU line is there
-    plain_equs : (ps : List PlainLine) → equs_from source [] rules (plain_blocks ps) [] ≡ Ok []
+    plain_equs : (ps : List PlainLine) → equs_from source no_constants (plain_blocks ps) [] ≡ Ok []
     plain_equs [] = refl
     plain_equs (p ∷ ps) = by_word p.word (plain_equs ps) where
-      by_word : (w : PlainWord) → equs_from source [] rules (plain_blocks ps) [] ≡ Ok [] → equs_from source [] rules (OneLine (raw_line_by w p.first p.others) (plain_blocks ps)) [] ≡ Ok []
+      by_word : (w : PlainWord) → equs_from source no_constants (plain_blocks ps) [] ≡ Ok [] → equs_from source no_constants (OneLine (raw_line_by w p.first p.others) (plain_blocks ps)) [] ≡ Ok []
       by_word (AnOpcode o) h = h
       by_word AStart h = h
 
     -- and no EQU name
-    no_equs : (ps : List PlainLine) → equs_of source [] rules (plain_blocks ps) ≡ Ok []
+    no_equs : (ps : List PlainLine) → equs_of source no_constants (plain_blocks ps) ≡ Ok []
     unfolding equs_of
     no_equs ps = plain_equs ps
 
     -- the first part of the expansion
     pub first_pass_there : (ps : List PlainLine) → ArePlain source ps → tokens_of source ≡ record { tokens = plain_tokens ps; ending = None }
-        → first_pass source [] rules ≡ Ok (record { blocks = plain_blocks ps; equs = [] })
+        → first_pass source no_constants ≡ Ok (record { blocks = plain_blocks ps; equs = [] })
     unfolding first_pass
     first_pass_there ps a e =
-        ap (λ o. and_then (first_pass_of_blocks source [] rules) (and_then blocks_of o)) (lines_there ps a e)
-        ∙ ap (and_then (first_pass_of_blocks source [] rules)) (plain_nests ps)
+        ap (λ o. and_then (first_pass_of_blocks source no_constants) (and_then blocks_of o)) (lines_there ps a e)
+        ∙ ap (and_then (first_pass_of_blocks source no_constants)) (plain_nests ps)
         ∙ ap (mapped (λ equs. record { blocks = plain_blocks ps; equs = equs })) (no_equs ps)
 
 -- there is a raw line for each line

@@ -17,18 +17,18 @@ use Rattle.rc_expand.specs.declared.fault.ExpandFault.{ExpandFault}
 use Rattle.rc_expand.specs.declared.line.Line.{Line}
 use Rattle.rc_expand.specs.Limits.{MOST_JOINED, MOST_TOKENS, MOST_REPLACEMENTS, DEEPEST_BLOCK, DEEPEST_EQU}
 use Rattle.rc_instr.specs.Results.{mapped, and_then}
-use Rattle.rc_expand.specs.Names.{Table, entry_of, is_taken}
+use Rattle.rc_expand.specs.Names.{Table, GivenNamesView, entry_of, is_taken}
 use Rattle.rc_expand.specs.Contexts.{ContextView}
 use Rattle.rc_expand.specs.Read.{text_lines, equ_token, with_equ, equs_after_line, equs_from, equs_of, first_pass_of_blocks, first_pass}
 use Rattle.rc_expand.specs.Read.Faults.{text_fault}
 use Rattle.rc_expand.specs.Read.Tree.{BlockTree, NoLine, OneLine, Block, Parts, line_before, rof_before, for_before, parts_by, parts_from, blocks_of}
 use Rattle.rc_expand.specs.Read.Lines.{choose, is_free, is_colon, has_modifier, label_token, label_split, line_with_word, line_after_labels, raw_line_of, word_of, line_of_tokens, has_end, up_to_end, lines_unless_fault, lines_from, bare_line, is_name_token}
 use Rattle.rc_expand.specs.Unroll.{UnrolledSoFarView, Step, nothing_unrolled, has_room, with_line, with_copy, copies_from, with_earlier, is_bare_rof, rof_check, line_check, one_line, one_copy, one_block, unrolled_in, unrolled}
-use Rattle.rc_expand.specs.Unroll.Copies.{BlockCopyView, is_in_block, line_in_copy, line_in, all_of, is_counter, with_number, with_counter, joins, copied_from, copied_tokens, copied_code, copied_rest, or_spoiled, copied_line}
+use Rattle.rc_expand.specs.Unroll.Copies.{BlockCopyView, NumberingView, numbering_by, is_in_block, line_in_copy, line_in, all_of, is_counter, with_number, with_counter, joins, copied_from, copied_tokens, copied_code, copied_rest, or_spoiled, copied_line}
 use Rattle.rc_expand.specs.Unroll.Openings.{OpeningView, earlier_of, opening_with_counter, count_of, counter_name, counter_of, opening}
 use Rattle.rc_expand.specs.Replace.{Equs, TokensSoFarView, BodyStep, with_token, with_replacement, token_or_body, exempt_len, equ_in, equ_body, with_tokens, body_within, tokens_within, replaced_tokens, line_tokens}
 use Rattle.rc_expand.specs.Replace.Lines.{own_label_then, own_labels, others_here_or_later, other_labels, expanded_line, made_line, line_with_others, line_of, names_of, LinesSoFarView, nothing_replaced, with_expanded_line, with_names, line_added, line_replaced, lines_replaced, replaced}
-use Rattle.rc_expand.specs.Expansion.{LineLies, context_of, expansion_by, expansion_of, IsExpansion}
+use Rattle.rc_expand.specs.Expansion.{LineLies, names_given, context_of, expansion_by, expansion_of, IsExpansion}
 use Rattle.rc_expand.proofs.Reading.LabelLaws.{labels_and_rest}
 
 -- either branch
@@ -169,51 +169,54 @@ module _ (source : List ℕ) where
   parts_in [] (suc n) line h = tt
   parts_in (h ∷ hs) n line i = by_word_in h.word h n line (λ m l. parts_from hs m l) i.0 (λ m l. parts_in hs m l i.1)
 
-  module _ (constants : Table) (rules : RulesView) where
-    one_equ : (h : RawLine) (equs : Equs) (o : Option Token) → IsIn h → Bodies equs → IfOk (with_equ source constants rules h equs o) Bodies
+  module _ (given : GivenNamesView) where
+    one_equ : (h : RawLine) (equs : Equs) (o : Option Token) → IsIn h → Bodies equs → IfOk (with_equ source given h equs o) Bodies
     one_equ h equs None i j = tt
     one_equ h equs (Some t) i j =
-        either (λ r. IfOk r Bodies) (is_taken constants rules (name_of source t) || is_some (entry_of equs (name_of source t))) _ _ tt (both (λ e. Ls e.1.tokens) equs _ j (i.rest, tt))
+        either (λ r. IfOk r Bodies) (is_taken given (name_of source t) || is_some (entry_of equs (name_of source t))) _ _ tt (both (λ e. Ls e.1.tokens) equs _ j (i.rest, tt))
 
-    with_equ_in : (w : RawWord) (h : RawLine) (equs : Equs) → IsIn h → Bodies equs → IfOk (equs_after_line source constants rules w h equs) Bodies
+    with_equ_in : (w : RawWord) (h : RawLine) (equs : Equs) → IsIn h → Bodies equs → IfOk (equs_after_line source given w h equs) Bodies
     with_equ_in word.Equ h equs i j = one_equ h equs (equ_token source h.labels) i j
     with_equ_in _ h equs i j = j
 
-    equs_in : (b : BlockTree) (equs : Equs) → TreeIn b → Bodies equs → IfOk (equs_from source constants rules b equs) Bodies
+    equs_in : (b : BlockTree) (equs : Equs) → TreeIn b → Bodies equs → IfOk (equs_from source given b equs) Bodies
     equs_in NoLine equs i j = j
-    equs_in (OneLine h rest) equs i j = after Bodies Bodies (equs_from source constants rules rest) (equs_after_line source constants rules h.word h equs) (with_equ_in h.word h equs i.0 j) (λ e k. equs_in rest e i.1 k)
+    equs_in (OneLine h rest) equs i j = after Bodies Bodies (equs_from source given rest) (equs_after_line source given h.word h equs) (with_equ_in h.word h equs i.0 j) (λ e k. equs_in rest e i.1 k)
     equs_in (Block f inside r rest) equs i j = equs_in rest equs i.3 j
 
-    first_pass_in : IfOk (first_pass source constants rules) (λ r. TreeIn r.blocks × Bodies r.equs)
+    first_pass_in : IfOk (first_pass source given) (λ r. TreeIn r.blocks × Bodies r.equs)
     unfolding first_pass equs_of
     first_pass_in =
         let lines = lines_in (text_fault source) [] (tokens_of source).tokens tt (recursion_from_All (LiesIn source) (tokens_of source).tokens (lie_in_the_text source)) in
         let nested = after AreIn TreeIn blocks_of (text_lines source) lines (λ hs h. parts_in hs 0 0 h) in
-        after TreeIn (λ r. TreeIn r.blocks × Bodies r.equs) (first_pass_of_blocks source constants rules) (and_then blocks_of (text_lines source)) nested
-        (λ b h. over Bodies (λ r. TreeIn r.blocks × Bodies r.equs) (λ equs. record { blocks = b; equs = equs }) (equs_of source constants rules b) (equs_in b [] h tt) (λ equs j. (h, j)))
+        after TreeIn (λ r. TreeIn r.blocks × Bodies r.equs) (first_pass_of_blocks source given) (and_then blocks_of (text_lines source)) nested
+        (λ b h. over Bodies (λ r. TreeIn r.blocks × Bodies r.equs) (λ equs. record { blocks = b; equs = equs }) (equs_of source given b) (equs_in b [] h tt) (λ equs j. (h, j)))
 
   -- a copy changes no span
-  join_in : (k : ℕ) (t : Token) → LiesIn source t → IfSome (with_counter source k t) (LiesIn source)
-  join_in k t h = either (λ o. IfSome o (LiesIn source)) (nat_lt (length t.joined) MOST_JOINED) _ _ (record { order = h.order; inside = h.inside }) tt
+  module _ (counter : List ℕ) (number : ℕ) where
+    abbrev numbering : NumberingView
+    numbering = numbering_by source counter number
 
-  module _ (counter : List ℕ) (k : ℕ) where
-    numbered_in : (made : Bool) (t : Token) → LiesIn source t → LiesIn source (with_number source counter k made t)
-    numbered_in made t h = either (LiesIn source) (not made && is_counter source counter t) _ _ (record { order = h.order; inside = h.inside }) h
+    join_in : (t : Token) → LiesIn source t → IfSome (with_counter numbering t) (LiesIn source)
+    join_in t h = either (λ o. IfSome o (LiesIn source)) (nat_lt (length t.joined) MOST_JOINED) _ _ (record { order = h.order; inside = h.inside }) tt
 
-    from_in : (made : Bool) (t : Token) (ts : List Token) → LiesIn source t → Ls ts → IfSome (copied_from source counter k made t ts) Ls
+    numbered_in : (made : Bool) (t : Token) → LiesIn source t → LiesIn source (with_number numbering made t)
+    numbered_in made t h = either (LiesIn source) (not made && is_counter numbering t) _ _ (record { order = h.order; inside = h.inside }) h
+
+    from_in : (made : Bool) (t : Token) (ts : List Token) → LiesIn source t → Ls ts → IfSome (copied_from numbering made t ts) Ls
     from_in made t [] h i = (numbered_in made t h, tt)
-    from_in made t (u ∷ []) h i = some_over Ls Ls (λ r. with_number source counter k made t ∷ r) (copied_from source counter k false u []) (from_in false u [] i.0 tt) (λ r j. (numbered_in made t h, j))
+    from_in made t (u ∷ []) h i = some_over Ls Ls (λ r. with_number numbering made t ∷ r) (copied_from numbering false u []) (from_in false u [] i.0 tt) (λ r j. (numbered_in made t h, j))
     from_in made t (u ∷ v ∷ ts) h i =
         let more = rest_of (LiesIn source) u (v ∷ ts) i in
-        chosen (λ o. IfSome o Ls) (joins source counter t (u ∷ v ∷ ts)) _ _
-        (some_after (LiesIn source) Ls (λ j. copied_from source counter k true j ts) (with_counter source k t) (join_in k t h) (λ j p. from_in true j ts p (rest_of (LiesIn source) v ts more)))
-        (some_over Ls Ls (λ r. with_number source counter k made t ∷ r) (copied_from source counter k false u (v ∷ ts)) (from_in false u (v ∷ ts) i.0 more) (λ r j. (numbered_in made t h, j)))
+        chosen (λ o. IfSome o Ls) (joins numbering t (u ∷ v ∷ ts)) _ _
+        (some_after (LiesIn source) Ls (λ j. copied_from numbering true j ts) (with_counter numbering t) (join_in t h) (λ j p. from_in true j ts p (rest_of (LiesIn source) v ts more)))
+        (some_over Ls Ls (λ r. with_number numbering made t ∷ r) (copied_from numbering false u (v ∷ ts)) (from_in false u (v ∷ ts) i.0 more) (λ r j. (numbered_in made t h, j)))
 
-    tokens_in : (ts : List Token) → Ls ts → IfSome (copied_tokens source counter k ts) Ls
+    tokens_in : (ts : List Token) → Ls ts → IfSome (copied_tokens numbering ts) Ls
     tokens_in [] h = tt
     tokens_in (t ∷ ts) h = from_in false t ts h.0 h.1
 
-    code_in : (ts : List Token) → Ls ts → IfSome (copied_code source counter k ts) Ls
+    code_in : (ts : List Token) → Ls ts → IfSome (copied_code numbering ts) Ls
     code_in [] h = tokens_in [] h
     code_in (t ∷ []) h = tokens_in (t ∷ []) h
     code_in (t ∷ u ∷ []) h = tokens_in (t ∷ u ∷ []) h
@@ -221,27 +224,27 @@ module _ (source : List ℕ) where
         let p = rest_of (LiesIn source) t (u ∷ v ∷ ts) h in
         let q = rest_of (LiesIn source) u (v ∷ ts) p in
         chosen (λ o. IfSome o Ls) (has_modifier source t u v) _ _
-        (some_over Ls Ls (λ r. t ∷ u ∷ v ∷ r) (copied_tokens source counter k ts) (tokens_in ts (rest_of (LiesIn source) v ts q)) (λ r j. (h.0, (p.0, (q.0, j)))))
+        (some_over Ls Ls (λ r. t ∷ u ∷ v ∷ r) (copied_tokens numbering ts) (tokens_in ts (rest_of (LiesIn source) v ts q)) (λ r j. (h.0, (p.0, (q.0, j)))))
         (tokens_in (t ∷ u ∷ v ∷ ts) h)
 
-    rest_in : (w : RawWord) (ts : List Token) → Ls ts → IfSome (copied_rest source counter k w ts) Ls
+    rest_in : (w : RawWord) (ts : List Token) → Ls ts → IfSome (copied_rest numbering w ts) Ls
     rest_in word.Code ts h = code_in ts h
     rest_in _ ts h = tokens_in ts h
 
-    labels_in : (ls : List (List Token)) → Labels ls → IfSome (all_of (copied_tokens source counter k) ls) Labels
+    labels_in : (ls : List (List Token)) → Labels ls → IfSome (all_of (copied_tokens numbering) ls) Labels
     labels_in [] h = tt
     labels_in (l ∷ ls) h =
-        some_after Ls Labels (λ y. option_map (λ ys. y ∷ ys) (all_of (copied_tokens source counter k) ls)) (copied_tokens source counter k l) (tokens_in l h.0)
-        (λ y p. some_over Labels Labels (λ ys. y ∷ ys) (all_of (copied_tokens source counter k) ls) (labels_in ls h.1) (λ ys q. (p, q)))
+        some_after Ls Labels (λ y. option_map (λ ys. y ∷ ys) (all_of (copied_tokens numbering) ls)) (copied_tokens numbering l) (tokens_in l h.0)
+        (λ y p. some_over Labels Labels (λ ys. y ∷ ys) (all_of (copied_tokens numbering) ls) (labels_in ls h.1) (λ ys q. (p, q)))
 
-    or_spoiled_in : (h : RawLine) (a : Option (List (List Token))) (b : Option (List Token)) → IsIn h → IfSome a Labels → IfSome b Ls → IsIn (or_spoiled source h a b)
+    or_spoiled_in : (h : RawLine) (a : Option (List (List Token))) (b : Option (List Token)) → IsIn h → IfSome a Labels → IfSome b Ls → IsIn (or_spoiled h a b)
     or_spoiled_in h (Some a) (Some b) i p q = record { labels = p; directive = i.directive; rest = q }
     or_spoiled_in h (Some a) None i p q = record { labels = tt; directive = i.directive; rest = tt }
     or_spoiled_in h None b i p q = record { labels = tt; directive = i.directive; rest = tt }
 
-    copy_in : (h : RawLine) → IsIn h → IsIn (copied_line source counter k h)
+    copy_in : (h : RawLine) → IsIn h → IsIn (copied_line numbering h)
     unfolding copied_line
-    copy_in h i = or_spoiled_in h (all_of (copied_tokens source counter k) h.labels) (copied_rest source counter k h.word h.rest) i (labels_in h.labels i.labels) (rest_in h.word h.rest i.rest)
+    copy_in h i = or_spoiled_in h (all_of (copied_tokens numbering) h.labels) (copied_rest numbering h.word h.rest) i (labels_in h.labels i.labels) (rest_in h.word h.rest i.rest)
 
   by_copy : (counter : Option (List ℕ)) (k : ℕ) (h : RawLine) → IsIn h → IsIn (line_in_copy source counter k h)
   by_copy None k h i = i
@@ -437,7 +440,7 @@ module _ (s : ContextView) where
 expansion_in : (source : List ℕ) (constants : Table) (rules : RulesView) → IfOk (expansion_of source constants rules) (ByRecursion (LineLies source))
 unfolding expansion_of
 expansion_in source constants rules =
-    after (λ r. TreeIn source r.blocks × Bodies source r.equs) (ByRecursion (LineLies source)) (expansion_by source constants rules) (first_pass source constants rules) (first_pass_in source constants rules)
+    after (λ r. TreeIn source r.blocks × Bodies source r.equs) (ByRecursion (LineLies source)) (expansion_by source constants rules) (first_pass source (names_given source constants rules)) (first_pass_in source (names_given source constants rules))
     (λ r h. let s = context_of source constants rules r in
     after (AreIn source) (ByRecursion (LineLies source)) (replaced s) (unrolled s r.blocks) (unrolled_lines_in s r.blocks h.0) (λ hs i. replaced_lines_in s h.1 hs i))
 

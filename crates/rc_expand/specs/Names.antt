@@ -23,6 +23,11 @@ table_of _ _ = []
 abbrev pub table_in : Constants → Table
 table_in c = table_of c.names.now c.values.now
 
+-- The names given from outside of a text: the constants, and the predefined names of these rules.
+pub record GivenNamesView : Type 0 where
+  pub constants : Table
+  pub rules : RulesView
+
 -- The predefined names of pMARS but for CURLINE, which has no value before lines are counted. That
 -- WARRIORS is 2 and VERSION is 92 is fixed here.
 abbrev pub predefined : RulesView → Table
@@ -41,5 +46,5 @@ unfoldable pub given_names : Table → RulesView → List ℕ → Option ℤ
 given_names constants rules name = option_or (entry_of constants name) (entry_of (predefined rules) name)
 
 -- A constant or a predefined name, CURLINE included.
-unfoldable pub is_taken : Table → RulesView → List ℕ → Bool
-is_taken constants rules name = is_some (given_names constants rules name) || bytes_eq name CURLINE
+unfoldable pub is_taken : GivenNamesView → List ℕ → Bool
+is_taken given name = is_some (given_names given.constants given.rules name) || bytes_eq name CURLINE

@@ -7,7 +7,6 @@ use Rattle.std.specs.Prelude.{ℕ, ◌||◌, List, [], ◌∷◌, ◌++◌, Opti
 use Rattle.rc_text.specs.declared.token.Token.{Token}
 use Rattle.rc_text.specs.Symbols.{name_of}
 use Rattle.rc_text.specs.Tokens.{tokens_of}
-use Rattle.rc_instr.specs.Rules.{RulesView}
 use Rattle.rc_expand.specs.declared.read.raw_line.RawLine.{RawLine}
 use Rattle.rc_expand.specs.declared.read.raw_line.RawWord.{RawWord}
 use Rattle.rc_expand.specs.declared.read.raw_line.RawWord.TheVariants as word
@@ -15,7 +14,7 @@ use Rattle.rc_expand.specs.declared.fault.ExpandFault.{ExpandFault}
 use Rattle.rc_expand.specs.declared.fault.ExpandKind.TheVariants.{DuplicateName, BadDirective}
 use Rattle.rc_instr.specs.Results.{mapped, ◌>>=◌}
 use Rattle.rc_expand.specs.Results.{at_line}
-use Rattle.rc_expand.specs.Names.{Table, entry_of, is_taken}
+use Rattle.rc_expand.specs.Names.{GivenNamesView, entry_of, is_taken}
 use Rattle.rc_expand.specs.Read.Lines.{lines_from, plain_token}
 use Rattle.rc_expand.specs.Read.Faults.{text_fault}
 use Rattle.rc_expand.specs.Replace.{Equs}
@@ -36,13 +35,13 @@ module _ (source : List ℕ) where
   equ_token (l ∷ []) = plain_token source l
   equ_token _ = None
 
-  module _ (constants : Table) (rules : RulesView) where
+  module _ (given : GivenNamesView) where
     -- An EQU line defines a name, which must not be a constant, a predefined name or an EQU name of
     -- a line before it.
     abbrev pub with_equ : RawLine → Equs → Option Token → Result Equs ExpandFault
     with_equ raw equs None = Err (at_line raw.number BadDirective)
     with_equ raw equs (Some t) =
-        if is_taken constants rules (name_of source t) || is_some (entry_of equs (name_of source t)) then Err (at_line raw.number DuplicateName) else
+        if is_taken given (name_of source t) || is_some (entry_of equs (name_of source t)) then Err (at_line raw.number DuplicateName) else
         Ok (equs ++ ((name_of source t, record { tokens = raw.rest; line = raw.number }) ∷ []))
 
     -- A line outside blocks may be an EQU line.

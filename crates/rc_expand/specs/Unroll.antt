@@ -1,6 +1,7 @@
 -- The second pass: each block gives way to its copies, outer blocks first (FOR and ROF are from
 -- pMARS).
 pub mod Copies
+pub mod Numberings
 pub mod Openings
 pub mod Reached
 pub mod Steps

@@ -53,27 +53,21 @@ pub(crate) fn replace_tokens(
     Ok(Tokens::from_vec(out.tokens))
 }
 
-// Returns the tokens of the EQU name at an index of the table, and their links.
-fn body_at<'a>(
-    context: &Context<'a>,
-    index: Option<usize>,
-) -> Option<(&'a [Token], &'a [Option<usize>])>
-    ensures tokens { option_map (λ p. p.0.now) result ≡ option_map (λ e. e.tokens) (at_index context.now.equs.now index) }
-    ensures indices { IfSome result (λ p. AreIndices context.now.source.now context.now.equs.now p.0.now p.1.now) }
+// Appends tokens with their EQU names replaced, at most `levels` deep.
+#[cycle(replace)]
+fn append_replaced(
+    out: &mut TokensSoFar,
+    context: &Context,
+    tokens: &[Token],
+    indices: &[Option<usize>],
+    levels: u8,
+) -> Result<(), ExpandFault>
+    requires { AreIndices context.now.source.now context.now.equs.now tokens.now indices.now }
+    ensures { Returns (λ u. out.new) result (tokens_within context.now.source.now context.now.equs.now levels tokens.now out.old) }
 {
-    let i = index?;
-    let equ = context.equs.at(i)?;
-    Some((equ.tokens(), context.links[i].as_slice()))
-}
-
-// Appends a token that is not an EQU name.
-fn push_token(out: &mut TokensSoFar, token: &Token) -> Result<(), ExpandFault>
-    ensures { Returns (λ u. out.new) result (with_token token.now out.old) }
-{
-    if out.tokens.len() >= MOST_TOKENS {
-        return Err(at_line(out.line, ExpandKind::TooManyTokens));
+    for i in 0..tokens.len() {
+        append_token(out, context, &tokens[i], indices[i], levels)?;
     }
-    out.tokens.push(clone_token(token)?)?;
     Ok(())
 }
 
@@ -104,20 +98,26 @@ fn append_token(
     }
 }
 
-// Appends tokens with their EQU names replaced, at most `levels` deep.
-#[cycle(replace)]
-fn append_replaced(
-    out: &mut TokensSoFar,
-    context: &Context,
-    tokens: &[Token],
-    indices: &[Option<usize>],
-    levels: u8,
-) -> Result<(), ExpandFault>
-    requires { AreIndices context.now.source.now context.now.equs.now tokens.now indices.now }
-    ensures { Returns (λ u. out.new) result (tokens_within context.now.source.now context.now.equs.now levels tokens.now out.old) }
+// Returns the tokens of the EQU name at an index of the table, and their links.
+fn body_at<'a>(
+    context: &Context<'a>,
+    index: Option<usize>,
+) -> Option<(&'a [Token], &'a [Option<usize>])>
+    ensures tokens { option_map (λ p. p.0.now) result ≡ option_map (λ e. e.tokens) (at_index context.now.equs.now index) }
+    ensures indices { IfSome result (λ p. AreIndices context.now.source.now context.now.equs.now p.0.now p.1.now) }
 {
-    for i in 0..tokens.len() {
-        append_token(out, context, &tokens[i], indices[i], levels)?;
+    let i = index?;
+    let equ = context.equs.at(i)?;
+    Some((equ.tokens(), context.links[i].as_slice()))
+}
+
+// Appends a token that is not an EQU name.
+fn push_token(out: &mut TokensSoFar, token: &Token) -> Result<(), ExpandFault>
+    ensures { Returns (λ u. out.new) result (with_token token.now out.old) }
+{
+    if out.tokens.len() >= MOST_TOKENS {
+        return Err(at_line(out.line, ExpandKind::TooManyTokens));
     }
+    out.tokens.push(clone_token(token)?)?;
     Ok(())
 }

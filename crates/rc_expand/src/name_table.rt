@@ -14,120 +14,6 @@ use std::alloc::{AllocError, Global};
 use std::hash::{Hash, Hasher};
 use std::marker::Model;
 
-// The bytes of a name: those in the source, or a copy.
-#[derive(Debug, Drop)]
-enum Spelling<'a> {
-    Written(&'a [u8]),
-    Copied(Vec<u8>),
-}
-
-impl<'a> Spelling<'a> {
-    fn bytes(&self) -> &[u8]
-        ensures { result.now ≡ spelled_bytes self.now }
-    {
-        match self {
-            Spelling::Written(bytes) => bytes,
-            Spelling::Copied(bytes) => bytes.as_slice(),
-        }
-    }
-}
-
-/// A name in a table.
-#[doc(hidden)]
-#[derive(Debug, Drop)]
-pub struct KeptName<'a> {
-    spelling: Spelling<'a>,
-}
-
-impl<'a> Model for KeptName<'a> {
-    ghost use Rattle.std.specs.Prelude.{List, ℕ};
-    ghost use Rattle.rc_expand.specs.NameTables.{spelled_bytes};
-
-    ghost Value = { List ℕ };
-
-    ghost view = { λ n. spelled_bytes n.spelling };
-}
-
-impl<'a> PartialEq for KeptName<'a> {
-    ghost use Rattle.std.specs.Str.{bytes_eq};
-    ghost use Rattle.std.specs.Cmp.{partial_equiv_from_equiv};
-    ghost use Rattle.std.specs.Cmp.Lexicographic.{nat_list_eq_equiv};
-
-    ghost eq = { bytes_eq };
-
-    ghost laws = { partial_equiv_from_equiv nat_list_eq_equiv };
-
-    fn eq(&self, other: &KeptName<'a>) -> bool {
-        self.spelling.bytes() == other.spelling.bytes()
-    }
-}
-
-impl<'a> Eq for KeptName<'a> {
-    ghost use Rattle.std.specs.Cmp.Lexicographic.{nat_list_eq_equiv};
-
-    ghost laws = { nat_list_eq_equiv };
-}
-
-impl<'a> Hash for KeptName<'a> {
-    ghost use Rattle.std.specs.Prelude.{flat_map};
-    ghost use Rattle.std.specs.Hash as fed;
-    ghost use Rattle.std.proofs.Common.{ap};
-    ghost use Rattle.std.specs.Cmp.Lexicographic.{bytes_decides};
-
-    ghost hash_input = { flat_map fed.u8 };
-
-    ghost respects_eq = { λ x y h. ap (flat_map fed.u8) ((bytes_decides x y).0 h) };
-
-    fn hash<H: Hasher>(&self, state: &mut H) {
-        feed_bytes(self.spelling.bytes(), state);
-    }
-}
-
-// A name by its bytes and the counters joined to it, so that a look-up builds no joined name.
-#[derive(Clone, Copy, Debug, PartialEq, Eq)]
-struct JoinedName<'a> {
-    bytes: &'a [u8],
-    counters: &'a [u16],
-}
-
-impl<'a> Hash for JoinedName<'a> {
-    ghost use Rattle.std.specs.Prelude.{flat_map};
-    ghost use Rattle.std.specs.Hash as fed;
-    ghost use Rattle.std.specs.Cmp.Rules.{comparing, hashing};
-    ghost use Rattle.std.proofs.Common.{rules};
-    ghost use Rattle.rc_expand.specs.NameTables.{joined_name};
-
-    ghost hash_input = { λ n. flat_map fed.u8 (joined_name n.bytes.now n.counters.now) };
-
-    ghost respects_eq = { Prim.search (hashing, rules) };
-
-    fn hash<H: Hasher>(&self, state: &mut H) {
-        feed_bytes(self.bytes, state);
-        for counter in self.counters {
-            feed_counter(*counter, state);
-        }
-    }
-}
-
-impl<'q, 'a> Equivalent<KeptName<'a>> for JoinedName<'q> {
-    ghost use Rattle.std.specs.Prelude.{flat_map};
-    ghost use Rattle.std.specs.Str.{bytes_eq};
-    ghost use Rattle.std.specs.Hash as fed;
-    ghost use Rattle.std.proofs.Common.{ap};
-    ghost use Rattle.std.specs.Cmp.Lexicographic.{bytes_decides, nat_list_eq_equiv};
-    ghost use Rattle.rc_expand.specs.NameTables.{joined_name};
-
-    ghost equivalent = { λ n k. bytes_eq (joined_name n.bytes.now n.counters.now) k };
-
-    ghost respects_hash = { λ n k h. ap (flat_map fed.u8) ((bytes_decides (joined_name n.bytes.now n.counters.now) k).0 h) };
-
-    ghost respects_eq = { λ n x y. nat_list_eq_equiv.congr (joined_name n.bytes.now n.counters.now) x y };
-
-    fn equivalent(&self, key: &KeptName<'a>) -> bool {
-        is_joined_name(self.bytes, self.counters, key.spelling.bytes())
-    }
-}
-
 /// Names with values, each name once, in the order of insertion.
 #[derive(Drop)]
 pub struct NameTable<'a, V> {
@@ -214,18 +100,73 @@ impl<'a, V: Drop> NameTable<'a, V> {
     }
 }
 
-fn feed_bytes<H: Hasher>(bytes: &[u8], state: &mut H)
-    ensures { state.new ≡ fold H.write state.old (flat_map fed.u8 bytes.now) }
-{
-    Hash::hash_slice(bytes, state);
+/// A name in a table.
+#[doc(hidden)]
+#[derive(Debug, Drop)]
+pub struct KeptName<'a> {
+    spelling: Spelling<'a>,
 }
 
-// Feeds a counter, as it is joined to a name.
-fn feed_counter<H: Hasher>(counter: u16, state: &mut H)
-    ensures { state.new ≡ fold H.write state.old (flat_map fed.u8 (counter_text counter)) }
-{
-    let mut buffer = Buffer::new();
-    feed_bytes(counter_text(&mut buffer, counter), state);
+impl<'a> Model for KeptName<'a> {
+    ghost use Rattle.std.specs.Prelude.{List, ℕ};
+    ghost use Rattle.rc_expand.specs.NameTables.{spelled_bytes};
+
+    ghost Value = { List ℕ };
+
+    ghost view = { λ n. spelled_bytes n.spelling };
+}
+
+impl<'a> PartialEq for KeptName<'a> {
+    ghost use Rattle.std.specs.Str.{bytes_eq};
+    ghost use Rattle.std.specs.Cmp.{partial_equiv_from_equiv};
+    ghost use Rattle.std.specs.Cmp.Lexicographic.{nat_list_eq_equiv};
+
+    ghost eq = { bytes_eq };
+
+    ghost laws = { partial_equiv_from_equiv nat_list_eq_equiv };
+
+    fn eq(&self, other: &KeptName<'a>) -> bool {
+        self.spelling.bytes() == other.spelling.bytes()
+    }
+}
+
+impl<'a> Eq for KeptName<'a> {
+    ghost use Rattle.std.specs.Cmp.Lexicographic.{nat_list_eq_equiv};
+
+    ghost laws = { nat_list_eq_equiv };
+}
+
+impl<'a> Hash for KeptName<'a> {
+    ghost use Rattle.std.specs.Prelude.{flat_map};
+    ghost use Rattle.std.specs.Hash as fed;
+    ghost use Rattle.std.proofs.Common.{ap};
+    ghost use Rattle.std.specs.Cmp.Lexicographic.{bytes_decides};
+
+    ghost hash_input = { flat_map fed.u8 };
+
+    ghost respects_eq = { λ x y h. ap (flat_map fed.u8) ((bytes_decides x y).0 h) };
+
+    fn hash<H: Hasher>(&self, state: &mut H) {
+        feed_bytes(self.spelling.bytes(), state);
+    }
+}
+
+// The bytes of a name: those in the source, or a copy.
+#[derive(Debug, Drop)]
+enum Spelling<'a> {
+    Written(&'a [u8]),
+    Copied(Vec<u8>),
+}
+
+impl<'a> Spelling<'a> {
+    fn bytes(&self) -> &[u8]
+        ensures { result.now ≡ spelled_bytes self.now }
+    {
+        match self {
+            Spelling::Written(bytes) => bytes,
+            Spelling::Copied(bytes) => bytes.as_slice(),
+        }
+    }
 }
 
 // Copies the name of a token, so that the table outlives the source.
@@ -258,6 +199,13 @@ pub(crate) fn kept_name<'a>(
     Ok(KeptName { spelling })
 }
 
+// A name by its bytes and the counters joined to it, so that a look-up builds no joined name.
+#[derive(Clone, Copy, Debug, PartialEq, Eq)]
+struct JoinedName<'a> {
+    bytes: &'a [u8],
+    counters: &'a [u16],
+}
+
 // Makes the key by which the name of a token is looked up, without a copy.
 fn key_of<'a>(source: &'a [u8], token: &'a Token) -> JoinedName<'a>
     ensures { joined_name result.bytes.now result.counters.now ≡ name_of source.now token.now }
@@ -266,4 +214,56 @@ fn key_of<'a>(source: &'a [u8], token: &'a Token) -> JoinedName<'a>
         bytes: text_of(source, token),
         counters: token.joined.as_slice(),
     }
+}
+
+impl<'a> Hash for JoinedName<'a> {
+    ghost use Rattle.std.specs.Prelude.{flat_map};
+    ghost use Rattle.std.specs.Hash as fed;
+    ghost use Rattle.std.specs.Cmp.Rules.{comparing, hashing};
+    ghost use Rattle.std.proofs.Common.{rules};
+    ghost use Rattle.rc_expand.specs.NameTables.{joined_name};
+
+    ghost hash_input = { λ n. flat_map fed.u8 (joined_name n.bytes.now n.counters.now) };
+
+    ghost respects_eq = { Prim.search (hashing, rules) };
+
+    fn hash<H: Hasher>(&self, state: &mut H) {
+        feed_bytes(self.bytes, state);
+        for counter in self.counters {
+            feed_counter(*counter, state);
+        }
+    }
+}
+
+impl<'q, 'a> Equivalent<KeptName<'a>> for JoinedName<'q> {
+    ghost use Rattle.std.specs.Prelude.{flat_map};
+    ghost use Rattle.std.specs.Str.{bytes_eq};
+    ghost use Rattle.std.specs.Hash as fed;
+    ghost use Rattle.std.proofs.Common.{ap};
+    ghost use Rattle.std.specs.Cmp.Lexicographic.{bytes_decides, nat_list_eq_equiv};
+    ghost use Rattle.rc_expand.specs.NameTables.{joined_name};
+
+    ghost equivalent = { λ n k. bytes_eq (joined_name n.bytes.now n.counters.now) k };
+
+    ghost respects_hash = { λ n k h. ap (flat_map fed.u8) ((bytes_decides (joined_name n.bytes.now n.counters.now) k).0 h) };
+
+    ghost respects_eq = { λ n x y. nat_list_eq_equiv.congr (joined_name n.bytes.now n.counters.now) x y };
+
+    fn equivalent(&self, key: &KeptName<'a>) -> bool {
+        is_joined_name(self.bytes, self.counters, key.spelling.bytes())
+    }
+}
+
+fn feed_bytes<H: Hasher>(bytes: &[u8], state: &mut H)
+    ensures { state.new ≡ fold H.write state.old (flat_map fed.u8 bytes.now) }
+{
+    Hash::hash_slice(bytes, state);
+}
+
+// Feeds a counter, as it is joined to a name.
+fn feed_counter<H: Hasher>(counter: u16, state: &mut H)
+    ensures { state.new ≡ fold H.write state.old (flat_map fed.u8 (counter_text counter)) }
+{
+    let mut buffer = Buffer::new();
+    feed_bytes(counter_text(&mut buffer, counter), state);
 }

@@ -2,7 +2,7 @@
 ghost use Rattle.std.specs.Prelude.{◌≡◌, ◌≢◌, List, ℕ, ◌++◌, MatchOption, IfOk};
 ghost use Rattle.std.specs.Str.{bytes_eq};
 ghost use Rattle.rc_expand.specs.Names.{entry_of, predefined, table_in, is_taken};
-ghost use Rattle.rc_expand.specs.Contexts.{constants_of};
+ghost use Rattle.rc_expand.specs.Contexts.{seen_given_names};
 ghost use Rattle.rc_text.specs.Symbols.{name_of, counter_text};
 ghost use Rattle.rc_expand.specs.NameTables.{joined_name};
 
@@ -75,7 +75,7 @@ pub(crate) fn is_joined_name(bytes: &[u8], counters: &[u16], name: &[u8]) -> boo
 // Checks for a constant or a predefined name, CURLINE included.
 #[tactic(auto, unfolding(crate::specs::Names::is_taken))]
 pub(crate) fn is_taken(names: &GivenNames, source: &[u8], token: &Token) -> bool
-    ensures { result ≡ is_taken (constants_of names.now) names.now.rules.now (name_of source.now token.now) }
+    ensures { result ≡ is_taken (seen_given_names names.now) (name_of source.now token.now) }
 {
     names.value(source, token).is_some() || spells(source, token, b"CURLINE")
 }

@@ -3,7 +3,7 @@
 //! and its tokens. Nothing is copied or replaced yet.
 ghost use Rattle.std.specs.Prelude.{◌≡◌, ◌≢◌, All, IfOk, Ok, Err};
 ghost use Rattle.rc_expand.specs.Results.{Returns};
-ghost use Rattle.rc_expand.specs.Contexts.{constants_of};
+ghost use Rattle.rc_expand.specs.Contexts.{seen_given_names};
 ghost use Rattle.rc_expand.specs.Read.{first_pass};
 ghost use Rattle.rc_expand.specs.Read.Tree.{tree_of};
 
@@ -29,7 +29,7 @@ pub(crate) fn first_pass(
     source: &[u8],
     names: &GivenNames,
 ) -> Result<(Blocks, NameTable<'static, Equ>), ExpandFault>
-    ensures { Returns (λ p. record { blocks = tree_of p.0.lines.items; equs = p.1 }) result (first_pass source.now (constants_of names.now) names.now.rules.now) }
+    ensures { Returns (λ p. record { blocks = tree_of p.0.lines.items; equs = p.1 }) result (first_pass source.now (seen_given_names names.now)) }
 {
     let lines = read_lines(alloc, source)?;
     let blocks = Blocks::find(alloc, lines)?;

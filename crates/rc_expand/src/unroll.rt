@@ -60,29 +60,17 @@ fn append_lines<'a>(
     Ok(())
 }
 
-// Appends a line as it is in `copies`; with `is_earlier`, only the labels before its counter.
-fn append_reached<'a>(
+// Appends a line other than FOR and ROF.
+fn append_line<'a>(
     out: &mut UnrolledSoFar<'a>,
     context: &Context<'a>,
     copies: &[BlockCopy<'a>],
     raw: &'a RawLine,
-    is_earlier: bool,
 ) -> Result<(), ExpandFault>
-    ensures { Returns (λ u. out.new) result (with_line (reached_part is_earlier (line_in context.now.source.now (copies_in copies.now) raw.now)) out.old) }
+    ensures { Returns (λ u. out.new) result (one_line (seen_context context.now) (copies_in copies.now) raw.now out.old) }
 {
-    let line = Reached::new(context, copies, raw, is_earlier)?;
-    out.push(line)
-}
-
-// Refuses an EQU in a block and a spoiled line. Reads only the number, the word and `spoiled`.
-// Copying changes none of these in a short line, so the line of the text will do.
-fn check_word(raw: &RawLine, in_block: bool) -> Result<(), ExpandFault>
-    ensures { Returns (λ u. u) result (word_check raw.now.number raw.now.word in_block raw.now.spoiled) }
-{
-    if raw.spoiled || (in_block && raw.word == RawWord::Equ) {
-        return Err(at_line(raw.number, ExpandKind::BadDirective));
-    }
-    Ok(())
+    check_copied_line(context, copies, raw)?;
+    append_reached(out, context, copies, raw, false)
 }
 
 // Checks a line as it is in `copies`. Makes the copied line only if a ninth counter might be joined
@@ -102,70 +90,13 @@ fn check_copied_line(
     check_word(&made, in_block)
 }
 
-// Appends a line other than FOR and ROF.
-fn append_line<'a>(
-    out: &mut UnrolledSoFar<'a>,
-    context: &Context<'a>,
-    copies: &[BlockCopy<'a>],
-    raw: &'a RawLine,
-) -> Result<(), ExpandFault>
-    ensures { Returns (λ u. out.new) result (one_line (seen_context context.now) (copies_in copies.now) raw.now out.old) }
+// Refuses an EQU in a block and a spoiled line. Reads only the number, the word and `spoiled`.
+// Copying changes none of these in a short line, so the line of the text will do.
+fn check_word(raw: &RawLine, in_block: bool) -> Result<(), ExpandFault>
+    ensures { Returns (λ u. u) result (word_check raw.now.number raw.now.word in_block raw.now.spoiled) }
 {
-    check_copied_line(context, copies, raw)?;
-    append_reached(out, context, copies, raw, false)
-}
-
-// Appends the labels before a counter as a line of their own, if there are any. `made` is the
-// line of the FOR as it is in `copies`.
-#[tactic(auto, using(crate::proofs::Unrolling::Reaching::no_earlier))]
-fn append_earlier<'a>(
-    out: &mut UnrolledSoFar<'a>,
-    context: &Context<'a>,
-    copies: &[BlockCopy<'a>],
-    raw: &'a RawLine,
-    made: &RawLine,
-) -> Result<(), ExpandFault>
-    requires { made.now ≡ line_in context.now.source.now (copies_in copies.now) raw.now }
-    ensures { Returns (λ u. out.new) result (with_earlier raw.now.number (earlier_of made.now.labels) out.old) }
-{
-    if made.labels.as_slice().len() < 2 {
-        return Ok(());
-    }
-    append_reached(out, context, copies, raw, true)
-}
-
-// Appends the copy of a block for one `number` of its counter.
-#[cycle(unroll)]
-fn append_copy<'a>(
-    out: &mut UnrolledSoFar<'a>,
-    context: &Context<'a>,
-    copies: &[BlockCopy<'a>],
-    block: &BlockToCopy<'a>,
-    number: u16,
-) -> Result<(), ExpandFault>
-    ensures { Returns (λ u. out.new) result (step_of_copy context.now copies.now block.now number out.old) }
-{
-    out.add_copy(block.line)?;
-    let copy = BlockCopy {
-        counter: block.counter,
-        number,
-    };
-    let inner = inner_copies(context.alloc, copies, copy)?;
-    append_lines(out, context, &inner, &block.inside)
-}
-
-// Appends the copies of a block.
-#[cycle(unroll)]
-fn append_copies<'a>(
-    out: &mut UnrolledSoFar<'a>,
-    context: &Context<'a>,
-    copies: &[BlockCopy<'a>],
-    block: &BlockToCopy<'a>,
-) -> Result<(), ExpandFault>
-    ensures { Returns (λ u. out.new) result (copies_from (step_of_copy context.now copies.now block.now) block.now.count 1 out.old) }
-{
-    for done in 0..block.count {
-        append_copy(out, context, copies, block, done + 1)?;
+    if raw.spoiled || (in_block && raw.word == RawWord::Equ) {
+        return Err(at_line(raw.number, ExpandKind::BadDirective));
     }
     Ok(())
 }
@@ -195,4 +126,73 @@ fn append_block<'a>(
     append_copies(out, context, copies, &block)?;
     let made_rof = line_in(context.alloc, context.source, copies, rof)?;
     check_rof(&made_rof)
+}
+
+// Appends the copies of a block.
+#[cycle(unroll)]
+fn append_copies<'a>(
+    out: &mut UnrolledSoFar<'a>,
+    context: &Context<'a>,
+    copies: &[BlockCopy<'a>],
+    block: &BlockToCopy<'a>,
+) -> Result<(), ExpandFault>
+    ensures { Returns (λ u. out.new) result (copies_from (step_of_copy context.now copies.now block.now) block.now.count 1 out.old) }
+{
+    for done in 0..block.count {
+        append_copy(out, context, copies, block, done + 1)?;
+    }
+    Ok(())
+}
+
+// Appends the copy of a block for one `number` of its counter.
+#[cycle(unroll)]
+fn append_copy<'a>(
+    out: &mut UnrolledSoFar<'a>,
+    context: &Context<'a>,
+    copies: &[BlockCopy<'a>],
+    block: &BlockToCopy<'a>,
+    number: u16,
+) -> Result<(), ExpandFault>
+    ensures { Returns (λ u. out.new) result (step_of_copy context.now copies.now block.now number out.old) }
+{
+    out.add_copy(block.line)?;
+    let copy = BlockCopy {
+        counter: block.counter,
+        number,
+    };
+    let inner = inner_copies(context.alloc, copies, copy)?;
+    append_lines(out, context, &inner, &block.inside)
+}
+
+// Appends the labels before a counter as a line of their own, if there are any. `made` is the
+// line of the FOR as it is in `copies`.
+#[tactic(auto, using(crate::proofs::Unrolling::Reaching::no_earlier))]
+fn append_earlier<'a>(
+    out: &mut UnrolledSoFar<'a>,
+    context: &Context<'a>,
+    copies: &[BlockCopy<'a>],
+    raw: &'a RawLine,
+    made: &RawLine,
+) -> Result<(), ExpandFault>
+    requires { made.now ≡ line_in context.now.source.now (copies_in copies.now) raw.now }
+    ensures { Returns (λ u. out.new) result (with_earlier raw.now.number (earlier_of made.now.labels) out.old) }
+{
+    if made.labels.as_slice().len() < 2 {
+        return Ok(());
+    }
+    append_reached(out, context, copies, raw, true)
+}
+
+// Appends a line as it is in `copies`; with `is_earlier`, only the labels before its counter.
+fn append_reached<'a>(
+    out: &mut UnrolledSoFar<'a>,
+    context: &Context<'a>,
+    copies: &[BlockCopy<'a>],
+    raw: &'a RawLine,
+    is_earlier: bool,
+) -> Result<(), ExpandFault>
+    ensures { Returns (λ u. out.new) result (with_line (reached_part is_earlier (line_in context.now.source.now (copies_in copies.now) raw.now)) out.old) }
+{
+    let line = Reached::new(context, copies, raw, is_earlier)?;
+    out.push(line)
 }

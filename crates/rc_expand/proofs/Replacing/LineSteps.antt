@@ -35,7 +35,7 @@ module _ (source : List ℕ) where
 module _ (s : ContextView) (number : ℕ) (rest : List Token) (t : Token) (after : List Token) (e : rest ≡ t ∷ after) (before : List (List ℕ)) where
   -- one name, and the names after it
   names_step : with_names s number (map (name_of s.source) rest) before ≡ and_then (with_names s number (map (name_of s.source) after)) (with_names s number (name_of s.source t ∷ []) before)
-  names_step = ap (λ ts. with_names s number (map (name_of s.source) ts) before) e ∙ by_test (is_taken s.constants s.rules (name_of s.source t) || is_among before (name_of s.source t)) where
+  names_step = ap (λ ts. with_names s number (map (name_of s.source) ts) before) e ∙ by_test (is_taken s.given (name_of s.source t) || is_among before (name_of s.source t)) where
     by_test : (b : Bool) → (if b then Err (at_line number DuplicateName) else with_names s number (map (name_of s.source) after) (before ++ (name_of s.source t ∷ [])))
         ≡ and_then (with_names s number (map (name_of s.source) after)) (if b then Err (at_line number DuplicateName) else Ok (before ++ (name_of s.source t ∷ [])))
     by_test true = refl
@@ -58,13 +58,13 @@ not_false false h = cc
 
 -- one name, by whether it is taken or defined already
 module _ {A : Type 0} (s : ContextView) (number : ℕ) (name : List ℕ) (table : List (List ℕ × A)) where
-  pub name_taken : is_taken s.constants s.rules name ≡ true → with_names s number (name ∷ []) (names_in table) ≡ Err (at_line number DuplicateName)
+  pub name_taken : is_taken s.given name ≡ true → with_names s number (name ∷ []) (names_in table) ≡ Err (at_line number DuplicateName)
   name_taken h = rw h
 
-  pub name_there : (added : Bool) → is_taken s.constants s.rules name ≡ false → added ≡ false → added ≡ not (is_some (entry_of table name)) → with_names s number (name ∷ []) (names_in table) ≡ Err (at_line number DuplicateName)
+  pub name_there : (added : Bool) → is_taken s.given name ≡ false → added ≡ false → added ≡ not (is_some (entry_of table name)) → with_names s number (name ∷ []) (names_in table) ≡ Err (at_line number DuplicateName)
   name_there added h k e = let m : is_among (names_in table) name ≡ true = sym (seen_found name table) ∙ not_false (is_some (entry_of table name)) (sym e ∙ k) in rw (h, m)
 
-  pub name_new : (added : Bool) (value : A) (new : List (List ℕ × A)) → is_taken s.constants s.rules name ≡ false → added ≡ true → added ≡ not (is_some (entry_of table name)) → new ≡ with_name table name value
+  pub name_new : (added : Bool) (value : A) (new : List (List ℕ × A)) → is_taken s.given name ≡ false → added ≡ true → added ≡ not (is_some (entry_of table name)) → new ≡ with_name table name value
       → with_names s number (name ∷ []) (names_in table) ≡ Ok (names_in new)
   name_new added value new h k e w =
       let f : is_some (entry_of table name) ≡ false = not_true (is_some (entry_of table name)) (sym e ∙ k) in

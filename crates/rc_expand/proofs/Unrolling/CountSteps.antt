@@ -28,7 +28,7 @@ counter_at source line (m ∷ n ∷ ls) (suc i) l h e = counter_at source line (
 
 module _ (s : ContextView) (line : ℕ) (ts : List Token) where
   abbrev names : Meaning
-  names = given_names s.constants s.rules
+  names = given_names s.given.constants s.given.rules
 
   abbrev counted : Option ℕ → Result ℕ ExpandFault
   counted o = ok_or o (at_line line CountRefused)

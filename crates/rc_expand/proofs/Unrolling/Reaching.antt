@@ -9,12 +9,12 @@ use Rattle.rc_expand.specs.declared.read.raw_line.RawLine.{RawLine}
 use Rattle.rc_expand.specs.declared.unroll.reached.BlockCopy.{BlockCopy}
 use Rattle.rc_expand.specs.Read.Lines.{bare_line}
 use Rattle.rc_expand.specs.Unroll.{word_check, line_check, UnrolledSoFarView, with_line, with_earlier}
-use Rattle.rc_expand.specs.Unroll.Copies.{BlockCopyView, is_in_block, or_spoiled, copied_line, line_in_copy, line_in, all_of, copied_tokens, copied_rest}
+use Rattle.rc_expand.specs.Unroll.Copies.{BlockCopyView, numbering_by, is_in_block, or_spoiled, copied_line, line_in_copy, line_in, all_of, copied_tokens, copied_rest}
 use Rattle.rc_expand.specs.Unroll.Reached.{seen_block_copy, copies_in, have_no_counter, reached_part}
 use Rattle.rc_expand.specs.Unroll.Openings.{earlier_of}
 
 module _ (source : List ℕ) where
-  spoiled_word : (h : RawLine) (a : Option (List (List Token))) (b : Option (List Token)) → (or_spoiled source h a b).word ≡ h.word
+  spoiled_word : (h : RawLine) (a : Option (List (List Token))) (b : Option (List Token)) → (or_spoiled h a b).word ≡ h.word
   spoiled_word h None b = refl
   spoiled_word h (Some a) None = refl
   spoiled_word h (Some a) (Some b) = refl
@@ -22,7 +22,7 @@ module _ (source : List ℕ) where
   copied_word : (counter : Option (List ℕ)) (k : ℕ) (h : RawLine) → (line_in_copy source counter k h).word ≡ h.word
   unfolding copied_line
   copied_word None k h = refl
-  copied_word (Some counter) k h = spoiled_word h (all_of (copied_tokens source counter k) h.labels) (copied_rest source counter k h.word h.rest)
+  copied_word (Some counter) k h = spoiled_word h (all_of (copied_tokens (numbering_by source counter k)) h.labels) (copied_rest (numbering_by source counter k) h.word h.rest)
 
   -- a copy has the word of its line
   pub word_in : (cs : List BlockCopyView) (h : RawLine) → (line_in source cs h).word ≡ h.word
@@ -30,7 +30,7 @@ module _ (source : List ℕ) where
   word_in (c ∷ cs) h = word_in cs (line_in_copy source c.counter c.number h) ∙ copied_word c.counter c.number h
 
   -- and its number
-  spoiled_number : (h : RawLine) (a : Option (List (List Token))) (b : Option (List Token)) → (or_spoiled source h a b).number ≡ h.number
+  spoiled_number : (h : RawLine) (a : Option (List (List Token))) (b : Option (List Token)) → (or_spoiled h a b).number ≡ h.number
   spoiled_number h None b = refl
   spoiled_number h (Some a) None = refl
   spoiled_number h (Some a) (Some b) = refl
@@ -38,7 +38,7 @@ module _ (source : List ℕ) where
   copied_number : (counter : Option (List ℕ)) (k : ℕ) (h : RawLine) → (line_in_copy source counter k h).number ≡ h.number
   unfolding copied_line
   copied_number None k h = refl
-  copied_number (Some counter) k h = spoiled_number h (all_of (copied_tokens source counter k) h.labels) (copied_rest source counter k h.word h.rest)
+  copied_number (Some counter) k h = spoiled_number h (all_of (copied_tokens (numbering_by source counter k)) h.labels) (copied_rest (numbering_by source counter k) h.word h.rest)
 
   pub number_in : (cs : List BlockCopyView) (h : RawLine) → (line_in source cs h).number ≡ h.number
   number_in [] h = refl

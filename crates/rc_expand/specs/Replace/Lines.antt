@@ -81,7 +81,7 @@ module _ (s : ContextView) where
   abbrev pub with_names : (number : ℕ) → List (List ℕ) → (before : List (List ℕ)) → Result (List (List ℕ)) ExpandFault
   with_names number [] before = Ok before
   with_names number (n ∷ ns) before =
-      if is_taken s.constants s.rules n || is_among before n then Err (at_line number DuplicateName) else with_names number ns (before ++ (n ∷ []))
+      if is_taken s.given n || is_among before n then Err (at_line number DuplicateName) else with_names number ns (before ++ (n ∷ []))
 
   -- Drops an EQU line, and adds any other.
   abbrev pub line_added : RawWord → RawLine → List Line → List (List ℕ) → Result LinesSoFarView ExpandFault

@@ -27,71 +27,82 @@ abbrev pub all_of : {A B : Type 0} → (A → Option B) → List A → Option (L
 all_of f [] = Some []
 all_of f (x ∷ xs) = option_and_then (λ y. option_map (λ ys. y ∷ ys) (all_of f xs)) (f x)
 
-module _ (source : List ℕ) where
-  -- The token is a name, and spells `counter`.
-  abbrev pub is_counter : List ℕ → Token → Bool
-  is_counter counter t = is_name_token t && bytes_eq (name_of source t) counter
+-- If a ninth counter would be joined to a name, the line is spoiled: its labels and what comes after
+-- them are dropped.
+abbrev pub or_spoiled : RawLine → Option (List (List Token)) → Option (List Token) → RawLine
+or_spoiled raw (Some labels) (Some rest) = record raw { labels = labels; rest = rest }
+or_spoiled raw _ _ = record raw { labels = []; rest = []; spoiled = true }
 
-  -- The counter's name becomes the number `k`; a name that this copy `made` by joining stays a
-  -- name, even if it spells the counter.
-  abbrev pub with_number : List ℕ → ℕ → (made : Bool) → Token → Token
-  with_number counter k made t = if not made && is_counter counter t then record t { kind = Number k } else t
+-- What a copy of a block with a counter puts in: `number`, in place of the name `counter` or joined
+-- to the name before it.
+pub record NumberingView : Type 0 where
+  pub source : List ℕ
+  pub counter : List ℕ
+  pub number : ℕ
+
+abbrev pub numbering_by : (source counter : List ℕ) (number : ℕ) → NumberingView
+numbering_by source counter number = record { source = source; counter = counter; number = number }
+
+module _ (numbering : NumberingView) where
+  -- The token is a name, and spells the counter.
+  abbrev pub is_counter : Token → Bool
+  is_counter t = is_name_token t && bytes_eq (name_of numbering.source t) numbering.counter
+
+  -- The counter's name becomes the number; a name that this copy `made` by joining stays a name,
+  -- even if it spells the counter.
+  abbrev pub with_number : (made : Bool) → Token → Token
+  with_number made t = if not made && is_counter t then record t { kind = Number numbering.number } else t
 
   -- One more counter is joined to a name, unless `MOST_JOINED` are joined to it already.
-  abbrev pub with_counter : ℕ → Token → Option Token
-  with_counter k t = if nat_lt (length t.joined) MOST_JOINED then Some (record t { joined = t.joined ++ (k ∷ []) }) else None
+  abbrev pub with_counter : Token → Option Token
+  with_counter t = if nat_lt (length t.joined) MOST_JOINED then Some (record t { joined = t.joined ++ (numbering.number ∷ []) }) else None
 
   -- `t` is a name, and `&` and the counter come after it.
-  abbrev pub joins : List ℕ → Token → List Token → Bool
-  joins counter t (u ∷ v ∷ ts) = is_name_token t && (is_ampersand u && is_counter counter v)
-  joins counter t _ = false
+  abbrev pub joins : Token → List Token → Bool
+  joins t (u ∷ v ∷ ts) = is_name_token t && (is_ampersand u && is_counter v)
+  joins t _ = false
 
   -- The copy of `t` and the tokens after it; `made` says whether this copy has joined its number to
   -- `t` already.
-  abbrev pub copied_from : List ℕ → ℕ → (made : Bool) → Token → List Token → Option (List Token)
-  copied_from counter k made t [] = Some (with_number counter k made t ∷ [])
-  copied_from counter k made t (u ∷ []) = option_map (λ r. with_number counter k made t ∷ r) (copied_from counter k false u [])
-  copied_from counter k made t (u ∷ v ∷ ts) =
-      choose (joins counter t (u ∷ v ∷ ts)) (λ i. option_and_then (λ j. copied_from counter k true j ts) (with_counter k t))
-      (λ i. option_map (λ r. with_number counter k made t ∷ r) (copied_from counter k false u (v ∷ ts)))
+  abbrev pub copied_from : (made : Bool) → Token → List Token → Option (List Token)
+  copied_from made t [] = Some (with_number made t ∷ [])
+  copied_from made t (u ∷ []) = option_map (λ r. with_number made t ∷ r) (copied_from false u [])
+  copied_from made t (u ∷ v ∷ ts) =
+      choose (joins t (u ∷ v ∷ ts)) (λ i. option_and_then (λ j. copied_from true j ts) (with_counter t))
+      (λ i. option_map (λ r. with_number made t ∷ r) (copied_from false u (v ∷ ts)))
 
-  -- Tokens in the copy for `k`, or None if a ninth counter would be joined to a name.
-  abbrev pub copied_tokens : List ℕ → ℕ → List Token → Option (List Token)
-  copied_tokens counter k [] = Some []
-  copied_tokens counter k (t ∷ ts) = copied_from counter k false t ts
+  -- Tokens in the copy, or None if a ninth counter would be joined to a name.
+  abbrev pub copied_tokens : List Token → Option (List Token)
+  copied_tokens [] = Some []
+  copied_tokens (t ∷ ts) = copied_from false t ts
 
   -- With `Some (name, next)` the copy of the tokens from `at` on is the name, and then the copy of
   -- those from `next` on. With None a ninth counter would be joined to a name.
-  abbrev pub BeginsCopy : List ℕ → ℕ → List Token → (at : ℕ) → Option (Token × ℕ) → Type 0
-  BeginsCopy counter k ts at o =
-      copied_tokens counter k (drop at ts) ≡ option_and_then (λ p. option_map (λ r. p.0 ∷ r) (copied_tokens counter k (drop p.1 ts))) o
+  abbrev pub BeginsCopy : List Token → (at : ℕ) → Option (Token × ℕ) → Type 0
+  BeginsCopy ts at o =
+      copied_tokens (drop at ts) ≡ option_and_then (λ p. option_map (λ r. p.0 ∷ r) (copied_tokens (drop p.1 ts))) o
 
   -- A modifier is not a name, even if it spells the counter: at the front of a line of code an
   -- opcode, a dot and a modifier stay as they are.
-  abbrev pub copied_code : List ℕ → ℕ → List Token → Option (List Token)
-  copied_code counter k (t ∷ u ∷ v ∷ ts) =
-      choose (has_modifier source t u v) (λ i. option_map (λ r. t ∷ u ∷ v ∷ r) (copied_tokens counter k ts)) (λ i. copied_tokens counter k (t ∷ u ∷ v ∷ ts))
-  copied_code counter k ts = copied_tokens counter k ts
+  abbrev pub copied_code : List Token → Option (List Token)
+  copied_code (t ∷ u ∷ v ∷ ts) =
+      choose (has_modifier numbering.source t u v) (λ i. option_map (λ r. t ∷ u ∷ v ∷ r) (copied_tokens ts)) (λ i. copied_tokens (t ∷ u ∷ v ∷ ts))
+  copied_code ts = copied_tokens ts
 
   -- What comes after the labels, by the word of the line.
-  abbrev pub copied_rest : List ℕ → ℕ → RawWord → List Token → Option (List Token)
-  copied_rest counter k word.Code ts = copied_code counter k ts
-  copied_rest counter k _ ts = copied_tokens counter k ts
+  abbrev pub copied_rest : RawWord → List Token → Option (List Token)
+  copied_rest word.Code ts = copied_code ts
+  copied_rest _ ts = copied_tokens ts
 
-  -- If a ninth counter would be joined to a name, the line is spoiled: its labels and what comes
-  -- after them are dropped.
-  abbrev pub or_spoiled : RawLine → Option (List (List Token)) → Option (List Token) → RawLine
-  or_spoiled raw (Some labels) (Some rest) = record raw { labels = labels; rest = rest }
-  or_spoiled raw _ _ = record raw { labels = []; rest = []; spoiled = true }
+  -- A line in the copy.
+  unfoldable pub copied_line : RawLine → RawLine
+  copied_line raw = or_spoiled raw (all_of copied_tokens raw.labels) (copied_rest raw.word raw.rest)
 
-  -- A line in the copy for `k`.
-  unfoldable pub copied_line : List ℕ → ℕ → RawLine → RawLine
-  copied_line counter k raw = or_spoiled raw (all_of (copied_tokens counter k) raw.labels) (copied_rest counter k raw.word raw.rest)
-
+module _ (source : List ℕ) where
   -- A line in one copy of a block; without a counter it stays as it is.
-  abbrev pub line_in_copy : Option (List ℕ) → ℕ → RawLine → RawLine
-  line_in_copy None k raw = raw
-  line_in_copy (Some counter) k raw = copied_line counter k raw
+  abbrev pub line_in_copy : Option (List ℕ) → (number : ℕ) → RawLine → RawLine
+  line_in_copy None number raw = raw
+  line_in_copy (Some counter) number raw = copied_line (numbering_by source counter number) raw
 
   -- A line in copies, the outermost first.
   abbrev pub line_in : List BlockCopyView → RawLine → RawLine

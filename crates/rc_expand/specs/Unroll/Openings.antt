@@ -77,13 +77,13 @@ module _ (s : ContextView) where
   unfoldable pub count_of : (line : ℕ) → List Token → Result ℕ ExpandFault
   count_of line ts = do
     tokens ← replaced_tokens s.source s.equs line [] ts
-    ok_or (option_and_then limited_count (result_ok (evaluation_of (given_names s.constants s.rules) (symbols_of s.source tokens)))) (at_line line CountRefused)
+    ok_or (option_and_then limited_count (result_ok (evaluation_of (given_names s.given.constants s.given.rules) (symbols_of s.source tokens)))) (at_line line CountRefused)
 
   -- The name of a counter, which must be neither a constant nor a predefined name nor an EQU name.
   abbrev pub counter_name : (line : ℕ) → Option Token → Result (Option (List ℕ)) ExpandFault
   counter_name line None = Ok None
   counter_name line (Some t) =
-      if is_taken s.constants s.rules (name_of s.source t) then Err (at_line line DuplicateName) else
+      if is_taken s.given (name_of s.source t) then Err (at_line line DuplicateName) else
       unless_equ line (name_of s.source t) (entry_of s.equs (name_of s.source t))
 
   -- What a FOR with this counter says, unless its count is refused.

@@ -5,7 +5,7 @@ ghost use Rattle.rc_text.specs.Symbols.{name_of};
 ghost use Rattle.rc_expand.specs.Results.{Returns, at_line};
 ghost use Rattle.rc_expand.specs.Read.{equ_token, equs_of, equs_after_line, with_equ};
 ghost use Rattle.rc_expand.specs.Read.Tree.{tree_of};
-ghost use Rattle.rc_expand.specs.Contexts.{constants_of};
+ghost use Rattle.rc_expand.specs.Contexts.{seen_given_names};
 ghost use Rattle.rc_expand.specs.Names.{entry_of};
 
 use crate::fault::{ExpandFault, ExpandKind, at_line};
@@ -54,7 +54,7 @@ pub(crate) fn collect_equs(
     names: &GivenNames,
     blocks: &BlockSlice,
 ) -> Result<NameTable<'static, Equ>, ExpandFault>
-    ensures { Returns (λ t. t) result (equs_of source.now (constants_of names.now) names.now.rules.now (tree_of blocks.now.lines.now)) }
+    ensures { Returns (λ t. t) result (equs_of source.now (seen_given_names names.now) (tree_of blocks.now.lines.now)) }
 {
     let mut equs = NameTable::new(alloc);
     let mut rest = *blocks;
@@ -75,13 +75,34 @@ fn add_equ(
     equs: &mut NameTable<'static, Equ>,
     raw: &RawLine,
 ) -> Result<(), ExpandFault>
-    ensures { Returns (λ u. equs.new) result (equs_after_line source.now (constants_of names.now) names.now.rules.now raw.now.word raw.now equs.old) }
+    ensures { Returns (λ u. equs.new) result (equs_after_line source.now (seen_given_names names.now) raw.now.word raw.now equs.old) }
 {
     if raw.word == RawWord::Equ {
         let (name, equ) = read_equ(alloc, source, names, equs, raw)?;
         equs.insert(name, equ)?;
     }
     Ok(())
+}
+
+// Reads an EQU line. Its name must not be taken already.
+fn read_equ(
+    alloc: Global,
+    source: &[u8],
+    names: &GivenNames,
+    equs: &NameTable<Equ>,
+    raw: &RawLine,
+) -> Result<(KeptName<'static>, Equ), ExpandFault>
+    ensures equ { Returns (λ e. equs.now ++ (e ∷ [])) result (with_equ source.now (seen_given_names names.now) raw.now equs.now (equ_token source.now raw.now.labels)) }
+    ensures new { IfOk result (λ e. is_some (entry_of equs.now e.0) ≡ false) }
+{
+    let token = equ_token(source, raw)?;
+    if is_taken(names, source, token) || equ_line(equs, source, token).is_some() {
+        return Err(at_line(raw.number, ExpandKind::DuplicateName));
+    }
+    let name = copied_name(alloc, source, token)?;
+    let tokens = clone_tokens(alloc, raw.rest.as_slice())?;
+    let line = raw.number;
+    Ok((name, Equ { tokens, line }))
 }
 
 // Returns the name before EQU. `BadDirective` unless it is the only label, written without `&`.
@@ -97,27 +118,6 @@ fn equ_token<'a>(source: &[u8], raw: &'a RawLine) -> Result<&'a Token, ExpandFau
         Some(token) => Ok(token),
         None => Err(at_line(raw.number, ExpandKind::BadDirective)),
     }
-}
-
-// Reads an EQU line. Its name must not be taken already.
-fn read_equ(
-    alloc: Global,
-    source: &[u8],
-    names: &GivenNames,
-    equs: &NameTable<Equ>,
-    raw: &RawLine,
-) -> Result<(KeptName<'static>, Equ), ExpandFault>
-    ensures equ { Returns (λ e. equs.now ++ (e ∷ [])) result (with_equ source.now (constants_of names.now) names.now.rules.now raw.now equs.now (equ_token source.now raw.now.labels)) }
-    ensures new { IfOk result (λ e. is_some (entry_of equs.now e.0) ≡ false) }
-{
-    let token = equ_token(source, raw)?;
-    if is_taken(names, source, token) || equ_line(equs, source, token).is_some() {
-        return Err(at_line(raw.number, ExpandKind::DuplicateName));
-    }
-    let name = copied_name(alloc, source, token)?;
-    let tokens = clone_tokens(alloc, raw.rest.as_slice())?;
-    let line = raw.number;
-    Ok((name, Equ { tokens, line }))
 }
 
 // Returns the line that defines the EQU name that a token is.

@@ -1,8 +1,9 @@
 //! Lines as they are read and copied, before EQU names are replaced.
-ghost use Rattle.std.specs.Prelude.{◌≡◌, ◌∷◌, ◌++◌, [], OnOk};
+ghost use Rattle.std.specs.Prelude.{◌≡◌, ◌∷◌, ◌++◌, [], IfOk, OnOk};
 ghost use Rattle.rc_expand.specs.Read.Lines.{bare_line};
 
 use crate::line::Tokens;
+use crate::tokens::{clone_token, clone_tokens};
 use rc_text::Token;
 use std::alloc::{AllocError, Global};
 use std::marker::Model;
@@ -86,5 +87,40 @@ impl RawLine {
             rest: Tokens::from_vec(Vec::new(alloc)),
             spoiled: false,
         }
+    }
+}
+
+pub(crate) fn clone_raw_line(alloc: Global, raw: &RawLine) -> Result<RawLine, AllocError>
+    ensures { IfOk result (λ h. h ≡ raw.now) }
+{
+    let labels = clone_labels(alloc, raw.labels.as_slice())?;
+    let directive = clone_directive(&raw.directive)?;
+    let rest = clone_tokens(alloc, raw.rest.as_slice())?;
+    Ok(RawLine {
+        number: raw.number,
+        labels,
+        word: raw.word,
+        directive,
+        rest,
+        spoiled: raw.spoiled,
+    })
+}
+
+pub(crate) fn clone_labels(alloc: Global, labels: &[Tokens]) -> Result<Labels, AllocError>
+    ensures { IfOk result (λ l. l ≡ labels.now) }
+{
+    let mut cloned = Labels::none(alloc);
+    for label in labels {
+        cloned.push(clone_tokens(alloc, label.as_slice())?)?;
+    }
+    Ok(cloned)
+}
+
+pub(crate) fn clone_directive(directive: &Option<Token>) -> Result<Option<Token>, AllocError>
+    ensures { IfOk result (λ d. d ≡ directive.now) }
+{
+    match directive {
+        None => Ok(None),
+        Some(token) => Ok(Some(clone_token(token)?)),
     }
 }

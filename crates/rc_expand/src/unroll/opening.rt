@@ -14,9 +14,8 @@ use crate::line::Tokens;
 use crate::names::is_taken;
 use crate::read::equs::equ_line;
 use crate::read::labels::plain_token;
-use crate::read::raw_line::{Labels, RawLine};
+use crate::read::raw_line::{Labels, RawLine, clone_labels};
 use crate::tokens::{is_colon, is_unjoined};
-use crate::unroll::copy::clone_labels;
 use rc_text::{Kind, Token, eval, text_of};
 use std::alloc::{AllocError, Global};
 
@@ -44,6 +43,33 @@ pub(crate) fn read_opening<'a>(
     Ok(Opening { counter, count })
 }
 
+// Returns the counter, which is the last label before FOR.
+fn counter_token<'a>(source: &[u8], raw: &'a RawLine) -> Result<Option<&'a Token>, ExpandFault>
+    ensures token { Returns (λ o. option_map (λ t. t.now) o) result (counter_of source.now raw.now.number raw.now.labels) }
+    ensures written { IfOk result (λ o. IfSome o (λ t. t.now.joined ≡ [])) }
+{
+    let labels = raw.labels.as_slice();
+    if labels.len() == 0 {
+        return Ok(None);
+    }
+    let label = labels[labels.len() - 1].as_slice();
+    match plain_token(source, label) {
+        Some(token) => Ok(Some(token)),
+        None => Err(counter_fault(raw.number, label)),
+    }
+}
+
+// Returns why the label before FOR cannot be its counter.
+fn counter_fault(line: u64, label: &[Token]) -> ExpandFault
+    ensures { result ≡ at_line line (counter_fault_kind label.now) }
+{
+    if is_enclosing_counter(label) {
+        at_line(line, ExpandKind::DuplicateName)
+    } else {
+        at_line(line, ExpandKind::BadDirective)
+    }
+}
+
 // Checks for a label that was the name of an enclosing block's counter, written without `&`:
 // copying has put a number in its place. A number that replaced a joined name still has counters,
 // and does not count.
@@ -65,81 +91,6 @@ fn is_plain_number(token: &Token) -> bool
         Kind::Number(_) => is_unjoined(token),
         _ => false,
     }
-}
-
-// Returns why the label before FOR cannot be its counter.
-fn counter_fault(line: u64, label: &[Token]) -> ExpandFault
-    ensures { result ≡ at_line line (counter_fault_kind label.now) }
-{
-    if is_enclosing_counter(label) {
-        at_line(line, ExpandKind::DuplicateName)
-    } else {
-        at_line(line, ExpandKind::BadDirective)
-    }
-}
-
-// Returns the counter, which is the last label before FOR.
-fn counter_token<'a>(source: &[u8], raw: &'a RawLine) -> Result<Option<&'a Token>, ExpandFault>
-    ensures token { Returns (λ o. option_map (λ t. t.now) o) result (counter_of source.now raw.now.number raw.now.labels) }
-    ensures written { IfOk result (λ o. IfSome o (λ t. t.now.joined ≡ [])) }
-{
-    let labels = raw.labels.as_slice();
-    if labels.len() == 0 {
-        return Ok(None);
-    }
-    let label = labels[labels.len() - 1].as_slice();
-    match plain_token(source, label) {
-        Some(token) => Ok(Some(token)),
-        None => Err(counter_fault(raw.number, label)),
-    }
-}
-
-// Converts the value of a count. One below 1 makes no copies, and one above `MOST_COPIES` gives
-// `None`.
-fn limited_count(value: i64) -> Option<u16>
-    ensures { result ≡ limited_count value }
-{
-    if value < 0 {
-        return Some(0);
-    }
-    if value <= MOST_COPIES {
-        Some(value as u16)
-    } else {
-        None
-    }
-}
-
-// Evaluates the count of a block, after replacing its EQU names.
-#[tactic(auto, unfolding(crate::specs::Unroll::Openings::count_of))]
-fn count_of(context: &Context, raw: &RawLine) -> Result<u16, ExpandFault>
-    ensures { Returns (λ n. n) result (count_of (seen_context context.now) raw.now.number raw.now.rest) }
-{
-    let front = Vec::new(context.alloc);
-    let tokens = replace_tokens(context, raw.number, front, raw.rest.as_slice())?;
-    match eval(context.source, tokens.as_slice(), context.names) {
-        Ok(value) => match limited_count(value) {
-            Some(count) => Ok(count),
-            None => Err(at_line(raw.number, ExpandKind::CountRefused)),
-        },
-        Err(_) => Err(at_line(raw.number, ExpandKind::CountRefused)),
-    }
-}
-
-// Refuses a ROF with something before or after it on its line.
-pub(crate) fn check_rof(rof: &RawLine) -> Result<(), ExpandFault>
-    ensures { (u : UnrolledSoFarView) → Returns (λ i. u) result (rof_check rof.now u) }
-{
-    if is_bare_rof(rof) {
-        Ok(())
-    } else {
-        Err(at_line(rof.number, ExpandKind::BadDirective))
-    }
-}
-
-fn is_bare_rof(rof: &RawLine) -> bool
-    ensures { result ≡ is_bare_rof rof.now }
-{
-    !rof.spoiled && rof.labels.as_slice().is_empty() && rof.rest.as_slice().is_empty()
 }
 
 // Returns the name of a counter. `DuplicateName` if it is a constant or a predefined name, at the
@@ -174,6 +125,37 @@ fn check_counter(context: &Context, token: &Token, line: u64) -> Result<(), Expa
     }
 }
 
+// Evaluates the count of a block, after replacing its EQU names.
+#[tactic(auto, unfolding(crate::specs::Unroll::Openings::count_of))]
+fn count_of(context: &Context, raw: &RawLine) -> Result<u16, ExpandFault>
+    ensures { Returns (λ n. n) result (count_of (seen_context context.now) raw.now.number raw.now.rest) }
+{
+    let front = Vec::new(context.alloc);
+    let tokens = replace_tokens(context, raw.number, front, raw.rest.as_slice())?;
+    match eval(context.source, tokens.as_slice(), context.names) {
+        Ok(value) => match limited_count(value) {
+            Some(count) => Ok(count),
+            None => Err(at_line(raw.number, ExpandKind::CountRefused)),
+        },
+        Err(_) => Err(at_line(raw.number, ExpandKind::CountRefused)),
+    }
+}
+
+// Converts the value of a count. One below 1 makes no copies, and one above `MOST_COPIES` gives
+// `None`.
+fn limited_count(value: i64) -> Option<u16>
+    ensures { result ≡ limited_count value }
+{
+    if value < 0 {
+        return Some(0);
+    }
+    if value <= MOST_COPIES {
+        Some(value as u16)
+    } else {
+        None
+    }
+}
+
 // Copies all labels but the last.
 pub(crate) fn earlier_labels(alloc: Global, labels: &[Tokens]) -> Result<Labels, AllocError>
     ensures { IfOk result (λ l. l ≡ earlier_of labels.now) }
@@ -182,4 +164,21 @@ pub(crate) fn earlier_labels(alloc: Global, labels: &[Tokens]) -> Result<Labels,
         return Ok(Labels::none(alloc));
     }
     clone_labels(alloc, &labels[..labels.len() - 1])
+}
+
+// Refuses a ROF with something before or after it on its line.
+pub(crate) fn check_rof(rof: &RawLine) -> Result<(), ExpandFault>
+    ensures { (u : UnrolledSoFarView) → Returns (λ i. u) result (rof_check rof.now u) }
+{
+    if is_bare_rof(rof) {
+        Ok(())
+    } else {
+        Err(at_line(rof.number, ExpandKind::BadDirective))
+    }
+}
+
+fn is_bare_rof(rof: &RawLine) -> bool
+    ensures { result ≡ is_bare_rof rof.now }
+{
+    !rof.spoiled && rof.labels.as_slice().is_empty() && rof.rest.as_slice().is_empty()
 }

@@ -10,8 +10,8 @@ ghost use Rattle.std.specs.List.{list_all};
 use crate::context::Context;
 use crate::limits::MOST_JOINED;
 use crate::line::Tokens;
-use crate::read::raw_line::RawLine;
-use crate::unroll::copy::{clone_raw_line, copy_line};
+use crate::read::raw_line::{RawLine, clone_raw_line};
+use crate::unroll::copy::Numbering;
 use crate::unroll::opening::earlier_labels;
 use rc_text::Token;
 use std::alloc::{AllocError, Global};
@@ -42,111 +42,6 @@ impl<'a> Model for Reached<'a> {
     ghost Value = { RawLine };
 
     ghost view = { λ r. reached_part r.is_earlier (line_in r.source.now (copies_in r.copies.items) r.raw.now) };
-}
-
-// Makes a line as it is in `copies`, the outermost first. The first copy with a counter is made of
-// the text's line itself, which is not cloned; each further one of the copy before.
-pub(crate) fn line_in(
-    alloc: Global,
-    source: &[u8],
-    copies: &[BlockCopy],
-    raw: &RawLine,
-) -> Result<RawLine, AllocError>
-    ensures { IfOk result (λ h. h ≡ line_in source.now (copies_in copies.now) raw.now) }
-{
-    match copies.split_first() {
-        None => clone_raw_line(alloc, raw),
-        Some((copy, inner)) => match copy.counter {
-            None => line_in(alloc, source, inner, raw),
-            Some(counter) => {
-                let made = copy_line(alloc, source, counter, copy.number, raw)?;
-                copy_for_each(alloc, source, inner, made)
-            }
-        },
-    }
-}
-
-// Copies `line` for the first of `copies` that has a counter, that copy for the next one, and so
-// on.
-fn copy_for_each(
-    alloc: Global,
-    source: &[u8],
-    copies: &[BlockCopy],
-    line: RawLine,
-) -> Result<RawLine, AllocError>
-    ensures { IfOk result (λ h. h ≡ line_in source.now (copies_in copies.now) line) }
-{
-    let mut made = line;
-    for i in 0..copies.len() {
-        if let Some(counter) = copies[i].counter {
-            made = copy_line(alloc, source, counter, copies[i].number, &made)?;
-        }
-    }
-    Ok(made)
-}
-
-fn clone_copies<'a>(
-    alloc: Global,
-    copies: &[BlockCopy<'a>],
-) -> Result<Vec<BlockCopy<'a>>, AllocError>
-    ensures { IfOk result (λ v. v.items ≡ copies.now) }
-{
-    let mut cloned = Vec::with_capacity(alloc, copies.len())?;
-    for copy in copies {
-        cloned.push(*copy)?;
-    }
-    Ok(cloned)
-}
-
-// Returns `copies` with `copy` as the innermost.
-pub(crate) fn inner_copies<'a>(
-    alloc: Global,
-    copies: &[BlockCopy<'a>],
-    copy: BlockCopy<'a>,
-) -> Result<Vec<BlockCopy<'a>>, AllocError>
-    ensures { IfOk result (λ v. v.items ≡ copies.now ++ (copy.entry ∷ [])) }
-{
-    let mut all = clone_copies(alloc, copies)?;
-    all.push(copy)?;
-    Ok(all)
-}
-
-// Checks that no copy has a counter. A line in `copies` is then as the text has it.
-pub(crate) fn have_no_counter(copies: &[BlockCopy]) -> bool
-    ensures { result ≡ have_no_counter copies.now }
-{
-    copies.iter().all(|copy| copy.counter.is_none())
-}
-
-// Checks for a line that is too short for a ninth counter to be joined to a name of it, in however
-// many copies.
-pub(crate) fn is_short_line(raw: &RawLine) -> bool
-    ensures { result ≡ is_short_line raw.now }
-{
-    are_short(raw.labels.as_slice()) && is_short(raw.rest.as_slice())
-}
-
-fn are_short(labels: &[Tokens]) -> bool
-    ensures { result ≡ list_all is_short labels.now }
-{
-    labels.iter().all(|label| is_short(label.as_slice()))
-}
-
-fn is_short(tokens: &[Token]) -> bool
-    ensures { result ≡ is_short tokens.now }
-{
-    tokens.iter().all(|t| stays_joinable(t, tokens.len()))
-}
-
-// The most tokens among which no ninth counter can be joined to a name without counters.
-const MOST_SHORT: usize = 2 * (MOST_JOINED + 1);
-
-// Checks that no ninth counter can be joined to `token`, one of `len` tokens: each counter that is
-// joined takes two tokens away.
-fn stays_joinable(token: &Token, len: usize) -> bool
-    ensures { result ≡ stays_joinable len token.now }
-{
-    len <= MOST_SHORT && 2 * token.joined.len() + len <= MOST_SHORT
 }
 
 impl<'a> Reached<'a> {
@@ -206,4 +101,119 @@ fn earlier_line(alloc: Global, raw: &RawLine) -> Result<RawLine, AllocError>
 {
     let labels = earlier_labels(alloc, raw.labels.as_slice())?;
     Ok(RawLine::bare(alloc, raw.number, labels))
+}
+
+// Makes a line as it is in `copies`, the outermost first. The first copy with a counter is made of
+// the text's line itself, which is not cloned; each further one of the copy before.
+pub(crate) fn line_in(
+    alloc: Global,
+    source: &[u8],
+    copies: &[BlockCopy],
+    raw: &RawLine,
+) -> Result<RawLine, AllocError>
+    ensures { IfOk result (λ h. h ≡ line_in source.now (copies_in copies.now) raw.now) }
+{
+    match copies.split_first() {
+        None => clone_raw_line(alloc, raw),
+        Some((copy, inner)) => match copy.counter {
+            None => line_in(alloc, source, inner, raw),
+            Some(counter) => {
+                let numbering = Numbering {
+                    source,
+                    counter,
+                    number: copy.number,
+                };
+                let made = numbering.copy_line(alloc, raw)?;
+                copy_for_each(alloc, source, inner, made)
+            }
+        },
+    }
+}
+
+// Copies `line` for the first of `copies` that has a counter, that copy for the next one, and so
+// on.
+fn copy_for_each(
+    alloc: Global,
+    source: &[u8],
+    copies: &[BlockCopy],
+    line: RawLine,
+) -> Result<RawLine, AllocError>
+    ensures { IfOk result (λ h. h ≡ line_in source.now (copies_in copies.now) line) }
+{
+    let mut made = line;
+    for i in 0..copies.len() {
+        if let Some(counter) = copies[i].counter {
+            let numbering = Numbering {
+                source,
+                counter,
+                number: copies[i].number,
+            };
+            made = numbering.copy_line(alloc, &made)?;
+        }
+    }
+    Ok(made)
+}
+
+// Returns `copies` with `copy` as the innermost.
+pub(crate) fn inner_copies<'a>(
+    alloc: Global,
+    copies: &[BlockCopy<'a>],
+    copy: BlockCopy<'a>,
+) -> Result<Vec<BlockCopy<'a>>, AllocError>
+    ensures { IfOk result (λ v. v.items ≡ copies.now ++ (copy.entry ∷ [])) }
+{
+    let mut all = clone_copies(alloc, copies)?;
+    all.push(copy)?;
+    Ok(all)
+}
+
+fn clone_copies<'a>(
+    alloc: Global,
+    copies: &[BlockCopy<'a>],
+) -> Result<Vec<BlockCopy<'a>>, AllocError>
+    ensures { IfOk result (λ v. v.items ≡ copies.now) }
+{
+    let mut cloned = Vec::with_capacity(alloc, copies.len())?;
+    for copy in copies {
+        cloned.push(*copy)?;
+    }
+    Ok(cloned)
+}
+
+// Checks that no copy has a counter. A line in `copies` is then as the text has it.
+pub(crate) fn have_no_counter(copies: &[BlockCopy]) -> bool
+    ensures { result ≡ have_no_counter copies.now }
+{
+    copies.iter().all(|copy| copy.counter.is_none())
+}
+
+// Checks for a line that is too short for a ninth counter to be joined to a name of it, in however
+// many copies.
+pub(crate) fn is_short_line(raw: &RawLine) -> bool
+    ensures { result ≡ is_short_line raw.now }
+{
+    are_short(raw.labels.as_slice()) && is_short(raw.rest.as_slice())
+}
+
+fn are_short(labels: &[Tokens]) -> bool
+    ensures { result ≡ list_all is_short labels.now }
+{
+    labels.iter().all(|label| is_short(label.as_slice()))
+}
+
+fn is_short(tokens: &[Token]) -> bool
+    ensures { result ≡ is_short tokens.now }
+{
+    tokens.iter().all(|t| stays_joinable(t, tokens.len()))
+}
+
+// The most tokens among which no ninth counter can be joined to a name without counters.
+const MOST_SHORT: usize = 2 * (MOST_JOINED + 1);
+
+// Checks that no ninth counter can be joined to `token`, one of `len` tokens: each counter that is
+// joined takes two tokens away.
+fn stays_joinable(token: &Token, len: usize) -> bool
+    ensures { result ≡ stays_joinable len token.now }
+{
+    len <= MOST_SHORT && 2 * token.joined.len() + len <= MOST_SHORT
 }

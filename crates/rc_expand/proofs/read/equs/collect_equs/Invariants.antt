@@ -1,5 +1,5 @@
 use Rattle.std.proofs.Common.{◌≡◌, []}
-use Rattle.rc_expand.specs.Names.{table_in}
+use Rattle.rc_expand.specs.Contexts.{seen_given_names}
 use Rattle.rc_expand.specs.Read.{equs_from}
 use Rattle.rc_expand.specs.Read.Tree.{tree_of}
 use Rattle.rc_expand.proofs.TreeSteps.{size}
@@ -11,5 +11,5 @@ decreases-loop-raw l = size (tree_of l.rest.lines.now)
 -- the lines that are left make the whole
 abbrev pub invariant-loop-raw : goal.invariant-loop-raw
 invariant-loop-raw l =
-    equs_from l.source (table_in l.names.constants.now) l.names.rules.now (tree_of l.blocks.lines.now) []
-    ≡ equs_from l.source (table_in l.names.constants.now) l.names.rules.now (tree_of l.rest.lines.now) l.equs
+    equs_from l.source (seen_given_names l.names) (tree_of l.blocks.lines.now) []
+    ≡ equs_from l.source (seen_given_names l.names) (tree_of l.rest.lines.now) l.equs

@@ -1,7 +1,7 @@
 use Rattle.std.proofs.Common.{sym, ◌∙◌, ap, take, get_or, None}
 use Rattle.std.specs.Prelude.{option_map}
 use Rattle.rc_expand.specs.declared.unroll.reached.BlockCopy.{BlockCopy}
-use Rattle.rc_expand.specs.Unroll.Copies.{copied_line, line_in_copy, line_in}
+use Rattle.rc_expand.specs.Unroll.Copies.{numbering_by, copied_line, line_in_copy, line_in}
 use Rattle.rc_expand.specs.Unroll.Reached.{copies_in}
 use Rattle.rc_expand.proofs.Unrolling.Reaching.{copies_more}
 use Rattle.rc_expand.proofs.unroll.reached.copy_for_each.Goals as goal
@@ -19,7 +19,7 @@ loop-i-preserved c =
     elim c.match-copies-i.branch [
       | in-Some+in_ok-made w ↦
           w.made-is ∙ w.in_ok-made.ensures
-          ∙ ap (copied_line s w.in-Some.counter.now k) c.loop-i.invariant
+          ∙ ap (copied_line (numbering_by s w.in-Some.counter.now k)) c.loop-i.invariant
           ∙ ap (λ o. line_in_copy s (option_map (λ b. b.now) o) k (line_in s (copies_in (take i cs)) h)) (sym w.in-Some.is)
           ∙ sym more
       | in_default w ↦
