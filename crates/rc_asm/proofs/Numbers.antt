@@ -18,8 +18,8 @@ use Rattle.rc_asm.specs.declared.operand.Operand.{Operand}
 use Rattle.rc_asm.specs.declared.fault.AsmKind.TheVariants.{Value, AssertFailed}
 use Rattle.rc_asm.specs.Words.{mode_in}
 use Rattle.rc_asm.specs.Names.{NameValues, value_at}
-use Rattle.rc_asm.specs.Shape.{ShapeView, shape_of}
-use Rattle.rc_asm.specs.Instructions.{natural, core_number, operand, operand_after, operand_at, instruction_of_parts, instruction_of_shape, instruction_at}
+use Rattle.rc_asm.specs.Form.{FormView, form_of}
+use Rattle.rc_asm.specs.Instructions.{natural, core_number, operand, operand_after, operand_at, instruction_of_parts, instruction_of_form, instruction_at}
 use Rattle.rc_asm.specs.Faults.{at_line}
 use Rattle.rc_asm.specs.Lines.{ReadingView, nothing_read, with_instruction, with_org, with_end, line_value, after_word, after_line, after_lines}
 use Rattle.rc_instr.proofs.Chains.{went_on, ok_of}
@@ -54,13 +54,13 @@ module _ (source : List ℕ) (names : NameValues) (some : 0 < names.rules.core) 
   operand_low address (Some (t ∷ ts)) o e = after_low address (mode_in t) t ts o e
 
   instruction_low : (address : ℕ) (ts : List Token) (i : Instruction) → instruction_at source names address ts ≡ Ok i → IsBelow names.rules.core i
-  unfolding instruction_at instruction_of_shape instruction_of_parts
+  unfolding instruction_at instruction_of_form instruction_of_parts
   instruction_low address ts i e =
-      let s = went_on (shape_of source ts) (λ s. with_fault Value (instruction_of_shape source names address s)) i e in
-      let p = ok_of Value (instruction_of_shape source names address s.0) i s.2 in
-      let a = went_on (operand_at source names address s.0.sides.a) (λ a. mapped (instruction_of_parts s.0 a) (operand_at source names address s.0.sides.b)) i p in
-      let b = value_of (instruction_of_parts s.0 a.0) (operand_at source names address s.0.sides.b) i a.2 in
-      subst (λ x. IsBelow names.rules.core x) b.2 (record { a = operand_low address s.0.sides.a a.0 a.1; b = operand_low address s.0.sides.b b.0 b.1 })
+      let s = went_on (form_of source ts) (λ s. with_fault Value (instruction_of_form source names address s)) i e in
+      let p = ok_of Value (instruction_of_form source names address s.0) i s.2 in
+      let a = went_on (operand_at source names address s.0.operands.a) (λ a. mapped (instruction_of_parts s.0 a) (operand_at source names address s.0.operands.b)) i p in
+      let b = value_of (instruction_of_parts s.0 a.0) (operand_at source names address s.0.operands.b) i a.2 in
+      subst (λ x. IsBelow names.rules.core x) b.2 (record { a = operand_low address s.0.operands.a a.0 a.1; b = operand_low address s.0.operands.b b.0 b.1 })
 
   kept_code : (r s : ReadingView) (code : List Instruction) → r ≡ s → r.code ≡ code → All (IsBelow names.rules.core) code → All (IsBelow names.rules.core) s.code
   kept_code r s code e c h = subst (λ x. All (IsBelow names.rules.core) x.code) e (subst (λ x. All (IsBelow names.rules.core) x) (sym c) h)

@@ -24,26 +24,27 @@ use Rattle.rc_asm.specs.declared.fault.AsmKind.{AsmKind}
 use Rattle.rc_asm.specs.declared.fault.AsmKind.TheVariants.{Value, Warrior, TextTooLong}
 use Rattle.rc_asm.specs.declared.fault.AsmFault.{AsmFault}
 use Rattle.rc_asm.specs.Limits.{MOST_BYTES}
+use Rattle.rc_asm.specs.declared.scope.LabelsAs.TheVariants.{Addresses}
 use Rattle.rc_asm.specs.Names.{NameValues, Labels, Agree, labels_of, names_of, value_at}
-use Rattle.rc_asm.specs.Shape.{shape_of}
-use Rattle.rc_asm.specs.Instructions.{instruction_of_shape, instruction_at}
-use Rattle.rc_asm.specs.Faults.{at_line, form_of, forms_of}
+use Rattle.rc_asm.specs.Form.{form_of}
+use Rattle.rc_asm.specs.Instructions.{instruction_of_form, instruction_at}
+use Rattle.rc_asm.specs.Faults.{at_line, form_check, forms_check}
 use Rattle.rc_asm.specs.Lines.{ReadingView, nothing_read, line_value, after_word, after_line, after_lines, start_value}
 use Rattle.rc_asm.specs.Assembly.{start_index, warrior_of_reading, warrior_of_lines, outcome_of_lines, expand_fault, outcome_of, Assembles, text_warrior}
 
 -- ---- forms
 
 module _ (source : List ℕ) (names : NameValues) where
-  no_value : (address : ℕ) → value_at source names address 0 [] ≡ Err Syntax
+  no_value : (address : ℕ) → value_at source names address Addresses [] ≡ Err Syntax
   unfolding before_operand
   no_value address = refl
 
   -- a line that gives something is well formed
-  form_word : (w : LineWord) (ts : List Token) (r s : ReadingView) → after_word source names w ts r ≡ Ok s → form_of source w ts ≡ Ok tt
+  form_word : (w : LineWord) (ts : List Token) (r s : ReadingView) → after_word source names w ts r ≡ Ok s → form_check source w ts ≡ Ok tt
   unfolding instruction_at
   form_word Code ts r s e =
       let i = went_on (instruction_at source names (length r.code) ts) _ s e in
-      let p = went_on (shape_of source ts) (λ x. with_fault Value (instruction_of_shape source names (length r.code) x)) i.0 i.1 in
+      let p = went_on (form_of source ts) (λ x. with_fault Value (instruction_of_form source names (length r.code) x)) i.0 i.1 in
       ap (mapped (λ x. tt)) p.1
   form_word Org [] r s e =
       let v = went_on (line_value source names (length r.code) []) _ s e in
@@ -55,7 +56,7 @@ module _ (source : List ℕ) (names : NameValues) where
   form_word Bare ts r s e = refl
 
   -- lines that give something are well formed
-  formed : (lines : List Line) (r s : ReadingView) → after_lines source names lines r ≡ Ok s → forms_of source lines ≡ Ok tt
+  formed : (lines : List Line) (r s : ReadingView) → after_lines source names lines r ≡ Ok s → forms_check source lines ≡ Ok tt
   unfolding after_line
   formed [] r s e = refl
   formed (l ∷ ls) r s e =
@@ -139,7 +140,7 @@ module _ (source : List ℕ) (constants : Table) (rules : RulesView) where
       let c = went_on (check (nat_le (length source) MOST_BYTES) (at_line 0 TextTooLong)) (λ _. and_then of_lines (with_fault expand_fault (expansion_of source constants rules))) w e in
       let l = went_on (with_fault expand_fault (expansion_of source constants rules)) of_lines w c.2 in
       let names = names_of source constants rules l.0 in
-      let f = went_on (forms_of source l.0) (λ _. warrior_of_lines source names l.0) w l.2 in
+      let f = went_on (forms_check source l.0) (λ _. warrior_of_lines source names l.0) w l.2 in
       let r = went_on (after_lines source names l.0 nothing_read) (warrior_of_reading rules) w f.2 in
       let v = warrior_view r.0.code (start_index r.0.code (start_value r.0.starts)) in
       let p = warrior_fits rules v w k (ok_of (λ e. at_line 0 (Warrior e)) (warrior_of rules v) w r.2) in

@@ -6,12 +6,12 @@ use Rattle.std.proofs.lemmas.Iterator.Adapters.{position_from-zero}
 use Rattle.std.proofs.lemmas.Slice.{between_to_end}
 use Rattle.std.proofs.lemmas.Bool.{cases_Bool}
 use Rattle.rc_text.specs.declared.token.Token.{Token}
-use Rattle.rc_expand.specs.Heads.Lines.{into_first}
+use Rattle.rc_expand.specs.Read.Lines.{into_first}
 use Rattle.rc_asm.specs.Words.{is_comma}
 use Rattle.rc_instr.specs.declared.instruction.Opcode.{Opcode}
 use Rattle.std.specs.Prelude.{Err}
 use Rattle.rc_asm.specs.declared.fault.AsmKind.TheVariants.{ExtraText}
-use Rattle.rc_asm.specs.Shape.{parts_from, parts, sides_of}
+use Rattle.rc_asm.specs.Form.{parts_from, parts, operands_of}
 
 -- the parts up to the first comma, if there is one; `i` tokens come before `ts`
 abbrev CommaAt : List Token → ℕ → Option ℕ → Type 0
@@ -52,7 +52,7 @@ parts_some : (ts : List Token) → parts_from ts ≡ [] → ⊥
 parts_some [] h = cc
 parts_some (t ∷ ts) h = ⊎_elim (λ e. let k = rw e at h in cc) (λ e. into_some t (parts_from ts) (rw e at h)) (cases_Bool (is_comma t))
 
-too_many : (o : Opcode) (p q : List Token) (ps : List (List Token)) → (ps ≡ [] → ⊥) → Err ExtraText ≡ sides_of o (p ∷ q ∷ ps)
+too_many : (o : Opcode) (p q : List Token) (ps : List (List Token)) → (ps ≡ [] → ⊥) → Err ExtraText ≡ operands_of o (p ∷ q ∷ ps)
 too_many o p q [] h = absurd (h refl)
 too_many o p q (r ∷ ps) h = refl
 
@@ -67,9 +67,9 @@ after_place ts at = take (length ts - (at + 1)) (drop (at + 1) ts)
 
 -- two commas are too many
 pub two_commas : (o : Opcode) (ts : List Token) (at k : ℕ) → 0 < length ts → at < length ts → parts_from ts ≡ take at ts ∷ parts_from (drop (at + 1) ts)
-    → parts_from (after_place ts at) ≡ take k (after_place ts at) ∷ parts_from (drop (k + 1) (after_place ts at)) → Err ExtraText ≡ sides_of o (parts ts)
+    → parts_from (after_place ts at) ≡ take k (after_place ts at) ∷ parts_from (drop (k + 1) (after_place ts at)) → Err ExtraText ≡ operands_of o (parts ts)
 two_commas o ts at k h l e f =
     let s = after_place ts at in
     let d : s ≡ drop (at + 1) ts = between_to_end ts (at + 1) (length ts) (omega arith) in
     let g : parts_from (drop (at + 1) ts) ≡ take k s ∷ parts_from (drop (k + 1) s) = ap parts_from (sym d) ∙ f in
-    too_many o (take at ts) (take k s) _ (parts_some (drop (k + 1) s)) ∙ ap (sides_of o) (sym (parts_of_some ts h ∙ e ∙ ap (λ x. take at ts ∷ x) g))
+    too_many o (take at ts) (take k s) _ (parts_some (drop (k + 1) s)) ∙ ap (operands_of o) (sym (parts_of_some ts h ∙ e ∙ ap (λ x. take at ts ∷ x) g))

@@ -17,7 +17,7 @@ use Rattle.rc_asm.specs.declared.fault.AsmKind.{AsmKind}
 use Rattle.rc_asm.specs.declared.fault.AsmKind.TheVariants.{Expand, Warrior, TextTooLong, OutOfMemory}
 use Rattle.rc_asm.specs.declared.fault.AsmFault.{AsmFault}
 use Rattle.rc_asm.specs.Limits.{MOST_BYTES}
-use Rattle.rc_asm.specs.Faults.{at_line, forms_of}
+use Rattle.rc_asm.specs.Faults.{at_line, forms_check}
 use Rattle.rc_asm.specs.Names.{NameValues, names_of}
 use Rattle.rc_asm.specs.Lines.{ReadingView, nothing_read, after_lines, start_value}
 
@@ -39,7 +39,7 @@ warrior_of_lines source names lines = after_lines source names lines nothing_rea
 -- The warrior of an expanded text. All forms are checked before the first value.
 abbrev pub outcome_of_lines : List ℕ → NameValues → List Line → Result WarriorView AsmFault
 outcome_of_lines source names lines = do
-  _ ← forms_of source lines
+  _ ← forms_check source lines
   warrior_of_lines source names lines
 
 -- `Expand` never has out of memory in it.

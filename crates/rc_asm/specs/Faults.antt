@@ -8,7 +8,7 @@ use Rattle.rc_expand.specs.declared.line.Line.{Line}
 use Rattle.rc_asm.specs.declared.fault.AsmKind.{AsmKind}
 use Rattle.rc_asm.specs.declared.fault.AsmKind.TheVariants.{MissingOperand, OutOfMemory}
 use Rattle.rc_asm.specs.declared.fault.AsmFault.{AsmFault}
-use Rattle.rc_asm.specs.Shape.{shape_of}
+use Rattle.rc_asm.specs.Form.{form_of}
 
 abbrev pub at_line : ℕ → AsmKind → AsmFault
 at_line line kind = record { line = line; kind = kind }
@@ -22,14 +22,14 @@ abbrev pub Returns : {A B : Type 0} → (view : A → B) → (result : Result A 
 Returns view result definition = ReturnsBut IsOutOfMemory view result definition
 
 -- A line of code must parse, and ORG needs an expression.
-abbrev pub form_of : List ℕ → LineWord → List Token → Result (Unit {0}) AsmKind
-form_of source Code ts = mapped (λ s. tt) (shape_of source ts)
-form_of source Org [] = Err MissingOperand
-form_of source _ ts = Ok tt
+abbrev pub form_check : List ℕ → LineWord → List Token → Result (Unit {0}) AsmKind
+form_check source Code ts = mapped (λ s. tt) (form_of source ts)
+form_check source Org [] = Err MissingOperand
+form_check source _ ts = Ok tt
 
 -- All lines are well formed, or the first that is not.
-abbrev pub forms_of : List ℕ → List Line → Result (Unit {0}) AsmFault
-forms_of source [] = Ok tt
-forms_of source (l ∷ ls) = do
-  _ ← with_fault (at_line l.number) (form_of source l.word l.tokens)
-  forms_of source ls
+abbrev pub forms_check : List ℕ → List Line → Result (Unit {0}) AsmFault
+forms_check source [] = Ok tt
+forms_check source (l ∷ ls) = do
+  _ ← with_fault (at_line l.number) (form_check source l.word l.tokens)
+  forms_check source ls

@@ -13,8 +13,9 @@ use Rattle.rc_asm.specs.declared.fault.AsmKind.TheVariants.{Value}
 use Rattle.rc_asm.specs.declared.operand.Operand.{Operand}
 use Rattle.rc_instr.specs.Results.{mapped, with_fault, ◌>>=◌}
 use Rattle.rc_asm.specs.Words.{mode_in}
+use Rattle.rc_asm.specs.declared.scope.LabelsAs.TheVariants.{Distances}
 use Rattle.rc_asm.specs.Names.{NameValues, value_at}
-use Rattle.rc_asm.specs.Shape.{ShapeView, shape_of}
+use Rattle.rc_asm.specs.Form.{FormView, form_of}
 
 -- An integer that is not negative, as a natural number.
 abbrev pub natural : ℤ → ℕ
@@ -29,7 +30,7 @@ abbrev pub operand : ℕ → Mode → ℤ → Operand
 operand m mode z = record { mode = mode; number = core_number m z }
 
 -- The instruction of a line and its operands; a modifier that is not written is the default one.
-unfoldable pub instruction_of_parts : ShapeView → Operand → Operand → Instruction
+unfoldable pub instruction_of_parts : FormView → Operand → Operand → Instruction
 instruction_of_parts s a b = record {
   opcode = s.opcode;
   modifier = unwrap_or s.modifier (default_modifier_of s.opcode a.mode b.mode);
@@ -42,8 +43,8 @@ instruction_of_parts s a b = record {
 module _ (source : List ℕ) (names : NameValues) (address : ℕ) where
   -- After the mode, everything is the expression; without a mode it is direct.
   abbrev pub operand_after : Option Mode → Token → List Token → Result Operand EvalFault
-  operand_after (Some mode) t ts = mapped (operand names.rules.core mode) (value_at source names address address ts)
-  operand_after None t ts = mapped (operand names.rules.core Direct) (value_at source names address address (t ∷ ts))
+  operand_after (Some mode) t ts = mapped (operand names.rules.core mode) (value_at source names address Distances ts)
+  operand_after None t ts = mapped (operand names.rules.core Direct) (value_at source names address Distances (t ∷ ts))
 
   -- An operand that is not written is `$0`.
   unfoldable pub operand_at : Option (List Token) → Result Operand EvalFault
@@ -52,13 +53,13 @@ module _ (source : List ℕ) (names : NameValues) (address : ℕ) where
   operand_at (Some (t ∷ ts)) = operand_after (mode_in t) t ts
 
   -- A fault of the A-operand comes before one of the B-operand.
-  unfoldable pub instruction_of_shape : ShapeView → Result Instruction EvalFault
-  instruction_of_shape s = do
-    a ← operand_at s.sides.a
-    mapped (instruction_of_parts s a) (operand_at s.sides.b)
+  unfoldable pub instruction_of_form : FormView → Result Instruction EvalFault
+  instruction_of_form s = do
+    a ← operand_at s.operands.a
+    mapped (instruction_of_parts s a) (operand_at s.operands.b)
 
   -- The instruction that the tokens spell, or the first fault.
   unfoldable pub instruction_at : List Token → Result Instruction AsmKind
   instruction_at tokens = do
-    s ← shape_of source tokens
-    with_fault Value (instruction_of_shape s)
+    s ← form_of source tokens
+    with_fault Value (instruction_of_form s)

@@ -3,7 +3,7 @@
 -- every expression has a value, every assertion holds, and the warrior fits the rules.
 pub mod Limits
 pub mod Words
-pub mod Shape
+pub mod Form
 pub mod Names
 pub mod Instructions
 pub mod Faults

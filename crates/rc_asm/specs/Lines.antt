@@ -14,6 +14,7 @@ use Rattle.rc_asm.specs.declared.fault.AsmKind.TheVariants.{Value, AssertFailed}
 use Rattle.rc_asm.specs.declared.fault.AsmFault.{AsmFault}
 use Rattle.rc_asm.specs.declared.starts.Starts.{Starts}
 use Rattle.rc_asm.specs.Faults.{at_line}
+use Rattle.rc_asm.specs.declared.scope.LabelsAs.TheVariants.{Addresses}
 use Rattle.rc_asm.specs.Names.{NameValues, value_at}
 use Rattle.rc_asm.specs.Instructions.{instruction_at}
 
@@ -43,9 +44,9 @@ abbrev pub with_end : ReadingView → ℤ → ReadingView
 with_end r v = record r { starts = record { org = r.starts.org; end = Some v } }
 
 module _ (source : List ℕ) (names : NameValues) where
-  -- The value of an expression in a line at `address`. A label has its address as its value.
+  -- The value of an expression in a line at `address`. A label stands for its address.
   abbrev pub line_value : (address : ℕ) → List Token → Result ℤ AsmKind
-  line_value address ts = with_fault Value (value_at source names address 0 ts)
+  line_value address ts = with_fault Value (value_at source names address Addresses ts)
 
   -- A line after those that gave `r`. The number of instructions before it is its address. A line
   -- of code gives its instruction; ORG needs an expression and END may have one; an assertion needs

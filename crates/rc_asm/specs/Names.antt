@@ -12,6 +12,8 @@ use Rattle.rc_expand.specs.declared.line.LineWord.{LineWord}
 use Rattle.rc_expand.specs.declared.line.LineWord.TheVariants.{Code}
 use Rattle.rc_expand.specs.declared.line.Line.{Line}
 use Rattle.rc_expand.specs.Names.{Table, entry_of, given_names, CURLINE}
+use Rattle.rc_asm.specs.declared.scope.LabelsAs.{LabelsAs}
+use Rattle.rc_asm.specs.declared.scope.LabelsAs.TheVariants.{Addresses, Distances}
 
 -- Labels with their addresses.
 abbrev pub Labels : Type 0
@@ -44,13 +46,17 @@ pub record NameValues : Type 0 where
 abbrev pub names_of : List ℕ → Table → RulesView → List Line → NameValues
 names_of source constants rules lines = record { constants = constants; rules = rules; address = entry_of (labels_of source lines) }
 
--- The value of a name in the line at `address`: a constant, a predefined name, CURLINE, or a label,
--- whose address is counted from `base`.
-unfoldable pub stands_for : NameValues → (address base : ℕ) → List ℕ → Option ℤ
-stands_for names address base name =
+-- The value of a label with the address `label` in the line at `address`.
+abbrev pub label_value : LabelsAs → (address label : ℕ) → ℤ
+label_value Addresses address label = pos label
+label_value Distances address label = pos label -ℤ pos address
+
+-- The value of a name in the line at `address`: a constant, a predefined name, CURLINE, or a label.
+unfoldable pub stands_for : NameValues → (address : ℕ) → LabelsAs → List ℕ → Option ℤ
+stands_for names address labels_as name =
     option_or (given_names names.constants names.rules name)
-    (if bytes_eq name CURLINE then Some (pos address) else option_map (λ a. pos a -ℤ pos base) (names.address name))
+    (if bytes_eq name CURLINE then Some (pos address) else option_map (label_value labels_as address) (names.address name))
 
 -- The value of an expression in such a line, or its first fault.
-abbrev pub value_at : List ℕ → NameValues → (address base : ℕ) → List Token → Result ℤ EvalFault
-value_at source names address base tokens = evaluation_of (stands_for names address base) (symbols_of source tokens)
+abbrev pub value_at : List ℕ → NameValues → (address : ℕ) → LabelsAs → List Token → Result ℤ EvalFault
+value_at source names address labels_as tokens = evaluation_of (stands_for names address labels_as) (symbols_of source tokens)

@@ -6,7 +6,7 @@ use Rattle.rc_text.specs.declared.token.Sign.TheVariants.{Comma, Hash, Dollar, S
 use Rattle.rc_text.specs.declared.token.Kind.{Kind}
 use Rattle.rc_text.specs.declared.token.Kind.TheVariants.{Sign as SignOf}
 use Rattle.rc_text.specs.declared.token.Token.{Token}
-use Rattle.rc_expand.specs.Heads.Lines.{is_name_token, is_unjoined, bytes_of}
+use Rattle.rc_expand.specs.Read.Lines.{is_name_token, is_unjoined, bytes_of}
 use Rattle.rc_instr.specs.Words.{opcode_named, modifier_named}
 use Rattle.rc_instr.specs.declared.instruction.Opcode.{Opcode}
 use Rattle.rc_instr.specs.declared.instruction.Modifier.{Modifier}

@@ -1,8 +1,8 @@
 //! The form of a line of code: opcode, modifier, operands.
 ghost use Rattle.std.specs.Prelude.{◌≡◌, ℕ, ◌∷◌, [], ◌<◌, length, take, drop, ◌+◌, option_map, List, Some, None, All, IfSome, IfNone};
 ghost use Rattle.rc_instr.specs.Results.{mapped};
-ghost use Rattle.rc_asm.specs.Shape.{parts, parts_from, no_side, one_side, two_sides, sides_of, with_operands, with_modifier, after_opcode, shape_of};
-ghost use Rattle.rc_asm.specs.Seen.{seen_sides, seen_shape};
+ghost use Rattle.rc_asm.specs.Form.{parts, parts_from, no_operand, one_operand, two_operands, operands_of, with_operands, with_modifier, after_opcode, form_of};
+ghost use Rattle.rc_asm.specs.Seen.{seen_operands, seen_form};
 
 use crate::fault::AsmKind;
 use crate::word::{is_comma, is_dot, modifier_in, opcode_in};
@@ -11,23 +11,23 @@ use rc_text::Token;
 
 // The tokens of the operands; `None` for an operand that is not written.
 #[derive(Clone, Copy)]
-pub(crate) struct Sides<'a> {
+pub(crate) struct OperandTokens<'a> {
     pub(crate) a: Option<&'a [Token]>,
     pub(crate) b: Option<&'a [Token]>,
 }
 
 // A line of code in its parts. `modifier` is `None` if it is not written.
 #[derive(Clone, Copy)]
-pub(crate) struct Shape<'a> {
+pub(crate) struct Form<'a> {
     pub(crate) opcode: Opcode,
     pub(crate) modifier: Option<Modifier>,
-    pub(crate) sides: Sides<'a>,
+    pub(crate) operands: OperandTokens<'a>,
 }
 
 // Parses the tokens of a line of code.
-#[tactic(auto, unfolding(crate::specs::Shape::shape_of))]
-pub(crate) fn shape_of<'a>(source: &[u8], tokens: &'a [Token]) -> Result<Shape<'a>, AsmKind>
-    ensures { mapped seen_shape result ≡ shape_of source.now tokens.now }
+#[tactic(auto, unfolding(crate::specs::Form::form_of))]
+pub(crate) fn form_of<'a>(source: &[u8], tokens: &'a [Token]) -> Result<Form<'a>, AsmKind>
+    ensures { mapped seen_form result ≡ form_of source.now tokens.now }
 {
     match tokens {
         [] => Err(AsmKind::UnknownOpcode),
@@ -45,25 +45,25 @@ fn first_comma(tokens: &[Token]) -> Option<usize>
     tokens.iter().position(is_comma)
 }
 
-fn no_side(opcode: Opcode) -> Option<Sides<'static>>
-    ensures { option_map seen_sides result ≡ no_side opcode }
+fn no_operand(opcode: Opcode) -> Option<OperandTokens<'static>>
+    ensures { option_map seen_operands result ≡ no_operand opcode }
 {
     match opcode {
-        Opcode::Dat | Opcode::Nop => Some(Sides { a: None, b: None }),
+        Opcode::Dat | Opcode::Nop => Some(OperandTokens { a: None, b: None }),
         _ => None,
     }
 }
 
 // Only DAT takes a single operand as its B-operand.
-fn one_side(opcode: Opcode, part: &[Token]) -> Option<Sides<'_>>
-    ensures { option_map seen_sides result ≡ one_side opcode part.now }
+fn one_operand(opcode: Opcode, part: &[Token]) -> Option<OperandTokens<'_>>
+    ensures { option_map seen_operands result ≡ one_operand opcode part.now }
 {
     match opcode {
-        Opcode::Dat => Some(Sides {
+        Opcode::Dat => Some(OperandTokens {
             a: None,
             b: Some(part),
         }),
-        Opcode::Jmp | Opcode::Spl | Opcode::Nop => Some(Sides {
+        Opcode::Jmp | Opcode::Spl | Opcode::Nop => Some(OperandTokens {
             a: Some(part),
             b: None,
         }),
@@ -72,61 +72,61 @@ fn one_side(opcode: Opcode, part: &[Token]) -> Option<Sides<'_>>
 }
 
 // Refuses an empty operand beside a comma.
-fn two_sides<'a>(first: &'a [Token], second: &'a [Token]) -> Option<Sides<'a>>
-    ensures { option_map seen_sides result ≡ two_sides first.now second.now }
+fn two_operands<'a>(first: &'a [Token], second: &'a [Token]) -> Option<OperandTokens<'a>>
+    ensures { option_map seen_operands result ≡ two_operands first.now second.now }
 {
     if first.is_empty() || second.is_empty() {
         return None;
     }
-    Some(Sides {
+    Some(OperandTokens {
         a: Some(first),
         b: Some(second),
     })
 }
 
-#[tactic(auto, unfolding(crate::specs::Shape::parts))]
-fn sides_of(opcode: Opcode, tokens: &[Token]) -> Result<Sides<'_>, AsmKind>
-    ensures { mapped seen_sides result ≡ sides_of opcode (parts tokens.now) }
+#[tactic(auto, unfolding(crate::specs::Form::parts))]
+fn operands_of(opcode: Opcode, tokens: &[Token]) -> Result<OperandTokens<'_>, AsmKind>
+    ensures { mapped seen_operands result ≡ operands_of opcode (parts tokens.now) }
 {
     if tokens.is_empty() {
-        return no_side(opcode).ok_or(AsmKind::MissingOperand);
+        return no_operand(opcode).ok_or(AsmKind::MissingOperand);
     }
     match first_comma(tokens) {
-        None => one_side(opcode, tokens).ok_or(AsmKind::MissingOperand),
+        None => one_operand(opcode, tokens).ok_or(AsmKind::MissingOperand),
         Some(at) => {
             let second = &tokens[at + 1..];
             match first_comma(second) {
-                None => two_sides(&tokens[..at], second).ok_or(AsmKind::MissingOperand),
+                None => two_operands(&tokens[..at], second).ok_or(AsmKind::MissingOperand),
                 Some(_) => Err(AsmKind::ExtraText),
             }
         }
     }
 }
 
-#[tactic(auto, unfolding(crate::specs::Shape::with_operands))]
+#[tactic(auto, unfolding(crate::specs::Form::with_operands))]
 fn with_operands(
     opcode: Opcode,
     modifier: Option<Modifier>,
     tokens: &[Token],
-) -> Result<Shape<'_>, AsmKind>
-    ensures { mapped seen_shape result ≡ with_operands opcode modifier tokens.now }
+) -> Result<Form<'_>, AsmKind>
+    ensures { mapped seen_form result ≡ with_operands opcode modifier tokens.now }
 {
-    let sides = sides_of(opcode, tokens)?;
-    Ok(Shape {
+    let operands = operands_of(opcode, tokens)?;
+    Ok(Form {
         opcode,
         modifier,
-        sides,
+        operands,
     })
 }
 
 // Parses what follows the opcode and a dot.
-#[tactic(auto, unfolding(crate::specs::Shape::with_modifier))]
+#[tactic(auto, unfolding(crate::specs::Form::with_modifier))]
 fn with_modifier<'a>(
     source: &[u8],
     opcode: Opcode,
     tokens: &'a [Token],
-) -> Result<Shape<'a>, AsmKind>
-    ensures { mapped seen_shape result ≡ with_modifier source.now opcode tokens.now }
+) -> Result<Form<'a>, AsmKind>
+    ensures { mapped seen_form result ≡ with_modifier source.now opcode tokens.now }
 {
     match tokens {
         [] => Err(AsmKind::UnknownOpcode),
@@ -138,13 +138,9 @@ fn with_modifier<'a>(
 }
 
 // Parses what follows the opcode.
-#[tactic(auto, unfolding(crate::specs::Shape::after_opcode))]
-fn after_opcode<'a>(
-    source: &[u8],
-    opcode: Opcode,
-    tokens: &'a [Token],
-) -> Result<Shape<'a>, AsmKind>
-    ensures { mapped seen_shape result ≡ after_opcode source.now opcode tokens.now }
+#[tactic(auto, unfolding(crate::specs::Form::after_opcode))]
+fn after_opcode<'a>(source: &[u8], opcode: Opcode, tokens: &'a [Token]) -> Result<Form<'a>, AsmKind>
+    ensures { mapped seen_form result ≡ after_opcode source.now opcode tokens.now }
 {
     match tokens {
         [first, rest @ ..] if is_dot(first) => with_modifier(source, opcode, rest),

@@ -1,15 +1,15 @@
 //! The forms of the lines. They are checked once a line has no value, since the fault of a
 //! malformed line comes before those of values.
 ghost use Rattle.std.specs.Prelude.{◌≡◌};
-ghost use Rattle.rc_asm.specs.Faults.{form_of, forms_of};
+ghost use Rattle.rc_asm.specs.Faults.{form_check, forms_check};
 
 use crate::fault::{AsmFault, AsmKind, at_line};
-use crate::shape::shape_of;
+use crate::form::form_of;
 use rc_expand::{Line, LineWord};
 
 // Refuses the first line that is malformed.
 pub(crate) fn check_forms(source: &[u8], lines: &[Line]) -> Result<(), AsmFault>
-    ensures { result ≡ forms_of source.now lines.now }
+    ensures { result ≡ forms_check source.now lines.now }
 {
     let mut rest = lines;
     while let Some((line, after)) = rest.split_first() {
@@ -24,12 +24,12 @@ pub(crate) fn check_forms(source: &[u8], lines: &[Line]) -> Result<(), AsmFault>
 
 // Lines of code must parse, and ORG needs an expression. Other lines have no form to check.
 fn check_form(source: &[u8], line: &Line) -> Result<(), AsmKind>
-    ensures { result ≡ form_of source.now line.now.word line.now.tokens }
+    ensures { result ≡ form_check source.now line.now.word line.now.tokens }
 {
     let tokens = line.tokens.as_slice();
     match line.word {
         LineWord::Code => {
-            shape_of(source, tokens)?;
+            form_of(source, tokens)?;
             Ok(())
         }
         LineWord::Org => match tokens {

@@ -1,13 +1,13 @@
 //! From the tokens of a line of code to its instruction.
 ghost use Rattle.std.specs.Prelude.{◌≡◌};
-ghost use Rattle.rc_asm.specs.Instructions.{instruction_of_parts, instruction_of_shape, instruction_at};
-ghost use Rattle.rc_asm.specs.Seen.{seen_names, seen_shape};
+ghost use Rattle.rc_asm.specs.Instructions.{instruction_of_parts, instruction_of_form, instruction_at};
+ghost use Rattle.rc_asm.specs.Seen.{seen_names, seen_form};
 
 use crate::fault::AsmKind;
-use crate::labels::Address;
+use crate::form::{Form, form_of};
+use crate::labels::LineAddress;
 use crate::operand::{Operand, operand_at};
 use crate::scope::Context;
-use crate::shape::{Shape, shape_of};
 use rc_instr::{Instruction, default_modifier};
 use rc_text::{EvalFault, Token};
 
@@ -16,25 +16,25 @@ use rc_text::{EvalFault, Token};
 pub(crate) fn instruction_at(
     source: &[u8],
     context: &Context,
-    address: Address,
+    address: LineAddress,
     tokens: &[Token],
 ) -> Result<Instruction, AsmKind>
     ensures { result ≡ instruction_at source.now (seen_names context.now) address.number tokens.now }
 {
-    let shape = shape_of(source, tokens)?;
-    let instruction = instruction_of_shape(source, context, address, &shape)?;
+    let form = form_of(source, tokens)?;
+    let instruction = instruction_of_form(source, context, address, &form)?;
     Ok(instruction)
 }
 
 #[tactic(auto, unfolding(crate::specs::Instructions::instruction_of_parts))]
-fn instruction_of_parts(shape: &Shape, a: Operand, b: Operand) -> Instruction
-    ensures { result ≡ instruction_of_parts (seen_shape shape.now) a b }
+fn instruction_of_parts(form: &Form, a: Operand, b: Operand) -> Instruction
+    ensures { result ≡ instruction_of_parts (seen_form form.now) a b }
 {
     Instruction {
-        opcode: shape.opcode,
-        modifier: match shape.modifier {
+        opcode: form.opcode,
+        modifier: match form.modifier {
             Some(modifier) => modifier,
-            None => default_modifier(shape.opcode, a.mode, b.mode),
+            None => default_modifier(form.opcode, a.mode, b.mode),
         },
         a_mode: a.mode,
         a_number: a.number,
@@ -44,16 +44,16 @@ fn instruction_of_parts(shape: &Shape, a: Operand, b: Operand) -> Instruction
 }
 
 // Evaluates the A-operand first: its fault comes before the B-operand's.
-#[tactic(auto, unfolding(crate::specs::Instructions::instruction_of_shape))]
-fn instruction_of_shape(
+#[tactic(auto, unfolding(crate::specs::Instructions::instruction_of_form))]
+fn instruction_of_form(
     source: &[u8],
     context: &Context,
-    address: Address,
-    shape: &Shape,
+    address: LineAddress,
+    form: &Form,
 ) -> Result<Instruction, EvalFault>
-    ensures { result ≡ instruction_of_shape source.now (seen_names context.now) address.number (seen_shape shape.now) }
+    ensures { result ≡ instruction_of_form source.now (seen_names context.now) address.number (seen_form form.now) }
 {
-    let a = operand_at(source, context, address, shape.sides.a)?;
-    let b = operand_at(source, context, address, shape.sides.b)?;
-    Ok(instruction_of_parts(shape, a, b))
+    let a = operand_at(source, context, address, form.operands.a)?;
+    let b = operand_at(source, context, address, form.operands.b)?;
+    Ok(instruction_of_parts(form, a, b))
 }

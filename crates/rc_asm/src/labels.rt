@@ -10,9 +10,9 @@ use rc_text::Token;
 use std::alloc::{AllocError, Global};
 use std::marker::Model;
 
-// An address: the number of lines of code before a line.
+// The address of a line: the number of lines of code before it.
 #[derive(Clone, Copy, Debug)]
-pub(crate) struct Address {
+pub(crate) struct LineAddress {
     pub(crate) number: usize,
     ghost small: { number < 2 ^ 63 },
 }
@@ -20,7 +20,7 @@ pub(crate) struct Address {
 // The labels of a text with their addresses.
 #[derive(Drop)]
 pub(crate) struct Labels<'a> {
-    table: NameTable<'a, Address>,
+    table: NameTable<'a, LineAddress>,
 }
 
 impl<'a> Model for Labels<'a> {
@@ -52,7 +52,7 @@ impl<'a> Labels<'a> {
         let mut rest = tokens;
         while let Some((token, after)) = rest.split_first() {
             self.table
-                .add(alloc, source, token, Address { number: address })?;
+                .add(alloc, source, token, LineAddress { number: address })?;
             rest = after;
         }
         Ok(())
@@ -79,7 +79,7 @@ impl<'a> Labels<'a> {
         Ok(labels)
     }
 
-    pub(crate) fn address_of(&self, source: &[u8], token: &Token) -> Option<Address>
+    pub(crate) fn address_of(&self, source: &[u8], token: &Token) -> Option<LineAddress>
         ensures { option_map (λ address. address.number) result ≡ entry_of self.now (name_of source.now token.now) }
     {
         let address = self.table.get(source, token)?;

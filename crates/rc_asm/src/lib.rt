@@ -3,6 +3,7 @@
 
 mod assembler;
 mod fault;
+mod form;
 mod forms;
 mod instruction;
 mod labels;
@@ -11,7 +12,6 @@ pub mod limits;
 mod operand;
 mod reading;
 mod scope;
-mod shape;
 mod starts;
 mod word;
 

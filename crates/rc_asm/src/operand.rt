@@ -2,12 +2,13 @@
 ghost use Rattle.std.specs.Prelude.{◌≡◌, option_map};
 ghost use Rattle.rc_instr.specs.Rules.{IsCoreSize};
 ghost use Rattle.rc_instr.specs.Results.{mapped};
+ghost use Rattle.rc_asm.specs.declared.scope.LabelsAs.TheVariants.{Distances};
 ghost use Rattle.rc_asm.specs.Names.{value_at};
 ghost use Rattle.rc_asm.specs.Instructions.{core_number, operand, operand_at};
 ghost use Rattle.rc_asm.specs.Seen.{seen_names};
 
-use crate::labels::Address;
-use crate::scope::{Context, value_at};
+use crate::labels::LineAddress;
+use crate::scope::{Context, LabelsAs, value_at};
 use crate::word::mode_in;
 use rc_instr::Mode;
 use rc_text::{EvalFault, Token};
@@ -25,7 +26,7 @@ pub(crate) struct Operand {
 pub(crate) fn operand_at(
     source: &[u8],
     context: &Context,
-    address: Address,
+    address: LineAddress,
     part: Option<&[Token]>,
 ) -> Result<Operand, EvalFault>
     ensures { result ≡ operand_at source.now (seen_names context.now) address.number (option_map (λ p. p.now) part.entry) }
@@ -54,18 +55,18 @@ fn core_number(value: i64, core: u32) -> u16
     value.rem_euclid(i64::from(core)) as u16
 }
 
-// Evaluates `tokens` as the number of an operand. Labels count from the line itself.
+// Evaluates `tokens` as the number of an operand.
 #[inline(always)]
 fn with_value(
     source: &[u8],
     context: &Context,
-    address: Address,
+    address: LineAddress,
     mode: Mode,
     tokens: &[Token],
 ) -> Result<Operand, EvalFault>
-    ensures { result ≡ mapped (operand context.now.given.now.rules.now.core mode) (value_at source.now (seen_names context.now) address.number address.number tokens.now) }
+    ensures { result ≡ mapped (operand context.now.given.now.rules.now.core mode) (value_at source.now (seen_names context.now) address.number Distances tokens.now) }
 {
-    let value = value_at(source, context, address, address, tokens)?;
+    let value = value_at(source, context, address, LabelsAs::Distances, tokens)?;
     Ok(Operand {
         mode,
         number: core_number(value, context.given.rules.core()),

@@ -8,8 +8,8 @@ ghost use Rattle.rc_asm.specs.Seen.{seen_names, seen_reading};
 
 use crate::fault::{AsmFault, AsmKind, at_line};
 use crate::instruction::instruction_at;
-use crate::labels::Address;
-use crate::scope::{Context, value_at};
+use crate::labels::LineAddress;
+use crate::scope::{Context, LabelsAs, value_at};
 use crate::starts::Starts;
 use rc_expand::{Line, LineWord};
 use rc_instr::Instruction;
@@ -53,7 +53,7 @@ fn read_line(
 ) -> Result<(), AsmFault>
     ensures { Returns (λ _. seen_reading reading.new) result (after_line source.now (seen_names context.now) line.now (seen_reading reading.old)) }
 {
-    let address = Address {
+    let address = LineAddress {
         number: reading.code.len(),
     };
     match line.word {
@@ -89,7 +89,7 @@ fn read_line(
 fn line_instruction(
     source: &[u8],
     context: &Context,
-    address: Address,
+    address: LineAddress,
     line: &Line,
 ) -> Result<Instruction, AsmFault>
     ensures { result ≡ with_fault (at_line line.now.number) (instruction_at source.now (seen_names context.now) address.number line.now.tokens) }
@@ -100,11 +100,11 @@ fn line_instruction(
     }
 }
 
-// Evaluates the expression of the line at `address`. Labels stand for addresses, not for distances.
+// Evaluates the expression of a line at `address` that is not code.
 fn line_value(
     source: &[u8],
     context: &Context,
-    address: Address,
+    address: LineAddress,
     line: &Line,
 ) -> Result<i64, AsmFault>
     ensures { result ≡ with_fault (at_line line.now.number) (line_value source.now (seen_names context.now) address.number line.now.tokens) }
@@ -113,7 +113,7 @@ fn line_value(
         source,
         context,
         address,
-        Address { number: 0 },
+        LabelsAs::Addresses,
         line.tokens.as_slice(),
     ) {
         Ok(value) => Ok(value),

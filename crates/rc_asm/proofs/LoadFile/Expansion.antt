@@ -7,7 +7,7 @@ use Rattle.rc_instr.specs.Warrior.{WarriorView}
 use Rattle.rc_instr.specs.declared.instruction.Instruction.{Instruction}
 use Rattle.rc_text.specs.Gaps.{is_line_end}
 use Rattle.rc_expand.specs.Expansion.{IsExpansion}
-use Rattle.rc_expand.proofs.PlainHeads.{AnOpcode, AStart, PlainLine, HaveNoEnd, IsPlain, ArePlain, plain_tokens, plain_lines}
+use Rattle.rc_expand.proofs.PlainRawLines.{AnOpcode, AStart, PlainLine, HaveNoEnd, IsPlain, ArePlain, plain_tokens, plain_lines}
 use Rattle.rc_expand.proofs.PlainLines.{plain_expands}
 use Rattle.rc_asm.proofs.LoadFile.Printed.{AreNumber, Plain, Below, Row, row_tokens, rows_tokens, Opening, Printed, IsPrinted, ArePrinted, IsStart, IsPrint, printed_tokens, start_line, code_line, code_lines, printed_lines}
 

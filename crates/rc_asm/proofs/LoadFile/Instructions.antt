@@ -12,7 +12,7 @@ use Rattle.rc_text.specs.declared.token.Token.{Token}
 use Rattle.rc_text.specs.Values.{Meaning}
 use Rattle.rc_text.specs.Reading.{evaluation_of, before_operand, after_operand}
 use Rattle.rc_text.specs.Symbols.{Symbol, Numeral, Mark, symbol_of_kind, name_of, symbols_of}
-use Rattle.rc_expand.specs.Heads.Lines.{is_name_kind, is_dot, is_dot_kind, is_unjoined, bytes_of, into_first}
+use Rattle.rc_expand.specs.Read.Lines.{is_name_kind, is_dot, is_dot_kind, is_unjoined, bytes_of, into_first}
 use Rattle.rc_instr.specs.Words.{opcode_text, modifier_text, opcode_named, modifier_named}
 use Rattle.rc_instr.proofs.WordTable.{opcode_back, modifier_back}
 use Rattle.rc_instr.specs.declared.instruction.Opcode.{Opcode}
@@ -24,9 +24,10 @@ use Rattle.rc_asm.specs.declared.fault.AsmKind.TheVariants.{UnknownOpcode, Value
 use Rattle.rc_asm.specs.declared.operand.Operand.{Operand}
 use Rattle.rc_instr.specs.Results.{mapped, and_then, with_fault}
 use Rattle.rc_asm.specs.Words.{is_plain, opcode_in, modifier_in, mode_of, mode_of_kind, mode_in, is_comma, is_comma_kind}
-use Rattle.rc_asm.specs.Shape.{parts_from, parts, sides, sides_of, ShapeView, shape, with_operands, with_modifier, after_opcode, shape_of}
+use Rattle.rc_asm.specs.Form.{parts_from, parts, operand_tokens, operands_of, FormView, form, with_operands, with_modifier, after_opcode, form_of}
+use Rattle.rc_asm.specs.declared.scope.LabelsAs.TheVariants.{Distances}
 use Rattle.rc_asm.specs.Names.{NameValues, stands_for}
-use Rattle.rc_asm.specs.Instructions.{natural, core_number, operand, operand_after, operand_at, instruction_of_parts, instruction_of_shape, instruction_at}
+use Rattle.rc_asm.specs.Instructions.{natural, core_number, operand, operand_after, operand_at, instruction_of_parts, instruction_of_form, instruction_at}
 use Rattle.rc_asm.proofs.LoadFile.Printed.{mode_sign, IsWord, AreNumber, Plain, Below, Row, a_tokens, b_tokens, row_tokens, IsPrinted}
 
 -- ---- words
@@ -115,7 +116,7 @@ module _ (source : List ℕ) (names : NameValues) (address : ℕ) where
       → operand_at source names address (Some (sign ∷ ts)) ≡ Ok (record { mode = mode; number = n })
   unfolding operand_at
   operand_there n mode sign ts h l k t =
-      let v = number_there source (stands_for names address address) names.rules.core n ts h l t in
+      let v = number_there source (stands_for names address Distances) names.rules.core n ts h l t in
       ap (λ o. operand_after source names address o sign ts) (mode_there sign mode k)
       ∙ ap (mapped (operand names.rules.core mode)) v.there
       ∙ ap (λ x. Ok (record { mode = mode; number = x })) v.same
@@ -164,13 +165,13 @@ two_parts a as' c bs h k l = first_part (a ∷ as') c bs h k ∙ ap (λ ps. (a �
 
 module _ (source : List ℕ) (names : NameValues) (address : ℕ) (i : Instruction) (r : Row) (p : IsPrinted source names.rules.core i r) where
   -- the opcode, the modifier and both operands are written
-  abbrev printed_shape : ShapeView
-  printed_shape = shape i.opcode (Some i.modifier) (sides (Some (a_tokens r)) (Some (b_tokens r)))
+  abbrev printed_form : FormView
+  printed_form = form i.opcode (Some i.modifier) (operand_tokens (Some (a_tokens r)) (Some (b_tokens r)))
 
   -- the form of a printed line
-  shape_there : shape_of source (row_tokens r) ≡ Ok printed_shape
-  unfolding shape_of after_opcode with_modifier with_operands
-  shape_there =
+  form_there : form_of source (row_tokens r) ≡ Ok printed_form
+  unfolding form_of after_opcode with_modifier with_operands
+  form_there =
       let m = names.rules.core in
       let operands : List Token = a_tokens r ++ (r.comma ∷ b_tokens r) in
       let ca = number_no_comma m i.a_number r.a_number p.a_number in
@@ -180,14 +181,14 @@ module _ (source : List ℕ) (names : NameValues) (address : ℕ) (i : Instructi
       ap (λ o. and_then (λ o. after_opcode source o (r.dot ∷ r.modifier ∷ operands)) (ok_or o UnknownOpcode)) (opcode_there source r.opcode i.opcode p.opcode)
       ∙ ap (λ b. if b then with_modifier source i.opcode (r.modifier ∷ operands) else with_operands i.opcode None (r.dot ∷ r.modifier ∷ operands)) d
       ∙ ap (λ o. and_then (λ f. with_operands i.opcode (Some f) operands) (ok_or o UnknownOpcode)) (modifier_there source r.modifier i.modifier p.modifier)
-      ∙ ap (λ x. mapped (shape i.opcode (Some i.modifier)) (sides_of i.opcode x)) ps
+      ∙ ap (λ x. mapped (form i.opcode (Some i.modifier)) (operands_of i.opcode x)) ps
 
   -- the tokens of a printed instruction spell it
   pub instruction_there : names.rules.core ≤ 65535 → i.a_number < names.rules.core → i.b_number < names.rules.core → instruction_at source names address (row_tokens r) ≡ Ok i
-  unfolding instruction_at instruction_of_shape instruction_of_parts
+  unfolding instruction_at instruction_of_form instruction_of_parts
   instruction_there l a b =
-      let s = printed_shape in
+      let s = printed_form in
       let x : Operand = record { mode = i.a_mode; number = i.a_number } in
-      ap (and_then (λ s. with_fault Value (instruction_of_shape source names address s))) shape_there
+      ap (and_then (λ s. with_fault Value (instruction_of_form source names address s))) form_there
       ∙ ap (λ v. with_fault Value (and_then (λ o. mapped (instruction_of_parts s o) (operand_at source names address (Some (b_tokens r)))) v)) (operand_there source names address i.a_number i.a_mode r.a_sign r.a_number a l p.a_sign p.a_number)
       ∙ ap (λ v. with_fault Value (mapped (instruction_of_parts s x) v)) (operand_there source names address i.b_number i.b_mode r.b_sign r.b_number b l p.b_sign p.b_number)

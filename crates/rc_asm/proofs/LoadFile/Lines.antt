@@ -11,6 +11,7 @@ use Rattle.rc_instr.specs.Checks.{warrior_of}
 use Rattle.rc_instr.proofs.CheckSteps.{warrior_passes}
 use Rattle.rc_expand.specs.declared.line.LineWord.TheVariants.{Code, Org}
 use Rattle.rc_asm.specs.declared.fault.AsmKind.TheVariants.{Value, Warrior}
+use Rattle.rc_asm.specs.declared.scope.LabelsAs.TheVariants.{Addresses}
 use Rattle.rc_asm.specs.Names.{NameValues, stands_for, value_at}
 use Rattle.rc_asm.specs.Faults.{at_line}
 use Rattle.rc_asm.specs.Lines.{ReadingView, nothing_read, with_instruction, with_org, after_word, after_line, after_lines}
@@ -39,8 +40,8 @@ module _ (source : List ℕ) (names : NameValues) where
       )
 
   -- the value after ORG is the start
-  start_number : (start : ℕ) (o : Opening) → IsStart source start o → value_at source names 0 0 (o.number ∷ []) ≡ Ok (pos start)
-  start_number start o h = ap (λ k. evaluation_of (stands_for names 0 0) (symbol_of_kind k (name_of source o.number) ∷ [])) h.number ∙ plain_value (stands_for names 0 0) start
+  start_number : (start : ℕ) (o : Opening) → IsStart source start o → value_at source names 0 Addresses (o.number ∷ []) ≡ Ok (pos start)
+  start_number start o h = ap (λ k. evaluation_of (stands_for names 0 Addresses) (symbol_of_kind k (name_of source o.number) ∷ [])) h.number ∙ plain_value (stands_for names 0 Addresses) start
 
   -- the lines of a print make the warrior
   pub made_of_printed : (w : WarriorView) (p : Printed) → names.rules.core ≤ 65535 → IsWarrior w → Fits names.rules w → IsPrint source names.rules.core w p → outcome_of_lines source names (printed_lines p) ≡ Ok w

@@ -7,7 +7,7 @@ use Rattle.rc_text.specs.declared.token.Token.{Token}
 use Rattle.rc_text.specs.Tokens.{TokenList}
 use Rattle.rc_expand.specs.declared.line.LineWord.TheVariants.{Code, Org}
 use Rattle.rc_expand.specs.declared.line.Line.{Line}
-use Rattle.rc_expand.specs.Heads.Lines.{bytes_of}
+use Rattle.rc_expand.specs.Read.Lines.{bytes_of}
 use Rattle.rc_instr.specs.Words.{opcode_text, modifier_text}
 use Rattle.rc_instr.specs.Warrior.{WarriorView}
 use Rattle.rc_instr.specs.declared.instruction.Mode.{Mode}

@@ -1,5 +1,5 @@
 use Rattle.std.proofs.Common.{◌≡◌, length}
-use Rattle.rc_asm.specs.Faults.{forms_of}
+use Rattle.rc_asm.specs.Faults.{forms_check}
 use Rattle.rc_asm.proofs.forms.check_forms.Given as goal
 
 abbrev pub decreases-loop-line : goal.decreases-loop-line
@@ -7,4 +7,4 @@ decreases-loop-line l = length l.rest
 
 -- the lines that are left decide
 abbrev pub invariant-loop-line : goal.invariant-loop-line
-invariant-loop-line l = forms_of l.source l.lines ≡ forms_of l.source l.rest
+invariant-loop-line l = forms_check l.source l.lines ≡ forms_check l.source l.rest
