@@ -3,7 +3,6 @@
 ghost use Rattle.rc_instr.specs.Warrior.{Fits};
 
 pub(crate) mod expansion;
-mod faults;
 mod name_tables;
 
 use rc_asm::{AsmFault, AsmKind, assemble};

@@ -1,7 +1,6 @@
-//! Tests of `rc_instr`: instructions, load files, outlets, and the texts of faults.
+//! Tests of `rc_instr`: instructions, load files, and outlets.
 mod loadfiles;
 mod numbers;
 pub(crate) mod outlets;
 mod parts;
-pub(crate) mod texts;
 mod warriors;

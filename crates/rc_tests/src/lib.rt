@@ -1,5 +1,6 @@
 //! Tests of `rc_instr` (`instructions`), `rc_text` (`tokens`), and `rc_expand` and `rc_asm`
-//! (`assembly`); `memory` has those of calls that allocate.
+//! (`assembly`); `fault_texts` has what the faults of all four print, and `memory` the calls that
+//! allocate.
 //!
 //! They show that each public call can succeed, and what neither a clause says nor a run of the
 //! program shows, such as the texts of faults. What a run shows is a case in `gate/cases/`. They
@@ -9,6 +10,8 @@
 
 #[cfg(test)]
 mod assembly;
+#[cfg(test)]
+mod fault_texts;
 #[cfg(test)]
 mod instructions;
 #[cfg(test)]

@@ -10,38 +10,94 @@ use rc_instr::{LoadFault, Rules, WarriorError, read_loadfile, write_loadfile};
 use std::alloc::Global;
 use std::test::Fail;
 
-// Texts that are expanded and assembled, and the load files of their warriors.
-const SUM: &[u8] = b"s EQU 2+3\nDAT #0, #s*2\n";
+// A text, the lines that it expands to, and the load file of its warrior.
+struct Sample {
+    name: &'static str,
+    text: &'static [u8],
+    lines: &'static [u8],
+    load: &'static [u8],
+}
 
-const SUM_LOAD: &[u8] = b"ORG 0\nDAT.F #0, #8\n";
+const SAMPLES: [Sample; 4] = [
+    Sample {
+        name: "a sum",
+        text: b"s EQU 2+3\nDAT #0, #s*2\n",
+        lines: b"2: - DAT # 0 , # 2 + 3 * 2\n",
+        load: b"ORG 0\nDAT.F #0, #8\n",
+    },
+    Sample {
+        name: "a quotient is cut towards 0",
+        text: b"DAT #-7/2\n",
+        lines: b"1: - DAT # - 7 / 2\n",
+        load: b"ORG 0\nDAT.F $0, #-3\n",
+    },
+    Sample {
+        name: "copies of a block",
+        text: b"i FOR 2\nx&i DAT #i\nROF\nJMP x01\n",
+        lines: b"2 x01: - DAT # 1\n2 x02: - DAT # 2\n4: - JMP x01\n",
+        load: b"ORG 0\nDAT.F $0, #1\nDAT.F $0, #2\nJMP.B $-2, $0\n",
+    },
+    Sample {
+        name: "a text as it was posted",
+        text: b"From: a mail header\n;redcode-94\n;name Dwarf\n;author A. K. Dewdney\n;assert CORESIZE % 4 == 0\nstep EQU 4\n  ORG start\nbomb DAT #0, #0\nstart ADD #step, bomb\n  MOV bomb, @bomb\n  JMP start\n  END\n",
+        lines: b"5: ;assert CORESIZE % 4 == 0\n7: ORG start\n8 bomb: - DAT # 0 , # 0\n9 start: - ADD # 4 , bomb\n10: - MOV bomb , @ bomb\n11: - JMP start\n12: END\n",
+        load: b"ORG 1\nDAT.F #0, #0\nADD.AB #4, $-1\nMOV.I $-2, @-2\nJMP.B $-2, $0\n",
+    },
+];
 
-const QUOTIENT: &[u8] = b"DAT #-7/2\n";
+// Texts that have no expansion, and so no warrior, and their faults.
+const NOT_EXPANDED: [Case; 2] = [
+    Case {
+        name: "a FOR without a ROF",
+        text: b"FOR 3\n",
+        want: b"line 1: FOR without ROF",
+    },
+    Case {
+        name: "a decimal of more than 32 bits",
+        text: b"DAT 4294967296\n",
+        want: b"line 1: number above 4294967295",
+    },
+];
 
-const QUOTIENT_LOAD: &[u8] = b"ORG 0\nDAT.F $0, #-3\n";
-
-const COPIES: &[u8] = b"i FOR 2\nx&i DAT #i\nROF\nJMP x01\n";
-
-const COPIES_LOAD: &[u8] = b"ORG 0\nDAT.F $0, #1\nDAT.F $0, #2\nJMP.B $-2, $0\n";
-
-const POSTED: &[u8] =
-    b"From: a mail header\n;redcode-94\n;name Dwarf\n;author A. K. Dewdney\n;assert CORESIZE % 4 == 0\nstep EQU 4\n  ORG start\nbomb DAT #0, #0\nstart ADD #step, bomb\n  MOV bomb, @bomb\n  JMP start\n  END\n";
-
-const POSTED_LOAD: &[u8] = b"ORG 1\nDAT.F #0, #0\nADD.AB #4, $-1\nMOV.I $-2, @-2\nJMP.B $-2, $0\n";
-
-// Texts that are neither expanded nor assembled.
-const NO_ROF: Case = Case {
-    name: "a FOR without a ROF",
-    text: b"FOR 3\n",
-    want: b"line 1: FOR without ROF",
-};
-
-const LARGE_DECIMAL: Case = Case {
-    name: "a decimal of more than 32 bits",
-    text: b"DAT 4294967296\n",
-    want: b"line 1: number above 4294967295",
-};
-
-const LOADS: [&[u8]; 4] = [SUM_LOAD, QUOTIENT_LOAD, COPIES_LOAD, POSTED_LOAD];
+// Texts that are only assembled, and their load files or their faults. K is a constant with the
+// value 7.
+const ASSEMBLIES: [Case; 7] = [
+    Case {
+        name: "a constant",
+        text: b"DAT K, x*2\nx EQU K",
+        want: b"ORG 0\nDAT.F $7, $14\n",
+    },
+    Case {
+        name: "a MOV with one operand",
+        text: b"MOV 1\n",
+        want: b"line 1: missing operand",
+    },
+    Case {
+        name: "a division by 0",
+        text: b"DAT 1/0\n",
+        want: b"line 1: division by zero",
+    },
+    Case {
+        name: "a third operand",
+        text: b"MOV 1, 2, 3\n",
+        want: b"line 1: too many operands",
+    },
+    Case {
+        name: "a name that nothing defines",
+        text: b"DAT x\n",
+        want: b"line 1: unknown name",
+    },
+    Case {
+        name: "a sum of one number",
+        text: b"DAT 1 +\n",
+        want: b"line 1: invalid expression",
+    },
+    Case {
+        name: "a word that is not an opcode",
+        text: b"PIN 5\n",
+        want: b"line 1: unknown opcode or modifier",
+    },
+];
 
 // Reads a load file and appends it to `before`. Out of memory, which leaves that alone, is an
 // error.
@@ -59,10 +115,15 @@ fn appended(alloc: Global, load: &[u8]) -> Result<Vec<u8>, Fail> {
 
 #[test]
 fn write_loadfile_appends(rt: HostRuntime) -> Result<(), Fail> {
-    for &load in &LOADS {
+    for sample in &SAMPLES {
         let mut want = b"before\n".to_vec(rt.alloc())?;
-        want.extend_from_slice(load)?;
-        assert_eq!(rt; appended(rt.alloc(), load)?.as_slice(), want.as_slice());
+        want.extend_from_slice(sample.load)?;
+        assert_eq!(rt;
+            appended(rt.alloc(), sample.load)?.as_slice(),
+            want.as_slice(),
+            "{}",
+            sample.name
+        );
     }
     Ok(())
 }
@@ -115,35 +176,17 @@ fn read_loadfile_names_the_fault(rt: HostRuntime) -> Result<(), Fail> {
     Ok(())
 }
 
-// Texts, and their lines or their faults.
-const EXPANSIONS: [Case; 6] = [
-    Case {
-        name: "a sum",
-        text: SUM,
-        want: b"2: - DAT # 0 , # 2 + 3 * 2\n",
-    },
-    Case {
-        name: "a quotient",
-        text: QUOTIENT,
-        want: b"1: - DAT # - 7 / 2\n",
-    },
-    Case {
-        name: "copies of a block",
-        text: COPIES,
-        want: b"2 x01: - DAT # 1\n2 x02: - DAT # 2\n4: - JMP x01\n",
-    },
-    Case {
-        name: "a text as it was posted",
-        text: POSTED,
-        want: b"5: ;assert CORESIZE % 4 == 0\n7: ORG start\n8 bomb: - DAT # 0 , # 0\n9 start: - ADD # 4 , bomb\n10: - MOV bomb , @ bomb\n11: - JMP start\n12: END\n",
-    },
-    NO_ROF,
-    LARGE_DECIMAL,
-];
-
 #[test]
 fn expand_gives_the_lines(rt: HostRuntime) -> Result<(), Fail> {
-    for case in &EXPANSIONS {
+    for sample in &SAMPLES {
+        assert_eq!(rt;
+            lines_of(rt.alloc(), sample.text)?.as_slice(),
+            sample.lines,
+            "{}",
+            sample.name
+        );
+    }
+    for case in &NOT_EXPANDED {
         assert_eq!(rt;
             lines_of(rt.alloc(), case.text)?.as_slice(),
             case.want,
@@ -154,69 +197,24 @@ fn expand_gives_the_lines(rt: HostRuntime) -> Result<(), Fail> {
     Ok(())
 }
 
-// Texts, and their load files or their faults. K is a constant with the value 7.
-const ASSEMBLIES: [Case; 13] = [
-    Case {
-        name: "a sum",
-        text: SUM,
-        want: SUM_LOAD,
-    },
-    Case {
-        name: "a quotient is cut towards 0",
-        text: QUOTIENT,
-        want: QUOTIENT_LOAD,
-    },
-    Case {
-        name: "copies of a block",
-        text: COPIES,
-        want: COPIES_LOAD,
-    },
-    Case {
-        name: "a constant",
-        text: b"DAT K, x*2\nx EQU K",
-        want: b"ORG 0\nDAT.F $7, $14\n",
-    },
-    Case {
-        name: "a text as it was posted",
-        text: POSTED,
-        want: POSTED_LOAD,
-    },
-    Case {
-        name: "a MOV with one operand",
-        text: b"MOV 1\n",
-        want: b"line 1: missing operand",
-    },
-    Case {
-        name: "a division by 0",
-        text: b"DAT 1/0\n",
-        want: b"line 1: division by zero",
-    },
-    NO_ROF,
-    LARGE_DECIMAL,
-    Case {
-        name: "a third operand",
-        text: b"MOV 1, 2, 3\n",
-        want: b"line 1: too many operands",
-    },
-    Case {
-        name: "a name that nothing defines",
-        text: b"DAT x\n",
-        want: b"line 1: unknown name",
-    },
-    Case {
-        name: "a sum of one number",
-        text: b"DAT 1 +\n",
-        want: b"line 1: invalid expression",
-    },
-    Case {
-        name: "a word that is not an opcode",
-        text: b"PIN 5\n",
-        want: b"line 1: unknown opcode or modifier",
-    },
-];
-
 #[test]
 fn assemble_gives_the_warrior(rt: HostRuntime) -> Result<(), Fail> {
+    for sample in &SAMPLES {
+        assert_eq!(rt;
+            assembled(rt.alloc(), sample.text)?.as_slice(),
+            sample.load,
+            "{}",
+            sample.name
+        );
+    }
+    for case in &NOT_EXPANDED {
+        assert_eq!(rt;
+            assembled(rt.alloc(), case.text)?.as_slice(),
+            case.want,
+            "{}",
+            case.name
+        );
+    }
     for case in &ASSEMBLIES {
         assert_eq!(rt;
             assembled(rt.alloc(), case.text)?.as_slice(),

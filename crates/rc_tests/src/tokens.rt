@@ -339,28 +339,6 @@ fn counters_are_joined(rt: HostRuntime) {
 }
 
 #[test]
-fn faults_have_texts(rt: HostRuntime) -> Result<(), Fail> {
-    assert_eq!(rt;
-        format!(in rt.alloc(); "{}", LexFault::BadByte)?.as_str(),
-        "unexpected byte"
-    );
-    assert_eq!(rt;
-        format!(in rt.alloc(); "{}", LexFault::NumberTooLarge)?.as_str(),
-        "number above 4294967295"
-    );
-    for &(fault, want) in &[
-        (EvalFault::Syntax, "invalid expression"),
-        (EvalFault::UnknownName, "unknown name"),
-        (EvalFault::DivisionByZero, "division by zero"),
-        (EvalFault::Overflow, "result does not fit into 64 bits"),
-        (EvalFault::TooDeep, "more than 64 open parentheses"),
-    ] {
-        assert_eq!(rt; format!(in rt.alloc(); "{fault}")?.as_str(), want);
-    }
-    Ok(())
-}
-
-#[test]
 fn blanks_do_not_end_a_line_and_words_ignore_case(rt: HostRuntime) {
     for &byte in &[b' ', b'\t', b'\r'] {
         assert!(rt; is_blank(byte), "{byte}");

@@ -1,9 +1,9 @@
 //! Texts, and the lines that they expand to or their faults.
 
 use crate::assembly::{Case, one_name, push_times};
-use rc_expand::{Constants, ExpandFault, ExpandKind, Line, LineWord, expand, name_of};
+use rc_expand::{Constants, ExpandKind, Line, LineWord, expand, name_of};
 use rc_instr::Rules;
-use rc_text::{Kind, LexFault, Token};
+use rc_text::{Kind, Token};
 use std::alloc::Global;
 use std::test::Fail;
 
@@ -345,52 +345,6 @@ fn limits_hold(rt: HostRuntime) -> Result<(), Fail> {
             "{}",
             limit.name
         );
-    }
-    Ok(())
-}
-
-// Each kind of fault, and its text at line 3.
-const TEXTS: [(ExpandKind, &str); 11] = [
-    (
-        ExpandKind::Text(LexFault::BadByte),
-        "line 3: unexpected byte",
-    ),
-    (ExpandKind::DuplicateName, "line 3: name already defined"),
-    (ExpandKind::ForWithoutRof, "line 3: FOR without ROF"),
-    (ExpandKind::RofWithoutFor, "line 3: ROF without FOR"),
-    (
-        ExpandKind::ForTooDeep,
-        "line 3: more than 8 nested FOR blocks",
-    ),
-    (
-        ExpandKind::EquTooDeep,
-        "line 3: EQU names nested more than 16 deep",
-    ),
-    (
-        ExpandKind::CountRefused,
-        "line 3: FOR count has no value, or is above 4096",
-    ),
-    (
-        ExpandKind::TooManyLines,
-        "line 3: more than 4096 lines and copies in the expansion",
-    ),
-    (ExpandKind::OutOfMemory, "line 3: out of memory"),
-    (
-        ExpandKind::BadDirective,
-        "line 3: malformed or misplaced directive",
-    ),
-    (
-        ExpandKind::TooManyTokens,
-        "line 3: more than 4096 tokens or EQU replacements in a line",
-    ),
-];
-
-#[test]
-fn faults_have_texts(rt: HostRuntime) -> Result<(), Fail> {
-    for &(kind, want) in &TEXTS {
-        let found = ExpandFault { line: 3, kind };
-        let text = format!(in rt.alloc(); "{found}")?;
-        assert_eq!(rt; text.as_str(), want);
     }
     Ok(())
 }
