@@ -19,7 +19,7 @@ use Rattle.rc_expand.specs.Limits.{MOST_JOINED, MOST_TOKENS, MOST_REPLACEMENTS, 
 use Rattle.rc_instr.specs.Results.{mapped, and_then}
 use Rattle.rc_expand.specs.Names.{Table, GivenNamesView, entry_of, is_taken}
 use Rattle.rc_expand.specs.Contexts.{ContextView}
-use Rattle.rc_expand.specs.Read.{text_lines, equ_token, with_equ, equs_after_line, equs_from, equs_of, first_pass_of_blocks, first_pass}
+use Rattle.rc_expand.specs.Read.{text_lines, equ_token, with_equ_name, equs_after_line, equs_from, equs_of, first_pass_of_blocks, first_pass}
 use Rattle.rc_expand.specs.Read.Faults.{text_fault}
 use Rattle.rc_expand.specs.Read.Tree.{BlockTree, NoLine, OneLine, Block, Parts, line_before, rof_before, for_before, parts_by, parts_from, blocks_of}
 use Rattle.rc_expand.specs.Read.Lines.{choose, is_free, is_colon, has_modifier, label_token, label_split, line_with_word, line_after_labels, raw_line_of, word_of, line_of_tokens, has_end, up_to_end, lines_unless_fault, lines_from, bare_line, is_name_token}
@@ -170,13 +170,12 @@ module _ (source : List ℕ) where
   parts_in (h ∷ hs) n line i = by_word_in h.word h n line (λ m l. parts_from hs m l) i.0 (λ m l. parts_in hs m l i.1)
 
   module _ (given : GivenNamesView) where
-    one_equ : (h : RawLine) (equs : Equs) (o : Option Token) → IsIn h → Bodies equs → IfOk (with_equ source given h equs o) Bodies
-    one_equ h equs None i j = tt
-    one_equ h equs (Some t) i j =
+    one_equ : (h : RawLine) (equs : Equs) (t : Token) → IsIn h → Bodies equs → IfOk (with_equ_name source given h equs t) Bodies
+    one_equ h equs t i j =
         either (λ r. IfOk r Bodies) (is_taken given (name_of source t) || is_some (entry_of equs (name_of source t))) _ _ tt (both (λ e. Ls e.1.tokens) equs _ j (i.rest, tt))
 
     with_equ_in : (w : RawWord) (h : RawLine) (equs : Equs) → IsIn h → Bodies equs → IfOk (equs_after_line source given w h equs) Bodies
-    with_equ_in word.Equ h equs i j = one_equ h equs (equ_token source h.labels) i j
+    with_equ_in word.Equ h equs i j = after_any Bodies (with_equ_name source given h equs) (equ_token source h) (λ t. one_equ h equs t i j)
     with_equ_in _ h equs i j = j
 
     equs_in : (b : BlockTree) (equs : Equs) → TreeIn b → Bodies equs → IfOk (equs_from source given b equs) Bodies

@@ -3,7 +3,7 @@ pub mod Lines
 pub mod Tree
 pub mod Nesting
 pub mod Faults
-use Rattle.std.specs.Prelude.{ℕ, ◌||◌, List, [], ◌∷◌, ◌++◌, Option, Some, None, if◌then◌else◌, is_some, Result, Ok, Err}
+use Rattle.std.specs.Prelude.{ℕ, ◌||◌, List, [], ◌∷◌, ◌++◌, Option, Some, None, if◌then◌else◌, is_some, ok_or, Result, Ok, Err}
 use Rattle.rc_text.specs.declared.token.Token.{Token}
 use Rattle.rc_text.specs.Symbols.{name_of}
 use Rattle.rc_text.specs.Tokens.{tokens_of}
@@ -30,23 +30,29 @@ module _ (source : List ℕ) where
   abbrev pub text_lines : Result (List RawLine) ExpandFault
   text_lines = lines_from source (text_fault source) [] (tokens_of source).tokens
 
+  -- The only label, if there is one alone and it is a plain name.
+  abbrev pub only_name : List (List Token) → Option Token
+  only_name (l ∷ []) = plain_token source l
+  only_name _ = None
+
   -- EQU needs exactly one plain name before it.
-  abbrev pub equ_token : List (List Token) → Option Token
-  equ_token (l ∷ []) = plain_token source l
-  equ_token _ = None
+  abbrev pub equ_token : RawLine → Result Token ExpandFault
+  equ_token raw = ok_or (only_name raw.labels) (at_line raw.number BadDirective)
 
   module _ (given : GivenNamesView) where
-    -- An EQU line defines a name, which must not be a constant, a predefined name or an EQU name of
-    -- a line before it.
-    abbrev pub with_equ : RawLine → Equs → Option Token → Result Equs ExpandFault
-    with_equ raw equs None = Err (at_line raw.number BadDirective)
-    with_equ raw equs (Some t) =
+    -- The name of an EQU line must not be a constant, a predefined name or an EQU name of a line
+    -- before it.
+    abbrev pub with_equ_name : RawLine → Equs → Token → Result Equs ExpandFault
+    with_equ_name raw equs t =
         if is_taken given (name_of source t) || is_some (entry_of equs (name_of source t)) then Err (at_line raw.number DuplicateName) else
         Ok (equs ++ ((name_of source t, record { tokens = raw.rest; line = raw.number }) ∷ []))
 
+    abbrev pub with_equ : RawLine → Equs → Result Equs ExpandFault
+    with_equ raw equs = equ_token raw >>= with_equ_name raw equs
+
     -- A line outside blocks may be an EQU line.
     abbrev pub equs_after_line : RawWord → RawLine → Equs → Result Equs ExpandFault
-    equs_after_line word.Equ raw equs = with_equ raw equs (equ_token raw.labels)
+    equs_after_line word.Equ raw equs = with_equ raw equs
     equs_after_line _ raw equs = Ok equs
 
     abbrev pub equs_from : BlockTree → Equs → Result Equs ExpandFault

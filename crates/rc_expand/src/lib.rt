@@ -1,7 +1,8 @@
 //! Expansion of Redcode: to lines without EQU names, FOR blocks and joined names.
 //!
 //! It goes in three passes, each over the whole text: `read` reads the lines, `unroll` copies the
-//! lines of blocks, and `replace` puts the tokens of EQU names in place.
+//! lines of blocks, and `replace` puts the tokens of EQU names in place. `expander` runs them one
+//! after the other, and `context` is what the last two share.
 #![tactic(auto)]
 
 mod constants;

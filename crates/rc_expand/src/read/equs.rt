@@ -1,8 +1,8 @@
 //! EQU lines: the table of EQU names and their tokens.
-ghost use Rattle.std.specs.Prelude.{◌≡◌, ◌≢◌, [], ◌∷◌, ◌++◌, false, is_some, option_map, All, IfOk, MatchResult, Some, None, Ok, Err};
-ghost use Rattle.rc_expand.specs.declared.fault.ExpandKind.TheVariants.{BadDirective};
+ghost use Rattle.std.specs.Prelude.{◌≡◌, ◌≢◌, [], ◌∷◌, ◌++◌, false, is_some, option_map, All, IfOk};
 ghost use Rattle.rc_text.specs.Symbols.{name_of};
-ghost use Rattle.rc_expand.specs.Results.{Returns, at_line};
+ghost use Rattle.rc_instr.specs.Results.{mapped};
+ghost use Rattle.rc_expand.specs.Results.{Returns};
 ghost use Rattle.rc_expand.specs.Read.{equ_token, equs_of, equs_after_line, with_equ};
 ghost use Rattle.rc_expand.specs.Read.Tree.{tree_of};
 ghost use Rattle.rc_expand.specs.Contexts.{seen_given_names};
@@ -92,7 +92,7 @@ fn read_equ(
     equs: &NameTable<Equ>,
     raw: &RawLine,
 ) -> Result<(KeptName<'static>, Equ), ExpandFault>
-    ensures equ { Returns (λ e. equs.now ++ (e ∷ [])) result (with_equ source.now (seen_given_names names.now) raw.now equs.now (equ_token source.now raw.now.labels)) }
+    ensures equ { Returns (λ e. equs.now ++ (e ∷ [])) result (with_equ source.now (seen_given_names names.now) raw.now equs.now) }
     ensures new { IfOk result (λ e. is_some (entry_of equs.now e.0) ≡ false) }
 {
     let token = equ_token(source, raw)?;
@@ -107,7 +107,7 @@ fn read_equ(
 
 // Returns the name before EQU. `BadDirective` unless it is the only label, written without `&`.
 fn equ_token<'a>(source: &[u8], raw: &'a RawLine) -> Result<&'a Token, ExpandFault>
-    ensures token { MatchResult result (λ t. equ_token source.now raw.now.labels ≡ Some t.now) (λ e. (equ_token source.now raw.now.labels ≡ None) × (e ≡ at_line raw.now.number BadDirective)) }
+    ensures token { mapped (λ t. t.now) result ≡ equ_token source.now raw.now }
     ensures written { IfOk result (λ t. t.now.joined ≡ []) }
 {
     let plain = match raw.labels.as_slice() {

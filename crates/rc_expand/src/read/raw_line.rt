@@ -8,6 +8,49 @@ use rc_text::Token;
 use std::alloc::{AllocError, Global};
 use std::marker::Model;
 
+// A line as it is read or copied. `directive` is the token of a directive, and `rest` comes after
+// it; in a line of code `rest` begins with the opcode.
+#[derive(Debug, Drop)]
+pub(crate) struct RawLine {
+    pub number: u64,
+    pub labels: Labels,
+    pub word: RawWord,
+    pub directive: Option<Token>,
+    pub rest: Tokens,
+    // Set if a ninth counter was to be joined to a name of the line. Its labels and `rest` are then
+    // empty.
+    pub spoiled: bool,
+}
+
+impl RawLine {
+    // Makes a line that has labels alone.
+    pub(crate) fn bare(alloc: Global, number: u64, labels: Labels) -> RawLine
+        ensures { result ≡ bare_line number labels }
+    {
+        RawLine {
+            number,
+            labels,
+            word: RawWord::Bare,
+            directive: None,
+            rest: Tokens::from_vec(Vec::new(alloc)),
+            spoiled: false,
+        }
+    }
+}
+
+// The word of a line: nothing (`Bare`), a directive, or anything else (`Code`).
+#[derive(Clone, Copy, Debug, PartialEq, Eq)]
+pub(crate) enum RawWord {
+    Bare,
+    Code,
+    Org,
+    End,
+    Assert,
+    Equ,
+    For,
+    Rof,
+}
+
 // Labels in order, each by its tokens: names joined by `&`, perhaps with a colon.
 #[derive(Debug, Drop)]
 pub(crate) struct Labels {
@@ -44,49 +87,6 @@ impl Labels {
         ensures { result.now ≡ self.now }
     {
         self.labels.as_slice()
-    }
-}
-
-// The word of a line: nothing (`Bare`), a directive, or anything else (`Code`).
-#[derive(Clone, Copy, Debug, PartialEq, Eq)]
-pub(crate) enum RawWord {
-    Bare,
-    Code,
-    Org,
-    End,
-    Assert,
-    Equ,
-    For,
-    Rof,
-}
-
-// A line as it is read or copied. `directive` is the token of a directive, and `rest` comes after
-// it; in a line of code `rest` begins with the opcode.
-#[derive(Debug, Drop)]
-pub(crate) struct RawLine {
-    pub number: u64,
-    pub labels: Labels,
-    pub word: RawWord,
-    pub directive: Option<Token>,
-    pub rest: Tokens,
-    // Set if a ninth counter was to be joined to a name of the line. Its labels and `rest` are then
-    // empty.
-    pub spoiled: bool,
-}
-
-impl RawLine {
-    // Makes a line that has labels alone.
-    pub(crate) fn bare(alloc: Global, number: u64, labels: Labels) -> RawLine
-        ensures { result ≡ bare_line number labels }
-    {
-        RawLine {
-            number,
-            labels,
-            word: RawWord::Bare,
-            directive: None,
-            rest: Tokens::from_vec(Vec::new(alloc)),
-            spoiled: false,
-        }
     }
 }
 
