@@ -1,6 +1,5 @@
 //! Instructions whose opcode, modifier and modes are known at compile time.
 ghost use Rattle.std.specs.Prelude.{◌<◌, ◌≤◌, ◌+◌};
-ghost use Rattle.rc_instr.specs.Warrior.{IsBelow};
 ghost use Rattle.mars_core.specs.Classes.{IsCoded};
 ghost use Rattle.mars_core.specs.Codes.{opcode_of, modifier_of, mode_of};
 ghost use Rattle.mars_core.specs.Core.{IsCore};

@@ -1,8 +1,8 @@
-//! Instructions of which only the modes are known at compile time, by the second 64 classes.
+//! Instructions of which only the modes are known at compile time, by the classes of modes.
 ghost use Rattle.std.specs.Prelude.{◌<◌, ◌≤◌, ◌+◌, ◌/◌, ◌%◌};
 ghost use Rattle.rc_instr.specs.Warrior.{IsBelow};
-ghost use Rattle.mars_core.specs.Classes.{IsClassOf, IsModed};
-ghost use Rattle.mars_core.specs.Codes.{opcode_of, modifier_of};
+ghost use Rattle.mars_core.specs.Classes.{first_of_modes, IsClassOf, IsModed};
+ghost use Rattle.mars_core.specs.Codes.{code_count, opcode_of, modifier_of};
 ghost use Rattle.mars_core.specs.Core.{IsCore};
 ghost use Rattle.mars_core.specs.Evaluated.{seen_operand};
 ghost use Rattle.mars_core.specs.Executed.{IsFetched, IsExecuted, IsInside, AreEvaluated, IsActed};
@@ -27,7 +27,7 @@ pub(crate) fn execute_by_modes<C: Cells, const PLACE: u64>(
 ) -> Executed
     requires fetched { IsFetched size (C.items cells.old) pc (C.Kept.held cell) }
     requires class { IsClassOf (C.Kept.held cell) class }
-    requires modes { 64 ≤ class }
+    requires modes { first_of_modes ≤ class }
     ensures executed { IsExecuted size (C.items cells.old) pc (C.items cells.new) result.jump result.queued }
     ensures marks { C.marks cells.new ≤ C.marks cells.old + 3 }
 {
@@ -53,7 +53,7 @@ fn operands<C: Cells, const PLACE: u64>(
     requires pc { pc < size }
     requires below { IsBelow size (C.Kept.held cell) }
     requires class { IsClassOf (C.Kept.held cell) class }
-    requires modes { 64 ≤ class }
+    requires modes { first_of_modes ≤ class }
     ensures evaluated { AreEvaluated size (C.items cells.old) pc (C.Kept.held cell) (seen_operand C.Kept.held result.0) (seen_operand C.Kept.held result.1) (C.items cells.new) }
     ensures marks { C.marks cells.new ≤ C.marks cells.old + 2 }
 {
@@ -158,7 +158,7 @@ fn act_by_code<C: Cells, const PLACE: u64>(
     a: Evaluated<C::Kept>,
     b: Evaluated<C::Kept>,
 ) -> Queued
-    requires code { code < 128 }
+    requires code { code < code_count }
     requires core { IsCore size (C.items cells.old) }
     requires a { IsInside size (seen_operand C.Kept.held a) }
     requires b { IsInside size (seen_operand C.Kept.held b) }
