@@ -169,7 +169,7 @@ def fastest(play, repeats):
 def best_rates(players, fight, runs):
     """Returns each player's best turns per second.
 
-    The players play by turns, so that a busy moment affects both.
+    The players alternate, so that a busy moment affects both.
     """
     prepared = [player.prepare(fight) for player in players]
     repeats = [max(1, math.ceil(SHORTEST / play())) for play, _ in prepared]
@@ -226,7 +226,7 @@ def print_short(players, fights, runs, folder):
 def fastest_texts(program, runs):
     """Returns the least seconds and the instructions of each text, and the start's seconds.
 
-    The texts are assembled by turns, so that a busy moment affects all.
+    The texts alternate, so that a busy moment affects all.
     """
     with tempfile.TemporaryDirectory() as folder:
         smallest = pathlib.Path(folder) / "smallest.red"
