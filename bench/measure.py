@@ -11,7 +11,7 @@ from author.lib.endings import Fault, number_from, run_tool
 from author.lib.program import Rules, add_program, module_parser, program_of
 from pmars.games import Game
 
-from .pairs import means, print_pairs, processor_time
+from .pairs import mean_and_least, print_folders, processor_time
 
 HERE = pathlib.Path(__file__).resolve().parent
 # The result line that each fight must give.
@@ -47,7 +47,7 @@ COUNTS = [("runs", 1, 10, "fight"), ("series", 0, 3, "series beside pMARS"),
           ("short", 0, 3, "short fight"), ("texts", 0, 200, "text"), ("tunings", 0, 3, "tuning")]
 
 
-class Fight:
+class FightText:
     """A fight text, taken apart so that pMARS can play it too. The candidate moves first."""
 
     def __init__(self, path):
@@ -70,7 +70,10 @@ class Fight:
 
 
 class Cwtune:
-    """The program of this repository: reads a fight text, prints a result line."""
+    """The program of this repository: reads a fight text, prints a result line.
+
+    `Pmars` has the same methods: the two are the players that are compared.
+    """
 
     def __init__(self, program):
         self.program = [program]
@@ -166,7 +169,7 @@ def fastest(play, repeats):
 def best_rates(players, fight, runs):
     """Returns each player's best turns per second.
 
-    The players take turns, so that a busy moment affects both.
+    The players alternate, so that a busy moment affects both.
     """
     prepared = [player.prepare(fight) for player in players]
     repeats = [max(1, math.ceil(SHORTEST / play())) for play, _ in prepared]
@@ -185,6 +188,22 @@ def rate(turns, seconds, start):
         took = f"{turns} turns took {seconds:.6f} s, the start alone {start:.6f} s"
         raise Fault(f"{took}: too short to tell", 3)
     return turns / (seconds - start)
+
+
+def print_fights(players, fights, runs):
+    """Prints a line per fight: turns per second, and beside pMARS the mean and the least ratio."""
+    heads = f"{'pMARS':>10}{'ratio':>8}" if len(players) > 1 else ""
+    print(f"{'fight':<14}{'turns':>10}{'M turns/s':>12}{heads}", flush=True)
+    ratios = []
+    for fight in fights:
+        rates = best_rates(players, fight, runs)
+        line = f"{fight.name:<14}{fight.turns:>10}{rates[0] / 1e6:>12.1f}"
+        if len(rates) > 1:
+            ratios.append(rates[0] / rates[1])
+            line += f"{rates[1] / 1e6:>10.1f}{ratios[-1]:>8.2f}"
+        print(line, flush=True)
+    if ratios:
+        print(mean_and_least(ratios))
 
 
 def print_short(players, fights, runs, folder):
@@ -207,7 +226,7 @@ def print_short(players, fights, runs, folder):
 def fastest_texts(program, runs):
     """Returns the least seconds and the instructions of each text, and the start's seconds.
 
-    The texts take turns, so that a busy moment affects all.
+    The texts alternate, so that a busy moment affects all.
     """
     with tempfile.TemporaryDirectory() as folder:
         smallest = pathlib.Path(folder) / "smallest.red"
@@ -266,22 +285,6 @@ def print_tuning(program, runs):
         print(f"{name:<14}{settings:>10}{settings / seconds:>12.1f}", flush=True)
 
 
-def print_fights(players, fights, runs):
-    """Prints a line per fight: turns per second, and beside pMARS the mean and the least ratio."""
-    heads = f"{'pMARS':>10}{'ratio':>8}" if len(players) > 1 else ""
-    print(f"{'fight':<14}{'turns':>10}{'M turns/s':>12}{heads}", flush=True)
-    ratios = []
-    for fight in fights:
-        rates = best_rates(players, fight, runs)
-        line = f"{fight.name:<14}{fight.turns:>10}{rates[0] / 1e6:>12.1f}"
-        if len(rates) > 1:
-            ratios.append(rates[0] / rates[1])
-            line += f"{rates[1] / 1e6:>10.1f}{ratios[-1]:>8.2f}"
-        print(line, flush=True)
-    if ratios:
-        print(means(ratios))
-
-
 def make_parser():
     parser = module_parser("bench.measure", __doc__)
     add_program(parser)
@@ -300,9 +303,9 @@ def main():
     # be given the same ones.
     os.sched_setaffinity(0, {min(os.sched_getaffinity(0))})
     if pmars and asked.series:
-        print_pairs(program, pmars, asked.series)
+        print_folders(program, pmars, asked.series)
         print()
-    fights = [Fight(HERE / "fights" / f"{name}.fight") for name in EXPECTED]
+    fights = [FightText(HERE / "fights" / f"{name}.fight") for name in EXPECTED]
     with tempfile.TemporaryDirectory() as folder:
         players = [Cwtune(program)] + ([Pmars(pmars, folder)] if pmars else [])
         print_fights(players, fights, asked.runs)

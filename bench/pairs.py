@@ -14,30 +14,31 @@ HERE = pathlib.Path(__file__).resolve().parent
 # In each folder, each warrior fights each other one.
 FOLDERS = {"examples": HERE.parent / "examples" / "warriors", "seen": HERE / "seen",
            "unseen": HERE / "unseen"}
-# How many fights a series has at least and at most, and the position of the first.
-FEWEST, MOST, SEED = 60, 10_000, 3000
-# A series has as many fights as pMARS plays in this many seconds, so that starts do not count.
-FULL = 1.0
+# A series has as many fights as pMARS plays in SECONDS, so that starts do not count, but at least
+# FEWEST and at most MOST.
+SECONDS, FEWEST, MOST = 1.0, 60, 10_000
+# The SEED of `cwtune-series`: the position of its first fight.
+SEED = 3000
 
 
 class Pair:
-    """Two warriors, each a name and a load file, and the commands that play their series.
+    """Two warriors, each a name and a load file, and what is measured of their series.
 
-    `best` has the least seconds of each program, `points` the candidate's points, `ties` how many
-    fights are ties, and `unclassed` the share of the turns of the first fight whose instruction has
-    no class of its own.
+    `cwtune_seconds` and `pmars_seconds` are the least that each program took, `points` the
+    candidate's points, `ties` how many fights are ties, and `unclassed` the share of the turns of
+    the first fight whose instruction has no class of its own.
     """
 
     def __init__(self, candidate, opponent, programs, folder):
-        (mine, my_load), (theirs, their_load) = candidate, opponent
-        self.name = f"{mine}:{theirs}"
-        self.best, self.points, self.ties = [math.inf, math.inf], None, None
+        (my_name, my_load), (their_name, their_load) = candidate, opponent
+        self.name = f"{my_name}:{their_name}"
+        self.cwtune_seconds, self.pmars_seconds = math.inf, math.inf
+        self.points, self.ties = None, None
         cwtune, pmars = map(str, programs)
         game = Game(Rules(), my_load, their_load, tempfile.mkdtemp(dir=folder))
-        seconds, _ = processor_time(game.series_words(pmars, SEED, FEWEST))
-        self.fights = min(MOST, max(FEWEST, int(FEWEST * FULL / max(seconds, 1e-3))))
-        self.tune = game.tune_words(cwtune, fights_of(game.rules, SEED, self.fights))
-        self.pmars = game.series_words(pmars, SEED, self.fights)
+        self.fights = series_length(game, pmars)
+        self.tune_words = game.tune_words(cwtune, fights_of(game.rules, SEED, self.fights))
+        self.pmars_words = game.series_words(pmars, SEED, self.fights)
         fight = plain_machine.Fight(game.rules, (my_load, their_load), SEED)
         fight.play()
         self.unclassed = fight.unclassed()
@@ -48,7 +49,7 @@ class Pair:
 
     def play_tune(self):
         """Returns the seconds of the series by `cwtune tune`, and the candidate's points."""
-        seconds, output = processor_time(self.tune)
+        seconds, output = processor_time(self.tune_words)
         words = output.split()
         if words[words.index("fights") + 1] != str(self.fights):
             raise Fault(f"{self.name}: cwtune did not play {self.fights} fights: {output!r}", 3)
@@ -56,17 +57,29 @@ class Pair:
 
     def play_pmars(self):
         """Returns the seconds of the series by pMARS, and the candidate's points."""
-        seconds, output = processor_time(self.pmars)
-        # the rounds that the first warrior named survived alone, and those that both survived
+        seconds, output = processor_time(self.pmars_words)
+        # The first line has the rounds that the candidate survived alone, and those that both did.
         wins, self.ties = map(int, output.split()[:2])
         return seconds, 3 * wins + self.ties
 
     def play(self):
         """Plays the series by each program. Their points have to be the same."""
-        (mine, self.points), (theirs, others) = self.play_tune(), self.play_pmars()
-        if self.points != others:
-            raise Fault(f"{self.name}: cwtune has {self.points} points, pMARS {others}", 3)
-        self.best = [min(self.best[0], mine), min(self.best[1], theirs)]
+        ours, self.points = self.play_tune()
+        theirs, points = self.play_pmars()
+        if self.points != points:
+            raise Fault(f"{self.name}: cwtune has {self.points} points, pMARS {points}", 3)
+        self.cwtune_seconds = min(self.cwtune_seconds, ours)
+        self.pmars_seconds = min(self.pmars_seconds, theirs)
+
+    def ratio(self):
+        """Returns how many times as fast as pMARS the program is."""
+        return self.pmars_seconds / self.cwtune_seconds
+
+
+def series_length(game, pmars):
+    """Returns how many fights a series of this game has, by what pMARS takes for the fewest."""
+    seconds, _ = processor_time(game.series_words(pmars, SEED, FEWEST))
+    return min(MOST, max(FEWEST, int(FEWEST * SECONDS / max(seconds, 1e-3))))
 
 
 def processor_time(command):
@@ -93,8 +106,10 @@ def loads_of(cwtune, folder):
 
 
 def play_in_turn(pairs, runs):
-    """Plays all pairs in turn, `runs` times, so that a slow minute spoils one run of each. Returns
-    them in a list."""
+    """Plays all pairs in turn, `runs` times, so that a slow minute spoils one run of each.
+
+    Returns the pairs in a list.
+    """
     pairs = list(pairs)
     for _ in range(runs):
         for pair in pairs:
@@ -102,7 +117,7 @@ def play_in_turn(pairs, runs):
     return pairs
 
 
-def means(ratios):
+def mean_and_least(ratios):
     """Returns in words the geometric mean of some ratios, and the least."""
     mean = statistics.geometric_mean(ratios)
     return f"geometric mean of the ratios {mean:.2f}, least {min(ratios):.2f}"
@@ -112,20 +127,19 @@ def print_folder(name, cwtune, pmars, runs):
     """Prints a line per pair of warriors of a folder, the geometric mean and the least ratio."""
     heads = f"{'fights':>8}{'points':>8}{'unclassed':>10}{'ms':>10}{'pMARS ms':>10}{'ratio':>8}"
     print(f"{name:<32}{heads}", flush=True)
-    ratios, both = [], itertools.combinations(loads_of(cwtune, FOLDERS[name]), 2)
+    warriors = loads_of(cwtune, FOLDERS[name])
     with tempfile.TemporaryDirectory() as folder:
-        made = (Pair(*warriors, (cwtune, pmars), folder) for warriors in both)
+        made = (Pair(*both, (cwtune, pmars), folder)
+                for both in itertools.combinations(warriors, 2))
         pairs = play_in_turn(made, runs)
     for pair in pairs:
-        mine, theirs = pair.best
-        ratios.append(theirs / mine)
         line = f"{pair.name:<32}{pair.fights:>8}{pair.points:>8}{pair.unclassed:>10.0%}"
-        line += f"{mine * 1e3:>10.1f}{theirs * 1e3:>10.1f}"
-        print(f"{line}{ratios[-1]:>8.2f}", flush=True)
-    print(f"the same points in {len(ratios)} series")
-    print(means(ratios))
+        line += f"{pair.cwtune_seconds * 1e3:>10.1f}{pair.pmars_seconds * 1e3:>10.1f}"
+        print(f"{line}{pair.ratio():>8.2f}", flush=True)
+    print(f"the same points in {len(pairs)} series")
+    print(mean_and_least([pair.ratio() for pair in pairs]))
 
 
-def print_pairs(cwtune, pmars, runs):
+def print_folders(cwtune, pmars, runs):
     for name in FOLDERS:
         print_folder(name, cwtune, pmars, runs)

@@ -1,22 +1,23 @@
-"""Plays a fight by a machine of its own, slow and plain, and counts the turns whose instruction has
-no class of its own in the machine of `cwtune` (docs/HOT_LOOP.md).
+"""Plays a fight by a slow and plain machine, which shares nothing with the program.
 
-It follows the 1994 draft: fetch the instruction, evaluate its A-operand, then its B-operand, act.
+It counts the turns whose instruction has no class of its own in the machine of `cwtune`
+(docs/HOT_LOOP.md). It follows the 1994 draft: fetch the instruction, evaluate its A-operand, then
+its B-operand, act.
 """
 import collections, operator, pathlib, re
 
 CLASSES = pathlib.Path(__file__).resolve().parent.parent / "crates" / "mars_core" / "classes.txt"
 LINE = re.compile(r"(\w{3})\.(\w{1,2}) (.)(-?\d+), ?(.)(-?\d+)")
-# Fields of a cell: opcode, modifier, A-mode, A-number, B-mode, B-number.
+# A cell is a list: opcode, modifier, A-mode, A-number, B-mode, B-number. The places of its numbers.
 A, B = 3, 5
-# Which number of the A-instruction goes with which one of the B-instruction.
+# Which number of the A-instruction goes with which one of the B-instruction, by the modifier.
 PAIRS = {"A": [(A, A)], "B": [(B, B)], "AB": [(A, B)], "BA": [(B, A)],
          "F": [(A, A), (B, B)], "I": [(A, A), (B, B)], "X": [(A, B), (B, A)]}
 # The number that an indirect mode goes by, and how it changes: before, and after.
 MODES = {"*": (A, 0, 0), "@": (B, 0, 0), "{": (A, -1, 0), "<": (B, -1, 0), "}": (A, 0, 1),
          ">": (B, 0, 1)}
-ADDS = {"ADD": operator.add, "SUB": lambda b, a: b - a, "MUL": operator.mul,
-        "DIV": lambda b, a: b // a, "MOD": lambda b, a: b % a}
+COMPUTED = {"ADD": operator.add, "SUB": lambda b, a: b - a, "MUL": operator.mul,
+            "DIV": lambda b, a: b // a, "MOD": lambda b, a: b % a}
 
 
 def classes():
@@ -27,8 +28,10 @@ def classes():
 
 
 class Fight:
-    """A fight of two load files, the first of which moves first: the core, the two queues, and how
-    often each instruction was executed."""
+    """A fight of two load files, the first of which moves first.
+
+    Has the core, the two queues, the turns, and how often each instruction was executed.
+    """
 
     def __init__(self, rules, loads, position):
         self.size, self.tasks, self.cycles = rules.core, rules.tasks, rules.cycles
@@ -78,47 +81,41 @@ class Fight:
     def step(self, pc, cell):
         """Executes the instruction at `pc`. Returns the addresses to queue."""
         op, modifier, a_mode, a_number, b_mode, b_number = cell
-        jump, a = self.operand(pc, a_mode, a_number)
-        at, b = self.operand(pc, b_mode, b_number)
-        pairs, target = PAIRS[modifier], self.core[at]
+        a_address, a = self.operand(pc, a_mode, a_number)
+        b_address, b = self.operand(pc, b_mode, b_number)
+        pairs, target = PAIRS[modifier], self.core[b_address]
         if op == "MOV" and modifier == "I":
-            self.core[at] = a
+            self.core[b_address] = a
         elif op == "MOV":
-            for mine, theirs in pairs:
-                target[theirs] = a[mine]
-        elif op in ADDS:
-            for mine, theirs in pairs:
-                if op in ("ADD", "SUB", "MUL") or a[mine]:
-                    target[theirs] = ADDS[op](b[theirs], a[mine]) % self.size
-            if op in ("DIV", "MOD") and not all(a[mine] for mine, _ in pairs):
+            for source, goal in pairs:
+                target[goal] = a[source]
+        elif op in COMPUTED:
+            for source, goal in pairs:
+                if op not in ("DIV", "MOD") or a[source] != 0:
+                    target[goal] = COMPUTED[op](b[goal], a[source]) % self.size
+            if op in ("DIV", "MOD") and any(a[source] == 0 for source, _ in pairs):
                 return []
         elif op == "DAT":
             return []
         elif op == "SPL":
-            return [pc + 1, jump]
+            return [pc + 1, a_address]
+        elif op in ("JMP", "JMZ", "JMN", "DJN"):
+            return [a_address if self.jumps(op, pairs, target, b) else pc + 1]
         elif op != "NOP":
-            return self.jump(op, modifier, pairs, pc, jump, at, a, b)
+            return [pc + 2 if skips(op, modifier, pairs, a, b) else pc + 1]
         return [pc + 1]
 
-    def jump(self, op, modifier, pairs, pc, jump, at, a, b):
-        """Executes an instruction that jumps or skips."""
-        numbers = [b[theirs] for _, theirs in pairs]
+    def jumps(self, op, pairs, target, b):
+        """Lowers the numbers of the target, if the opcode is DJN. Returns whether it jumps."""
         if op == "DJN":
-            for _, theirs in pairs:
-                self.core[at][theirs] = (self.core[at][theirs] - 1) % self.size
-        if op in ("JMP", "JMZ", "JMN", "DJN"):
-            jumps = {"JMP": True, "JMZ": not any(numbers), "JMN": any(numbers),
-                     "DJN": any(number != 1 for number in numbers)}
-            return [jump if jumps[op] else pc + 1]
-        whole = modifier == "I" and op in ("SEQ", "SNE")
-        same = a == b if whole else all(a[mine] == b[theirs] for mine, theirs in pairs)
-        less = all(a[mine] < b[theirs] for mine, theirs in pairs)
-        skips = {"SEQ": same, "SNE": not same, "SLT": less}
-        return [pc + 2 if skips[op] else pc + 1]
+            for _, goal in pairs:
+                target[goal] = (target[goal] - 1) % self.size
+        numbers = [b[goal] for _, goal in pairs]
+        return {"JMP": True, "JMZ": not any(numbers), "JMN": any(numbers),
+                "DJN": any(number != 1 for number in numbers)}[op]
 
     def result(self):
-        """Returns the result line that `cwtune fight` prints, for a fight of which the candidate
-        moves first."""
+        """Returns the result line that `cwtune fight` prints of this fight."""
         mine, theirs = map(len, self.queues)
         outcome = "tie 1" if mine and theirs else "win 3" if mine else "loss 0"
         return f"{outcome} turns {self.turns}\n"
@@ -127,3 +124,11 @@ class Fight:
         """Returns the share of the turns whose instruction has no class of its own."""
         known = classes()
         return sum(count for key, count in self.executed.items() if key not in known) / self.turns
+
+
+def skips(op, modifier, pairs, a, b):
+    """Returns whether SEQ, SNE or SLT skips an instruction."""
+    if op == "SLT":
+        return all(a[source] < b[goal] for source, goal in pairs)
+    same = a == b if modifier == "I" else all(a[source] == b[goal] for source, goal in pairs)
+    return same if op == "SEQ" else not same

@@ -13,8 +13,9 @@ from author.lib.program import Rules, add_program, module_parser, program_of
 from pmars.games import Game
 from pmars.random_warriors import random_load
 
-from .pairs import SEED, Pair, means, play_in_turn, processor_time
+from .pairs import SEED, Pair, mean_and_least, play_in_turn, processor_time
 
+# The least turns of a pair's first fight.
 SHORTEST = 2000
 
 
@@ -25,7 +26,7 @@ def lasts(loads, program, folder):
     return int(said.split()[-1]) >= SHORTEST
 
 
-def pairs_of(asked, programs, folder):
+def lasting_pairs(asked, programs, folder):
     """Yields pairs of random warriors whose first fights last."""
     dice, found = random.Random(asked.seed), 0
     while found < asked.pairs:
@@ -38,9 +39,9 @@ def pairs_of(asked, programs, folder):
 
 def print_ratios(title, pairs):
     """Prints the geometric mean of the ratios of some pairs, and the least."""
-    ratios = [theirs / mine for mine, theirs in (pair.best for pair in pairs)]
+    ratios = [pair.ratio() for pair in pairs]
     if ratios:
-        print(f"{title}: {len(ratios)} pairs, {means(ratios)}")
+        print(f"{title}: {len(ratios)} pairs, {mean_and_least(ratios)}")
 
 
 def make_parser():
@@ -61,13 +62,13 @@ def main():
     pmars = program_of(asked.pmars, "make pmars")
     programs = program_of(asked.program), pmars
     with tempfile.TemporaryDirectory() as folder:
-        pairs = play_in_turn(pairs_of(asked, programs, folder), asked.runs)
+        pairs = play_in_turn(lasting_pairs(asked, programs, folder), asked.runs)
     print(f"{'pair':<12}{'fights':>7}{'ties':>7}{'unclassed':>10}{'ms':>9}{'pMARS ms':>9}"
           f"{'ratio':>7}")
     for pair in pairs:
-        mine, theirs = pair.best
         print(f"{pair.name:<12}{pair.fights:>7}{pair.ties:>7}{pair.unclassed:>10.0%}"
-              f"{mine * 1e3:>9.1f}{theirs * 1e3:>9.1f}{theirs / mine:>7.2f}")
+              f"{pair.cwtune_seconds * 1e3:>9.1f}{pair.pmars_seconds * 1e3:>9.1f}"
+              f"{pair.ratio():>7.2f}")
     print_ratios("all", pairs)
     print_ratios("without a tie", [pair for pair in pairs if pair.ties == 0])
 

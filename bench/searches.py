@@ -13,6 +13,7 @@ from author.lib.program import add_program, module_parser, program_of
 ROOT = pathlib.Path(__file__).resolve().parent.parent
 AUTHOR, WARRIORS = ROOT / "author", sorted((ROOT / "examples/warriors").glob("*.red"))
 SEED = "4321"
+# The kinds of searches; the others are compared with the first one that is asked for.
 KINDS = ["best", "keep", "all", "spread"]
 
 
@@ -35,31 +36,33 @@ def kinds(word):
 
 
 def run(name, words):
-    """Runs a command, which has to succeed, and says itself why it does not. Returns what it
-    prints."""
+    """Runs a command, which has to succeed. Returns what it prints.
+
+    A command that fails says itself why, on standard error.
+    """
     done = subprocess.run(words, stdin=subprocess.DEVNULL, stdout=subprocess.PIPE, text=True)
     if done.returncode != 0:
         raise Fault(f"{name} ended with status {done.returncode}", 3)
     return done.stdout
 
 
-def searched(words, template, folder):
+def search(words, template, folder):
     """Searches a template. Returns the fights, the seconds, and what was found."""
     begun = time.monotonic()
     printed = run(f"{template.name}: a search",
-                  [*words, template, folder / "s.csv", folder / "cert", *WARRIORS])
+                  [*words, template, folder / "schedule.csv", folder / "cert", *WARRIORS])
     seconds = time.monotonic() - begun
     lines = [line.split(" ", 1) for line in printed.splitlines()]
     report = dict(line for line in lines if line[0] != "rank")
     return int(report["fights"].split()[0]), seconds, (report["best"], report["total"])
 
 
-def compare(asked, template, folder):
+def print_searches(asked, template, folder):
     """Prints a line for each kind of search. All have to find the same setting."""
     first, found = None, set()
     for kind in asked.kinds:
         name, words = search_of(kind, asked)
-        fights, seconds, best = searched(words, template, folder)
+        fights, seconds, best = search(words, template, folder)
         first = first or (fights, seconds)
         found.add(best)
         print(f"{template.name}: {name}: {fights} fights, "
@@ -86,9 +89,9 @@ def main():
         folder = pathlib.Path(name)
         series = [sys.executable, AUTHOR / "cwtune-series", SEED, str(asked.rounds),
                   str(len(WARRIORS))]
-        (folder / "s.csv").write_text(run("cwtune-series", series))
+        (folder / "schedule.csv").write_text(run("cwtune-series", series))
         for template in asked.templates:
-            compare(asked, template.resolve(), folder)
+            print_searches(asked, template.resolve(), folder)
 
 
 if __name__ == "__main__":

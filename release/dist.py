@@ -13,22 +13,20 @@ from . import manual
 ROOT = pathlib.Path(__file__).resolve().parent.parent
 DOC, SHARE = pathlib.Path("share/doc/cwtune"), pathlib.Path("share/cwtune")
 INSTALLED = SHARE / "installed.txt"
-# Where the files go that `manual.py` writes for a command. Debian's zsh reads site-functions below
-# /usr/local alone.
-MANUAL = {"{}.1": "share/man/man1/{}.1",
-          "{}.bash": "share/bash-completion/completions/{}",
-          "_{}": "share/zsh/{zsh}/_{}",
-          "{}.fish": "share/fish/vendor_completions.d/{}.fish"}
-DEBIAN = {"zsh": "vendor-completions"}
+# Where the files go that `manual.py` writes for a command, in the order of its FILE_NAMES. Debian's
+# zsh reads site-functions below /usr/local alone, so a package has another folder.
+PLACES = ["share/man/man1/{}.1", "share/bash-completion/completions/{}", "share/zsh/{zsh}/_{}",
+          "share/fish/vendor_completions.d/{}.fish"]
+ZSH, DEBIAN_ZSH = "site-functions", "vendor-completions"
 # The rooms that are shipped. Their tests and look.sh need the sources.
 ROOMS = ["author", "examples"]
 LEFT_OUT = shutil.ignore_patterns("tests", "look.sh", "__pycache__")
-TOP = """cwtune tunes Core War warriors. Begin with share/doc/cwtune/README.md.
+TAR_README = """cwtune tunes Core War warriors. Begin with share/doc/cwtune/README.md.
 
     sha256sum --check --quiet SHA256SUMS    checks the files
     share/doc/cwtune/PROVED                 says what was proved, and with which kit
 """
-CONTROL = """Package: cwtune
+DEBIAN_CONTROL = """Package: cwtune
 Version: {version}
 Architecture: amd64
 Maintainer: the cwtune project
@@ -40,9 +38,10 @@ Description: tunes Core War warriors, with a certificate of the answer
  Finds the values of a warrior's constants that total the most points against given opponents, and
  writes a certificate that a separate checker accepts exactly if the answer is right.
 """
-# Python leaves this beside the commands' modules, and dpkg does not know of it.
+# Python leaves this beside the commands' modules. dpkg does not know of it, so a package removes it
+# itself.
 CACHE = SHARE / "author/lib/__pycache__"
-PRERM = f"#!/bin/sh\nrm -rf /usr/{CACHE}\n"
+DEBIAN_PRERM = f"#!/bin/sh\nrm -rf /usr/{CACHE}\n"
 
 
 def run(*words):
@@ -80,6 +79,7 @@ def kit():
 
 def licences(ported):
     """Returns the licences of the ported crates that are linked in, which are in `ported`."""
+    # Each line names a crate of this repository, and after a colon the crates that it uses.
     text = (ROOT / "crates.txt").read_text()
     names = set(re.sub(r"#.*|:", " ", text).split()) - set(re.findall(r"(?m)^(\w+):", text))
     files = {name: sorted(ported.glob(f"{name}/LICENSE*")) for name in sorted(names)}
@@ -91,14 +91,14 @@ def licences(ported):
     return f"\n{'-' * 80}\n".join(texts)
 
 
-def manual_files(zsh="site-functions"):
+def manual_files(zsh):
     """Yields the names of the files that `manual.py` writes, and where each goes."""
     for command in [manual.NAME, *manual.COMMANDS]:
-        for name, place in MANUAL.items():
-            yield name.format(command), place.format(command, zsh=zsh)
+        for name, place in zip(manual.file_names(command), PLACES):
+            yield name, place.format(command, zsh=zsh)
 
 
-def stage(tree, **places):
+def stage(tree, zsh=ZSH):
     """Lays out the release in a folder, as below /usr or /usr/local. Returns its version."""
     version = manual.version_of(str(BUILT))
     for folder in ["bin", DOC, SHARE]:
@@ -106,7 +106,7 @@ def stage(tree, **places):
     shutil.copy(BUILT, tree / "bin/cwtune")
     with tempfile.TemporaryDirectory() as made:
         manual.write(str(BUILT), pathlib.Path(made))
-        for name, place in manual_files(**places):
+        for name, place in manual_files(zsh):
             (tree / place).parent.mkdir(parents=True, exist_ok=True)
             shutil.copy(pathlib.Path(made, name), tree / place)
     for room in ROOMS:
@@ -122,10 +122,11 @@ def stage(tree, **places):
 
 
 def files_of(tree):
+    """Returns the paths of the files of a tree, sorted."""
     return sorted(path for path in tree.rglob("*") if path.is_file())
 
 
-def sums(tree):
+def checksums(tree):
     """Returns the checksums of the files of a tree, as `sha256sum -c` reads them."""
     return "".join(f"{hashlib.sha256(path.read_bytes()).hexdigest()}  {path.relative_to(tree)}\n"
                    for path in files_of(tree))
@@ -136,24 +137,24 @@ def pack(folder):
     with tempfile.TemporaryDirectory() as name:
         tree = pathlib.Path(name, "tree")
         version = stage(tree)
-        (tree / "README").write_text(TOP)
-        (tree / "SHA256SUMS").write_text(sums(tree))
+        (tree / "README").write_text(TAR_README)
+        (tree / "SHA256SUMS").write_text(checksums(tree))
         title = f"cwtune-{version}-linux-x86_64"
         packed = io.BytesIO()
         with (gzip.GzipFile(fileobj=packed, mode="wb", mtime=0) as file,
               tarfile.open(fileobj=file, mode="w") as tar):
             for path in files_of(tree):
-                tar.add(path, f"{title}/{path.relative_to(tree)}", filter=plain)
+                tar.add(path, f"{title}/{path.relative_to(tree)}", filter=without_maker)
     tar = folder / f"{title}.tar.gz"
     with whole_file(tar, "wb") as file:
         file.write(packed.getvalue())
-    said = folder / f"{title}.tar.gz.sha256"
-    with whole_file(said) as file:
+    checksum = folder / f"{title}.tar.gz.sha256"
+    with whole_file(checksum) as file:
         file.write(f"{hashlib.sha256(packed.getvalue()).hexdigest()}  {tar.name}\n")
-    return [tar, said]
+    return [tar, checksum]
 
 
-def plain(entry):
+def without_maker(entry):
     """Leaves out of a tar file who made it and when, so that the same files make the same bytes."""
     entry.uid = entry.gid = entry.mtime = 0
     entry.uname = entry.gname = "root"
@@ -161,18 +162,19 @@ def plain(entry):
 
 
 def debian(folder):
-    """Makes a Debian package. Returns its path."""
-    with tempfile.TemporaryDirectory() as name:
-        tree = pathlib.Path(name, "tree")
-        version = stage(tree / "usr", **DEBIAN)
+    """Makes a Debian package. Returns its path in a list."""
+    with tempfile.TemporaryDirectory() as work:
+        tree = pathlib.Path(work, "tree")
+        version = stage(tree / "usr", DEBIAN_ZSH)
         (tree / "usr" / DOC / "copyright").write_text((ROOT / "LICENSE").read_text())
-        for name in manual.COMMANDS:  # which Debian's Python runs, whatever else is on the PATH
+        # Debian's Python runs the commands, whatever else is on the PATH.
+        for name in manual.COMMANDS:
             command = tree / "usr" / SHARE / "author" / name
             command.write_text(command.read_text().replace("/usr/bin/env python3",
                                                            "/usr/bin/python3", 1))
         (tree / "DEBIAN").mkdir()
-        (tree / "DEBIAN/control").write_text(CONTROL.format(version=version))
-        (tree / "DEBIAN/prerm").write_text(PRERM)
+        (tree / "DEBIAN/control").write_text(DEBIAN_CONTROL.format(version=version))
+        (tree / "DEBIAN/prerm").write_text(DEBIAN_PRERM)
         (tree / "DEBIAN/prerm").chmod(0o755)
         package = folder / f"cwtune_{version}_amd64.deb"
         run("dpkg-deb", "--root-owner-group", "--build", str(tree), str(package))
@@ -182,6 +184,7 @@ def debian(folder):
 def install(prefix):
     """Puts the release below a folder such as /usr/local, in place of an older one.
 
+    Returns the path of the program in a list.
     The list of its files comes first, so that `uninstall` can remove what a kill has left.
     """
     with tempfile.TemporaryDirectory() as name:
@@ -215,12 +218,13 @@ def uninstall(prefix):
     return []
 
 
-WORK = {"tar": pack, "deb": debian, "install": install, "uninstall": uninstall}
+# What to do, by the first word; the paths that are returned are printed.
+ACTIONS = {"tar": pack, "deb": debian, "install": install, "uninstall": uninstall}
 
 
 def main():
     parser = module_parser("release.dist", __doc__)
-    parser.add_argument("what", choices=WORK, metavar="|".join(WORK), help="what to do")
+    parser.add_argument("what", choices=ACTIONS, metavar="|".join(ACTIONS), help="what to do")
     parser.add_argument("folder", type=pathlib.Path, metavar="FOLDER",
                         help="where the packed files go, or below which cwtune is installed")
     asked = parser.parse_args()
@@ -228,7 +232,7 @@ def main():
         if not BUILT.is_file():
             raise Fault("the program is not built (`make build` builds it)", 2)
         asked.folder.mkdir(parents=True, exist_ok=True)
-    for path in WORK[asked.what](asked.folder):
+    for path in ACTIONS[asked.what](asked.folder):
         print(path)
 
 

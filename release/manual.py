@@ -15,15 +15,8 @@ AUTHOR = pathlib.Path(__file__).resolve().parents[1] / "author"
 # The commands for authors, and the modules of author/lib/ that they are made of.
 COMMANDS = {path.name: re.search(r"import (\w+)", path.read_text())[1]
             for path in sorted(AUTHOR.glob(f"{NAME}-*"))}
-EXAMPLES = [
-    ("Find the best setting of a template, and write its certificate:",
-     "cwtune tune bomber.red fights.csv bomber.cert dwarf.red scanner.red"),
-    ("Check the certificate:",
-     "cwtune check bomber.red fights.csv bomber.cert dwarf.red scanner.red"),
-    ("Print the load file of setting 16, the best:",
-     "cwtune asm --setting 16 bomber.red"),
-    ("Play one fight:", "cwtune fight dwarf.red scanner.red --position 4000"),
-]
+# The files for a command: its manual page, and its completions for bash, zsh and fish.
+FILE_NAMES = ["{}.1", "{}.bash", "_{}", "{}.fish"]
 
 
 class Item(NamedTuple):
@@ -68,21 +61,36 @@ FAULTS = ("A refusal is a line `refused: ..` on standard error with the names of
           "`found: ..` names the best setting.")
 
 
-class Page:
-    """What a command of `cwtune` prints with `--help`."""
+EXAMPLES = [
+    ("Find the best setting of a template, and write its certificate:",
+     "cwtune tune bomber.red fights.csv bomber.cert dwarf.red scanner.red"),
+    ("Check the certificate:",
+     "cwtune check bomber.red fights.csv bomber.cert dwarf.red scanner.red"),
+    ("Print the load file of setting 16, the best:",
+     "cwtune asm --setting 16 bomber.red"),
+    ("Play one fight:", "cwtune fight dwarf.red scanner.red --position 4000"),
+]
+
+
+class HelpPage:
+    """What `cwtune`, or a command of it, prints with `--help`.
+
+    `about` is its first paragraph, `usage` the lines after `Usage:`, `parts` the items under each
+    title, and `after` the paragraph without a title at the end.
+    """
 
     def __init__(self, program, *command):
         done = run_program(program, *command, "--help", encoding="utf-8")
         if done.returncode != 0:
             raise Fault(f"{program} {' '.join(command)} --help: {done.stderr.strip()}", 3)
-        head, *rest = done.stdout.strip().split("\n\n")
-        self.about, self.usage, self.after, self.parts = head, [], "", {}
+        self.about, *rest = done.stdout.strip().split("\n\n")
+        self.usage, self.parts, self.after = [], {}, ""
         for part in rest:
             title, _, lines = part.partition("\n")
             if title.startswith("Usage: "):
                 self.usage = [re.sub(r"^Usage: ", "", line).strip() for line in part.split("\n")]
             elif title.endswith(":"):
-                self.parts[title[:-1]] = [item_of(line) for line in lines.split("\n")]
+                self.parts[title[:-1]] = [item_of_line(line) for line in lines.split("\n")]
             else:
                 self.after = part
 
@@ -90,21 +98,22 @@ class Page:
         return [item for title in ("Options", "Rules") for item in self.parts.get(title, [])]
 
 
-def item_of(line):
+def item_of_line(line):
+    """Returns the item of a line of help, in which two blanks or more end the term."""
     term, _, text = line.strip().partition("  ")
     return Item(term, text.strip())
 
 
-class Program:
+class Help:
     """All help pages of the program."""
 
     def __init__(self, path):
-        self.top = Page(path)
-        self.commands = {item.term: Page(path, item.term)
+        self.top = HelpPage(path)
+        self.commands = {item.term: HelpPage(path, item.term)
                          for item in self.top.parts["Commands"] if item.term != "help"}
 
 
-class Command:
+class AuthorCommand:
     """What the parser of a command for authors says."""
 
     def __init__(self, name, module):
@@ -114,13 +123,13 @@ class Command:
         self.name, self.about = name, " ".join(about.split())
         self.rest = "\n\n".join(filter(None, [rest, parser.epilog]))
         self.usage = " ".join(parser.format_usage().split()).removeprefix("usage: ")
-        items = [(action, described(parser, action)) for action in parser._actions]
+        items = [(action, item_of_action(parser, action)) for action in parser._actions]
         self.words = [item for action, item in items if not action.option_strings]
         self.options = [item for action, item in items if action.option_strings]
 
 
-def described(parser, action):
-    """Returns an argument of a parser as an item, with its defaults put in."""
+def item_of_action(parser, action):
+    """Returns the item of an argument of a parser, with the defaults put into its text."""
     formatter = parser._get_formatter()
     term = formatter._format_action_invocation(action)
     return Item(term, formatter._expand_help(action) if action.help else "")
@@ -147,7 +156,7 @@ def see_also(name):
     return [".SH SEE ALSO", ", ".join(f"\\fB{roff(other)}\\fR(1)" for other in others)]
 
 
-def manual(program, version):
+def man_page(program, version):
     """Returns the lines of the manual page of `cwtune`."""
     lines = [f'.TH CWTUNE 1 "" "{NAME} {version}" "User Commands"', ".SH NAME",
              f"{NAME} \\- tune Core War warriors, with a certificate of the answer", ".SH SYNOPSIS"]
@@ -169,7 +178,7 @@ def manual(program, version):
     return lines + see_also(NAME)
 
 
-def manual_of_command(command, version):
+def author_man_page(command, version):
     """Returns the lines of the manual page of a command for authors."""
     about = command.about[0].lower() + command.about[1:].rstrip(".")
     lines = [f'.TH {command.name.upper()} 1 "" "{NAME} {version}" "User Commands"', ".SH NAME",
@@ -181,7 +190,7 @@ def manual_of_command(command, version):
     return lines + see_also(command.name)
 
 
-def bash(program):
+def bash_completion(program):
     """Returns the lines of the completion of `cwtune` for bash."""
     names = " ".join(program.commands)
     lines = [f"# Completes the words of {NAME} in bash.", f"_{NAME}() {{",
@@ -198,7 +207,7 @@ def bash(program):
     return lines
 
 
-def bash_of_command(command):
+def author_bash_completion(command):
     """Returns the lines of the completion of a command for authors for bash."""
     function = "_" + command.name.replace("-", "_")
     return [f"# Completes the words of {command.name} in bash.", f"{function}() {{",
@@ -209,6 +218,7 @@ def bash_of_command(command):
 
 
 def words_of(options):
+    """Returns options as words, with blanks between them."""
     return " ".join(f"--{item.option()}" for item in options)
 
 
@@ -217,21 +227,22 @@ def quoted(text):
     return text.replace("'", "").replace("`", "")
 
 
-def for_zsh(text):
+def quoted_for_zsh(text):
     """Returns such a text with brackets and colons escaped, as `_arguments` wants them."""
     return re.sub(r"[\[\]:]", lambda it: "\\" + it.group(), quoted(text))
 
 
 def zsh_options(options, margin):
-    return [f"{margin}'--{item.option()}[{for_zsh(item.text)}]"
+    return [f"{margin}'--{item.option()}[{quoted_for_zsh(item.text)}]"
             f"{':value:' if item.takes_value() else ''}' \\" for item in options]
 
 
-def zsh(program):
+def zsh_completion(program):
     """Returns the lines of the completion of `cwtune` for zsh."""
     lines = [f"#compdef {NAME}", "# Completes the words of cwtune in zsh.", "",
              "local -a commands=("]
-    lines += [f"    '{name}:{for_zsh(page.about)}'" for name, page in program.commands.items()]
+    lines += [f"    '{name}:{quoted_for_zsh(page.about)}'"
+              for name, page in program.commands.items()]
     lines += [")", "if (( CURRENT == 2 )); then", "    _describe command commands", "    return",
               "fi", "local command=$words[2]", "shift words", "(( CURRENT-- ))",
               "case $command in"]
@@ -242,7 +253,7 @@ def zsh(program):
     return [*lines, "esac"]
 
 
-def zsh_of_command(command):
+def author_zsh_completion(command):
     """Returns the lines of the completion of a command for authors for zsh."""
     return [f"#compdef {command.name}", f"# Completes the words of {command.name} in zsh.", "",
             "_arguments \\", *zsh_options(command.options, "    "), "    '*:file:_files'"]
@@ -253,7 +264,7 @@ def fish_options(start, options):
             f"-d '{quoted(item.text)}'" for item in options]
 
 
-def fish(program):
+def fish_completion(program):
     """Returns the lines of the completion of `cwtune` for fish."""
     first = f"complete -c {NAME} -n __fish_use_subcommand"
     lines = ["# Completes the words of cwtune in fish."]
@@ -264,7 +275,7 @@ def fish(program):
     return lines
 
 
-def fish_of_command(command):
+def author_fish_completion(command):
     """Returns the lines of the completion of a command for authors for fish."""
     return [f"# Completes the words of {command.name} in fish.",
             *fish_options(f"complete -c {command.name}", command.options)]
@@ -279,18 +290,27 @@ def version_of(path):
     return found.group(1)
 
 
+def file_names(command):
+    """Returns the names of the files for a command, in the order of FILE_NAMES."""
+    return [name.format(command) for name in FILE_NAMES]
+
+
+def write_files(folder, command, *texts):
+    """Writes the files for a command, each given as its lines, in the order of FILE_NAMES."""
+    for name, lines in zip(file_names(command), texts):
+        (folder / name).write_text("\n".join(lines) + "\n", "utf-8")
+
+
 def write(path, folder):
     """Writes the manual pages and the completions into a folder."""
-    program, version = Program(path), version_of(path)
-    texts = {f"{NAME}.1": manual(program, version), f"{NAME}.bash": bash(program),
-             f"_{NAME}": zsh(program), f"{NAME}.fish": fish(program)}
+    program, version = Help(path), version_of(path)
+    write_files(folder, NAME, man_page(program, version), bash_completion(program),
+                zsh_completion(program), fish_completion(program))
     for name, module in COMMANDS.items():
-        command = Command(name, module)
-        texts |= {f"{name}.1": manual_of_command(command, version),
-                  f"{name}.bash": bash_of_command(command), f"_{name}": zsh_of_command(command),
-                  f"{name}.fish": fish_of_command(command)}
-    for name, lines in texts.items():
-        (folder / name).write_text("\n".join(lines) + "\n", "utf-8")
+        command = AuthorCommand(name, module)
+        write_files(folder, name, author_man_page(command, version),
+                    author_bash_completion(command), author_zsh_completion(command),
+                    author_fish_completion(command))
 
 
 def main():

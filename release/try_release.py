@@ -24,15 +24,18 @@ throw   MOV   bomb, @aim
         JMP   throw
 aim     DAT   0, 3000
 """
-# Words of a command for authors, and the beginning of what it prints.
-COMMANDS = [("cwtune-scores a.cert fights.csv --template a.red", "best setting "),
-            ("cwtune-warrior a.red a.cert", ";redcode-94\n"),
-            ("cwtune-holdout --rounds 2 a.red a.cert dwarf.red", "setting "),
-            ("cwtune-spread --jobs 2 a.red fights.csv b.cert dwarf.red", "vectors 3\n"),
-            ("cwtune-files a.red a.cert", "a.red: template of 3 settings"),
-            ("cwtune-vary dwarf.red", "step=4: line 12, "),
-            ("cwtune-seek a.red fights.csv dwarf.red", ";redcode-94\n"),
-            ("cwtune-study --rounds 2 --fresh 2 a.red dwarf.red", "all 3 settings are tuned")]
+# Runs of the commands for authors, each with the beginning of what it prints.
+AUTHOR_RUNS = [
+    ("cwtune-scores a.cert fights.csv --template a.red", "best setting "),
+    ("cwtune-warrior a.red a.cert", ";redcode-94\n"),
+    ("cwtune-holdout --rounds 2 a.red a.cert dwarf.red", "setting "),
+    ("cwtune-spread --jobs 2 a.red fights.csv b.cert dwarf.red", "vectors 3\n"),
+    ("cwtune-files a.red a.cert", "a.red: template of 3 settings"),
+    ("cwtune-vary dwarf.red", "step=4: line 12, "),
+    ("cwtune-seek a.red fights.csv dwarf.red", ";redcode-94\n"),
+    ("cwtune-study --rounds 2 --fresh 2 a.red dwarf.red", "all 3 settings are tuned"),
+]
+# Begun words of a command line, and how bash completes the last.
 COMPLETIONS = [("cwtune che", "check"), ("cwtune tune --ca", "--cache"),
                ("cwtune asm --se", "--setting"), ("cwtune check --pa", "--part"),
                ("cwtune check --sh", "--share"),
@@ -48,36 +51,36 @@ def run(words, folder, path):
     return done.returncode, done.stdout + done.stderr
 
 
-def used(prefix, **places):
+def faults_of_use(prefix, zsh=dist.ZSH):
     """Yields what is wrong with a release below a prefix: a tuning, its check, and the commands."""
-    bin = prefix / "bin"
+    programs = prefix / "bin"
     with tempfile.TemporaryDirectory() as folder:
         pathlib.Path(folder, "a.red").write_text(BOMBER)
         shutil.copy(prefix / dist.SHARE / "examples/warriors/dwarf.red", folder)
-        status, text = run(["cwtune-series", "4321", "3", "1"], folder, bin)
+        status, text = run(["cwtune-series", "4321", "3", "1"], folder, programs)
         pathlib.Path(folder, "fights.csv").write_text(text)
         words = ["a.red", "fights.csv", "a.cert", "dwarf.red"]
-        tuned = run(["cwtune", "tune", *words], folder, bin)
+        tuned = run(["cwtune", "tune", *words], folder, programs)
         if status or tuned[0] or not tuned[1].startswith("vectors 3\n"):
             yield f"tune: {status} {tuned}"
             return
         best, total = (line.split()[1] for line in tuned[1].splitlines()[2:5:2])
-        checked = run(["cwtune", "check", *words], folder, bin)
+        checked = run(["cwtune", "check", *words], folder, programs)
         if checked != (0, f"accepted best {best} total {total}\n"):
             yield f"check: {checked}"
-        for words, start in COMMANDS:
-            came = run(words.split(), folder, bin)
+        for words, start in AUTHOR_RUNS:
+            came = run(words.split(), folder, programs)
             if came[0] or not came[1].startswith(start):
                 yield f"{words}: {came}"
-    for _, place in dist.manual_files(**places):
+    for _, place in dist.manual_files(zsh):
         if not (prefix / place).is_file():
             yield f"no file {place}"
 
 
 def trial_of_tar(work):
-    tar, said = dist.pack(work)
+    tar, checksum = dist.pack(work)
     digest = hashlib.sha256(tar.read_bytes()).hexdigest()
-    if said.read_text() != f"{digest}  {tar.name}\n":
+    if checksum.read_text() != f"{digest}  {tar.name}\n":
         yield "its checksum is another one"
     again, _ = dist.pack(work / "again")
     if again.read_bytes() != tar.read_bytes():
@@ -89,7 +92,7 @@ def trial_of_tar(work):
                             capture_output=True, text=True)
     if summed.returncode:
         yield summed.stdout + summed.stderr
-    yield from used(tree)
+    yield from faults_of_use(tree)
 
 
 def trial_of_install(work):
@@ -105,12 +108,12 @@ def trial_of_install(work):
     dist.install(prefix)
     if (prefix / older).exists():
         yield "a file of an older release stays"
-    yield from used(prefix)
+    yield from faults_of_use(prefix)
     dist.uninstall(prefix)
-    yield from left(prefix, ["bin/other"])
+    yield from faults_of_removal(prefix, ["bin/other"])
 
 
-def left(prefix, expected):
+def faults_of_removal(prefix, expected):
     """Yields what an uninstall has left, if these files are not what it should leave."""
     files = [str(path.relative_to(prefix)) for path in dist.files_of(prefix)]
     if files != expected:
@@ -126,7 +129,7 @@ def trial_of_broken_install(work):
         yield "a file in place of a folder is no fault"
     (work / "share/bash-completion").unlink()
     dist.uninstall(work)
-    yield from left(work, [])
+    yield from faults_of_removal(work, [])
 
 
 def trial_of_faults(work):
@@ -140,19 +143,19 @@ def trial_of_faults(work):
 def trial_of_package(work):
     [package] = dist.debian(work)
     dist.run("dpkg-deb", "--extract", str(package), str(work / "system"))
-    yield from used(work / "system/usr", **dist.DEBIAN)
+    yield from faults_of_use(work / "system/usr", dist.DEBIAN_ZSH)
 
 
-def missing(program, folder):
+def faults_of_pages(program, folder):
     """Returns which commands and options a manual page or a completion lacks."""
     options = {name: [name, *(item.option() for item in page.options() if item.option() != "help")]
-               for name, page in manual.Program(program).commands.items()}
+               for name, page in manual.Help(program).commands.items()}
     wanted = {manual.NAME: [word for words in options.values() for word in words]}
     for name, module in manual.COMMANDS.items():
         wanted[name] = options_of(module)
     wrong = []
     for name, words in wanted.items():
-        for file in [f"{name}.1", f"{name}.bash", f"_{name}", f"{name}.fish"]:
+        for file in manual.file_names(name):
             text = (folder / file).read_text("utf-8").replace("\\-", "-")
             wrong += [f"{file} lacks {word}" for word in words if word not in text]
     return wrong
@@ -164,12 +167,12 @@ def options_of(module):
     return [word[2:] for it in actions for word in it.option_strings if word.startswith("--")]
 
 
-def pages(program):
+def trials_of_pages(program):
     """Makes the manual pages and the completions, and completes words in bash."""
     with tempfile.TemporaryDirectory() as name:
         folder = pathlib.Path(name)
         manual.write(program, folder)
-        yield "each command and option of the help", missing(program, folder)
+        yield "each command and option of the help", faults_of_pages(program, folder)
         for line, expected in COMPLETIONS:
             words = line.split()
             function = "_" + re.sub("-", "_", words[0])
@@ -181,7 +184,7 @@ def pages(program):
 
 
 def trials():
-    yield from pages(str(dist.BUILT))
+    yield from trials_of_pages(str(dist.BUILT))
     tried = [trial_of_tar, trial_of_install, trial_of_broken_install, trial_of_faults]
     if shutil.which("dpkg-deb"):
         tried.append(trial_of_package)

@@ -96,7 +96,7 @@ def moded():
 
 TABLES = {
     "specs/Classes.antt": {
-        "further keys": tests(FIRST, 64, "64 + k / 256"),
+        "further keys": tests(FIRST, 64, "first_of_modes + k / 256"),
         "keys": tests(0, FIRST, "further_class_of_key k"),
     },
     "src/packed.rt": {"keys": keys(0, FIRST), "further keys": keys(FIRST, 64)},

@@ -1,15 +1,13 @@
 -- Which cells are marked, and how many of them are not empty.
-use Rattle.std.proofs.Common.{◌≡◌, ℕ, zero, suc, ◌<◌, ◌≤◌, List, [], ◌∷◌, length, Bool, true, false, not, cond, get_or, Some, refl, sym, ◌∙◌, ap, arith}
-use Rattle.std.specs.Option.{option_map}
-use Rattle.std.specs.Prelude.{slice_get, slice_set, count_by, map, replicate}
+use Rattle.std.proofs.Common.{◌≡◌, ℕ, zero, suc, ◌+◌, ◌<◌, ◌≤◌, List, [], ◌∷◌, length, Bool, true, false, not, cond, get_or, refl, sym, ◌∙◌, ap, arith}
+use Rattle.std.specs.Prelude.{slice_set, count_by, map, replicate}
 use Rattle.std.proofs.lemmas.List.Sums.{sum_by-cons, count_by-le-length}
 use Rattle.std.proofs.lemmas.List.{map-set, length-replicate, length-map, length-set}
-use Rattle.std.proofs.lemmas.Option.{slice_get-get_or, slice_get-map}
 use Rattle.rc_instr.specs.Instruction.{empty_cell, same_instruction}
 use Rattle.rc_instr.specs.declared.instruction.Instruction.{Instruction}
 use Rattle.mars_core.specs.Core.{filled_in}
 use Rattle.mars_core.specs.Packed.{packed, unpacked, is_marked, empty_word}
-use Rattle.mars_core.specs.Store.{IsStore}
+use Rattle.mars_core.specs.Store.{IsStore, marks_after}
 use Rattle.mars_core.proofs.Packing.{unpacked_packed}
 use Rattle.mars_core.proofs.Stores.{empty_unmarked}
 
@@ -18,6 +16,13 @@ bit b = cond b 1 0
 
 abbrev is_filled : Instruction → Bool
 is_filled i = not (same_instruction i empty_cell)
+
+at_most_one : (b : Bool) (n : ℕ) → cond b n (n + 1) ≤ n + 1
+at_most_one true n = omega arith
+at_most_one false n = omega arith
+
+pub one_added : (marked : List Bool) (at n k : ℕ) → k ≡ marks_after marked at n → k ≤ n + 1
+one_added marked at n k e = rw e (at_most_one (get_or marked at true) n)
 
 -- ---- plain cells, all of which are marked
 
@@ -32,13 +37,13 @@ set_true (suc m) (suc at) = ap (λ bs. true ∷ bs) (set_true m at)
 pub all_stay : (cells : List Instruction) (at : ℕ) (i : Instruction) → replicate (length (slice_set cells at i)) true ≡ slice_set (replicate (length cells) true) at true
 all_stay cells at i = ap (λ n. replicate n true) (length-set cells at i) ∙ sym (set_true (length cells) at)
 
-get_true : (m at : ℕ) → slice_get (replicate m true) at ≡ Some false → ⊥
-get_true zero at e = absurd (cc)
-get_true (suc m) zero e = absurd (cc)
-get_true (suc m) (suc at) e = get_true m at e
+get_true : (m at : ℕ) → get_or (replicate m true) at true ≡ true
+get_true zero at = refl
+get_true (suc m) zero = refl
+get_true (suc m) (suc at) = get_true m at
 
-pub none_first : (cells : List Instruction) (at n k : ℕ) → slice_get (replicate (length cells) true) at ≡ Some false → n ≡ k
-none_first cells at n k e = absurd (get_true (length cells) at e)
+pub none_added : (cells : List Instruction) (at n k : ℕ) → k ≡ n → k ≡ marks_after (replicate (length cells) true) at n
+none_added cells at n k e = rw (get_true (length cells) at) e
 
 pub at_most_all : (cells : List Instruction) → filled_in cells ≤ length cells
 unfolding filled_in
@@ -55,13 +60,18 @@ one_each words = length-map words is_marked ∙ sym (length-map words unpacked)
 pub mark_set : (words : List ℕ) (at w : ℕ) → is_marked w ≡ true → map is_marked (slice_set words at w) ≡ slice_set (map is_marked words) at true
 mark_set words at w m = map-set is_marked words at w ∙ ap (λ b. slice_set (map is_marked words) at b) m
 
-same_bool : (a b : Bool) → Some a ≡ Some b → a ≡ b
-same_bool a b e = cc
+mark_at : (words : List ℕ) (at : ℕ) → at < length words → get_or (map is_marked words) at true ≡ is_marked (get_or words at 0)
+mark_at [] at l = absurd (omega (arith, l))
+mark_at (w ∷ ws) zero l = refl
+mark_at (w ∷ ws) (suc at) l = mark_at ws at (omega (arith, l))
 
-pub mark_at : (words : List ℕ) (at : ℕ) (b : Bool) → at < length words → slice_get (map is_marked words) at ≡ Some b → is_marked (get_or words at 0) ≡ b
-mark_at words at b l e =
-    let here : slice_get (map is_marked words) at ≡ Some (is_marked (get_or words at 0)) = slice_get-map is_marked words at ∙ ap (λ o. option_map is_marked o) (slice_get-get_or words at 0 l) in
-    same_bool _ b (sym here ∙ e)
+counted : (b : Bool) (n k : ℕ) → (b ≡ false → k ≡ n + 1) → (b ≡ true → k ≡ n) → k ≡ cond b n (n + 1)
+counted true n k first again = again refl
+counted false n k first again = first refl
+
+pub mark_counted : (words : List ℕ) (at n k : ℕ) → at < length words → (is_marked (get_or words at 0) ≡ false → k ≡ n + 1) →
+    (is_marked (get_or words at 0) ≡ true → k ≡ n) → k ≡ marks_after (map is_marked words) at n
+mark_counted words at n k l first again = rw (mark_at words at l) (counted (is_marked (get_or words at 0)) n k first again)
 
 unmarked_copies : (m : ℕ) → map is_marked (replicate m empty_word) ≡ replicate m false
 unmarked_copies zero = refl

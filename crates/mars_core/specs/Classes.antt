@@ -1,10 +1,16 @@
--- There are 128 classes of instructions. Each of the first 64 is a frequent instruction, all but
--- its numbers; docs/HOT_LOOP.md says how these were chosen. Each of the other 64 says the modes of
--- both operands, and nothing else.
+-- Classes of instructions. Each below `first_of_modes` is a frequent instruction, all but its
+-- numbers; docs/HOT_LOOP.md says how these were chosen. Each of the others says the modes of both
+-- operands, and nothing else.
 use Rattle.std.specs.Prelude.{◌≡◌, ℕ, ◌+◌, ◌*◌, ◌/◌, ◌<◌, ◌≤◌, ◌==◌, if◌then◌else◌}
 use Rattle.rc_instr.specs.Instruction.{opcode_number, modifier_number, mode_number}
 use Rattle.rc_instr.specs.declared.instruction.Instruction.{Instruction}
 use Rattle.mars_core.specs.Codes.{opcode_of, modifier_of, mode_of}
+
+abbrev pub first_of_modes : ℕ
+first_of_modes = 64
+
+abbrev pub class_count : ℕ
+class_count = 128
 
 -- The opcode, modifier and modes of an instruction have these numbers.
 pub record IsCoded (opcode modifier a_mode b_mode : ℕ) (i : Instruction) : Type 0 where
@@ -51,7 +57,7 @@ further_class_of_key k =
     else if k == 6758 then 61  -- SNE.I *, @
     else if k == 6757 then 62  -- SNE.X *, @
     else if k == 3332 then 63  -- DAT.F <, $
-    else 64 + k / 256
+    else first_of_modes + k / 256
     -- end of further keys
 
 -- The class of each key: 40 here, the others in `further_class_of_key`.
@@ -106,10 +112,10 @@ class_of i = class_of_key (key_of i)
 
 -- The class that gives the modes of an instruction, whether it is a frequent one or not.
 abbrev pub modes_class_of : Instruction → ℕ
-modes_class_of i = 64 + mode_number i.a_mode + 8 * mode_number i.b_mode
+modes_class_of i = first_of_modes + mode_number i.a_mode + 8 * mode_number i.b_mode
 
--- What a class says of an instruction is true. One of the first 64 is the instruction's own; one of
--- the others gives its modes, and need not be its own.
+-- What a class says of an instruction is true. One below `first_of_modes` is the instruction's own;
+-- one of the others gives its modes, and need not be its own.
 pub record IsClassOf (i : Instruction) (class : ℕ) : Type 0 where
-  pub own : class < 64 → class ≡ class_of i
-  pub modes : 64 ≤ class → class ≡ modes_class_of i
+  pub own : class < first_of_modes → class ≡ class_of i
+  pub modes : first_of_modes ≤ class → class ≡ modes_class_of i

@@ -7,6 +7,10 @@ use Rattle.rc_instr.specs.declared.instruction.Modifier.TheVariants.{A, B, AB, B
 use Rattle.rc_instr.specs.declared.instruction.Mode.{Mode}
 use Rattle.rc_instr.specs.declared.instruction.Mode.TheVariants.{Immediate, Direct, AIndirect, BIndirect, APredecrement, BPredecrement, APostincrement, BPostincrement}
 
+-- A code is a number of an opcode with one of a modifier: 8 times the first, plus the second.
+abbrev pub code_count : ℕ
+code_count = 128
+
 abbrev pub opcode_of : ℕ → Opcode
 opcode_of n =
     if n == 0 then Dat else if n == 1 then Mov else if n == 2 then Add else if n == 3 then Sub

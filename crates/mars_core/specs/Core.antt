@@ -10,6 +10,10 @@ use Rattle.mars_core.specs.Numbers.{Field}
 unfoldable pub cell_at : List Instruction → ℕ → Instruction
 cell_at core at = slice_index_or core at empty_cell
 
+-- The core after the cell at an address is replaced by what a change makes of it.
+abbrev pub updated_at : List Instruction → ℕ → (Instruction → Instruction) → List Instruction
+updated_at core at change = slice_set core at (change (cell_at core at))
+
 -- The core after one number of a cell is changed.
 unfoldable pub changed_at : List Instruction → ℕ → Field → (ℕ → ℕ) → List Instruction
 changed_at core at field change = slice_set core at (with_field field (change (field_of field (cell_at core at))) (cell_at core at))

@@ -6,10 +6,9 @@ use Rattle.rc_instr.specs.declared.instruction.Opcode.{Opcode}
 use Rattle.rc_instr.specs.declared.instruction.Modifier.{Modifier}
 use Rattle.rc_instr.specs.declared.instruction.Mode.{Mode}
 use Rattle.mars_core.specs.Core.{IsCore, cell_at}
-use Rattle.mars_core.specs.Numbers.{sum_of}
-use Rattle.mars_core.specs.Operand.{operand_of}
+use Rattle.mars_core.specs.Operand.{Located, located, operand_of}
 use Rattle.mars_core.specs.Step.{leaves, effect_of, step_of}
-use Rattle.mars_core.specs.Evaluated.{located, located_from, a_operand, b_operand, addresses}
+use Rattle.mars_core.specs.Evaluated.{evaluation, evaluation_of, a_operand, b_operand, addresses}
 use Rattle.mars_core.specs.declared.effect.Queued.{Queued}
 
 -- The premise: i is the instruction at pc.
@@ -19,29 +18,28 @@ pub record IsFetched (m : ℕ) (core : List Instruction) (pc : ℕ) (i : Instruc
   pub cell : i ≡ cell_at core pc
   pub below : IsBelow m i
 
--- An operand is evaluated for the task at pc: its address, the copy taken there, and the core
--- afterwards.
-pub record IsEvaluated (m : ℕ) (core : List Instruction) (pc : ℕ) (mode : Mode) (n : ℕ) (address : ℕ) (copy : Instruction) (core_new : List Instruction) : Type 0 where
-  pub value : located address copy core_new ≡ located_from m pc (operand_of m core pc mode n)
-  pub inside : address < m
-  pub below : IsBelow m copy
+-- An operand points into the core, and so do the numbers of its copy.
+pub record IsInside (m : ℕ) (o : Located) : Type 0 where
+  pub address : o.address < m
+  pub copy : IsBelow m o.copy
+
+-- The operand with this mode and this number is evaluated for the task at pc.
+pub record IsEvaluated (m : ℕ) (core : List Instruction) (pc : ℕ) (mode : Mode) (n : ℕ) (o : Located) (core_new : List Instruction) : Type 0 where
+  pub value : evaluation o core_new ≡ evaluation_of m pc (operand_of m core pc mode n)
+  pub inside : IsInside m o
   pub core_holds : IsCore m core_new
 
 -- Both operands of i are evaluated, the A-operand first.
-pub record AreEvaluated (m : ℕ) (core : List Instruction) (pc : ℕ) (i : Instruction) (a_address : ℕ) (a : Instruction) (b_address : ℕ) (b : Instruction) (core_new : List Instruction) : Type 0 where
-  pub a_address_is : a_address ≡ sum_of m pc (a_operand m core pc i).pointer
-  pub a_is : a ≡ (a_operand m core pc i).copy
-  pub b_is : located b_address b core_new ≡ located_from m pc (b_operand m core pc i)
-  pub a_inside : a_address < m
-  pub a_below : IsBelow m a
-  pub b_inside : b_address < m
-  pub b_below : IsBelow m b
+pub record AreEvaluated (m : ℕ) (core : List Instruction) (pc : ℕ) (i : Instruction) (a b : Located) (core_new : List Instruction) : Type 0 where
+  pub a_is : a ≡ located m pc (a_operand m core pc i)
+  pub b_is : evaluation b core_new ≡ evaluation_of m pc (b_operand m core pc i)
+  pub a_inside : IsInside m a
+  pub b_inside : IsInside m b
   pub core_holds : IsCore m core_new
 
--- The opcode has acted: the core that it leaves, and what it queues, are those of `effect_of` for
--- the copies a and b.
-pub record IsActed (opcode : Opcode) (modifier : Modifier) (m : ℕ) (core : List Instruction) (pc a_address : ℕ) (a b : Instruction) (b_address : ℕ) (core_new : List Instruction) (queued : Queued) : Type 0 where
-  pub effect : leaves core_new (addresses m pc a_address queued) ≡ effect_of opcode modifier m core pc a_address a b b_address
+-- The opcode has acted on the operands a and b: the core that it leaves, and what it queues.
+pub record IsActed (opcode : Opcode) (modifier : Modifier) (m : ℕ) (core : List Instruction) (pc : ℕ) (a b : Located) (core_new : List Instruction) (queued : Queued) : Type 0 where
+  pub effect : leaves core_new (addresses m pc a.address queued) ≡ effect_of opcode modifier m core pc a b
   pub core_holds : IsCore m core_new
 
 -- The step is done: the core that it leaves, what the task queues, and where its A-operand points.

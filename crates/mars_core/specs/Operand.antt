@@ -14,6 +14,15 @@ pub record Operand : Type 0 where
   pub copy : Instruction
   pub core : List Instruction
 
+-- An operand with the address to which it points, in place of the pointer.
+pub record Located : Type 0 where
+  pub address : ℕ
+  pub copy : Instruction
+
+-- The operand of the task at pc in a core of m cells, located.
+abbrev pub located : ℕ → ℕ → Operand → Located
+located m pc o = record { address = sum_of m pc o.pointer; copy = o.copy }
+
 -- The operand with a given pointer, which changes nothing in the core.
 abbrev pub pointing : ℕ → List Instruction → ℕ → ℕ → Operand
 pointing m core pc pointer = record { pointer = pointer; copy = cell_at core (sum_of m pc pointer); core = core }

@@ -7,7 +7,7 @@
 use Rattle.std.specs.Prelude.{ℕ, Bool, ◌+◌, ◌-◌, ◌*◌, ◌/◌, ◌%◌, ◌==◌, ◌&&◌}
 use Rattle.rc_instr.specs.Instruction.{modifier_number, empty_cell}
 use Rattle.rc_instr.specs.declared.instruction.Instruction.{Instruction}
-use Rattle.mars_core.specs.Classes.{key_of, class_of, IsClassOf}
+use Rattle.mars_core.specs.Classes.{class_count, key_of, class_of, IsClassOf}
 use Rattle.mars_core.specs.Codes.{opcode_of, modifier_of, mode_of}
 
 -- The word of an instruction, without a mark.
@@ -27,7 +27,7 @@ unpacked w = record {
 
 -- The class that a word keeps.
 abbrev pub class_in : ℕ → ℕ
-class_in w = w / 4294967296 % 128
+class_in w = w / 4294967296 % class_count
 
 -- What the class in a word says of its instruction is true.
 pub record IsClassed (w : ℕ) : Type 0 where

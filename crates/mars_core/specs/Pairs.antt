@@ -45,10 +45,14 @@ abbrev pub every_pair : (ℕ → ℕ → Bool) → List (Field × Field) → Ins
 every_pair test [] a b = true
 every_pair test (p ∷ ps) a b = test (field_of p.0 a) (field_of p.1 b) && every_pair test ps a b
 
--- The target after MOV, ADD, SUB, MUL, DIV or MOD.
+-- The target after the opcode's value for each pair is written.
+abbrev pub computed_in_pairs : Opcode → Modifier → ℕ → Instruction → Instruction → Instruction → Instruction
+computed_in_pairs opcode modifier m a b target = written (written_value opcode m) (pairs_of modifier) a b target
+
+-- The target after MOV, ADD, SUB, MUL, DIV or MOD. MOV takes the whole instruction with I.
 unfoldable pub computed : Opcode → Modifier → ℕ → Instruction → Instruction → Instruction → Instruction
 computed Mov I m a b target = a
-computed opcode modifier m a b target = written (written_value opcode m) (pairs_of modifier) a b target
+computed opcode modifier m a b target = computed_in_pairs opcode modifier m a b target
 
 -- The target after DJN: the numbers that it tests are lowered by 1.
 unfoldable pub counted_down : Modifier → ℕ → Instruction → Instruction

@@ -1,5 +1,7 @@
 -- A queue of tasks, and the ring of slots in which it is kept.
-use Rattle.std.specs.Prelude.{◌≡◌, ℕ, zero, suc, ◌+◌, ◌%◌, ◌<◌, ◌≤◌, List, [], ◌∷◌, length, get_or}
+use Rattle.std.specs.Prelude.{◌≡◌, ℕ, zero, suc, ◌+◌, ◌%◌, ◌<◌, ◌≤◌, List, [], ◌∷◌, length, drop, get_or}
+use Rattle.rc_instr.specs.declared.instruction.Instruction.{Instruction}
+use Rattle.mars_core.specs.State.{appended, tasks_after}
 
 -- The addresses of the tasks, the next to execute first, and how many there may be.
 pub record Queue : Type 0 where
@@ -8,6 +10,17 @@ pub record Queue : Type 0 where
 
 abbrev pub queue : List ℕ → ℕ → Queue
 queue items capacity = record { items = items; capacity = capacity }
+
+-- The queue with addresses appended in order, each only while there is room.
+abbrev pub queue_with : Queue → List ℕ → Queue
+queue_with q addresses = queue (appended q.capacity q.items addresses) q.capacity
+
+abbrev pub without_first : Queue → Queue
+without_first q = queue (drop 1 q.items) q.capacity
+
+-- The queue of a side after its turn.
+abbrev pub queue_after : List Instruction → Queue → Queue
+queue_after core q = queue (tasks_after q.capacity core q.items) q.capacity
 
 -- The number of slots in a ring: more than the 8000 tasks that rules allow.
 abbrev pub ring_size : ℕ

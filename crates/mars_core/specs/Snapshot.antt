@@ -14,10 +14,14 @@ pub record SnapshotView : Type 0 where
 abbrev pub snapshot_view : List Instruction → List ℕ → List ℕ → ℕ → SnapshotView
 snapshot_view core mine theirs cycles = record { core = core; mine = mine; theirs = theirs; cycles = cycles }
 
--- A snapshot has room for 8 tasks of each side.
+-- The most tasks of a side in a state that is kept.
+abbrev pub few_tasks : ℕ
+few_tasks = 8
+
+-- A snapshot has room for these tasks of each side.
 pub record HasRoom (mine theirs : Queue) : Type 0 where
-  pub mine_room : mine.capacity ≡ 8
-  pub theirs_room : theirs.capacity ≡ 8
+  pub mine_room : mine.capacity ≡ few_tasks
+  pub theirs_room : theirs.capacity ≡ few_tasks
 
 -- The state after these cycles is the one that was kept, a period ago.
 pub record IsBack (kept : SnapshotView) (core : List Instruction) (mine theirs : List ℕ) (cycles period : ℕ) : Type 0 where

@@ -1,17 +1,22 @@
--- Cells in words, and a journal of those that were written.
-use Rattle.std.specs.Prelude.{◌≡◌, ℕ, ◌<◌, ◌≤◌, Bool, true, false, List, length, take, map, slice_index, All, Contains, count_by, ◌⊎◌}
+-- A store of cells as contracts see it; and cells in words, with a journal of those that were
+-- written.
+use Rattle.std.specs.Prelude.{◌≡◌, ℕ, ◌+◌, ◌<◌, ◌≤◌, Bool, true, false, if◌then◌else◌, List, length, take, map, slice_index, slice_index_or, All, Contains, count_by, ◌⊎◌}
 use Rattle.rc_instr.specs.declared.instruction.Instruction.{Instruction}
 use Rattle.mars_core.specs.Packed.{unpacked, is_marked, empty_word, IsClassed}
 
--- The instructions in the words, the marks of the words, and the number of addresses in the
--- journal.
+-- The instructions in the cells, whether each cell is marked, and the number of marks.
 pub record StoreView : Type 0 where
   pub items : List Instruction
   pub marked : List Bool
   pub marks : ℕ
 
+-- Words, of which `count` are marked.
 abbrev pub store_view : List ℕ → ℕ → StoreView
 store_view words count = record { items = map unpacked words; marked = map is_marked words; marks = count }
+
+-- The marks after the cell at an address is marked: one more if it was not.
+abbrev pub marks_after : List Bool → ℕ → ℕ → ℕ
+marks_after marked at marks = if slice_index_or marked at true then marks else marks + 1
 
 -- The first `count` items of the journal are the addresses of the marked cells, and it has room for
 -- those of all cells. A cell without a mark is empty. No word keeps a wrong class.

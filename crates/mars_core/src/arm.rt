@@ -1,10 +1,10 @@
 //! Instructions whose opcode, modifier and modes are known at compile time.
 ghost use Rattle.std.specs.Prelude.{◌<◌, ◌≤◌, ◌+◌};
-ghost use Rattle.rc_instr.specs.Warrior.{IsBelow};
 ghost use Rattle.mars_core.specs.Classes.{IsCoded};
 ghost use Rattle.mars_core.specs.Codes.{opcode_of, modifier_of, mode_of};
 ghost use Rattle.mars_core.specs.Core.{IsCore};
-ghost use Rattle.mars_core.specs.Executed.{IsFetched, IsExecuted, IsEvaluated, IsActed};
+ghost use Rattle.mars_core.specs.Evaluated.{seen_operand};
+ghost use Rattle.mars_core.specs.Executed.{IsFetched, IsExecuted, IsInside, IsEvaluated, IsActed};
 
 use crate::cell::Cell;
 use crate::cells::Cells;
@@ -52,7 +52,7 @@ pub(crate) fn evaluate_in<C: Cells, const MODE: u64>(
     requires core { IsCore size (C.items cells.old) }
     requires pc { pc < size }
     requires n { n < size }
-    ensures evaluated { IsEvaluated size (C.items cells.old) pc (mode_of MODE) n result.address (C.Kept.held result.copy) (C.items cells.new) }
+    ensures evaluated { IsEvaluated size (C.items cells.old) pc (mode_of MODE) n (seen_operand C.Kept.held result) (C.items cells.new) }
     ensures marks { C.marks cells.new ≤ C.marks cells.old + 1 }
 {
     evaluate(cells, size, pc, mode_from(MODE), n)
@@ -69,9 +69,9 @@ fn act_as<C: Cells, const OPCODE: u64, const MODIFIER: u64>(
 ) -> Queued
     requires codes { (OPCODE < 16) × (MODIFIER < 8) }
     requires core { IsCore size (C.items cells.old) }
-    requires a { IsBelow size (C.Kept.held a.copy) × (a.address < size) }
-    requires b { IsBelow size (C.Kept.held b.copy) × (b.address < size) }
-    ensures acted { IsActed (opcode_of OPCODE) (modifier_of MODIFIER) size (C.items cells.old) pc a.address (C.Kept.held a.copy) (C.Kept.held b.copy) b.address (C.items cells.new) result }
+    requires a { IsInside size (seen_operand C.Kept.held a) }
+    requires b { IsInside size (seen_operand C.Kept.held b) }
+    ensures acted { IsActed (opcode_of OPCODE) (modifier_of MODIFIER) size (C.items cells.old) pc (seen_operand C.Kept.held a) (seen_operand C.Kept.held b) (C.items cells.new) result }
     ensures marks { C.marks cells.new ≤ C.marks cells.old + 1 }
 {
     act(

@@ -5,12 +5,20 @@ ghost use Rattle.rc_instr.specs.declared.instruction.Instruction.{Instruction};
 ghost use Rattle.rc_instr.specs.Warrior.{IsBelow};
 ghost use Rattle.mars_core.specs.Numbers.{sum_of, difference_of, with_field};
 ghost use Rattle.mars_core.specs.Classes.{IsClassOf};
-ghost use Rattle.mars_core.specs.Codes.{opcode_of, modifier_of};
+ghost use Rattle.mars_core.specs.Codes.{code_count, opcode_of, modifier_of};
 ghost use Rattle.mars_core.specs.Numbers.{ANumber, BNumber};
 
 use crate::number::{difference, sum};
 use crate::packed::{mode_code, modifier_code, opcode_code};
 use rc_instr::Instruction;
+
+// Classes below this one are frequent instructions; the others say modes, and nothing else.
+pub(crate) const FIRST_OF_MODES: u64 = 64;
+
+pub(crate) const CLASS_COUNT: u64 = 128;
+
+// A code is 8 times the number of an opcode, plus the number of a modifier.
+pub(crate) const CODE_COUNT: u64 = 128;
 
 /// A cell in the form in which a store keeps it.
 pub trait Cell: Copy {
@@ -32,7 +40,7 @@ pub trait Cell: Copy {
 
     /// Returns 8 times the number of the opcode, plus the number of the modifier.
     fn code(self) -> u64
-        ensures small { result < 128 }
+        ensures small { result < code_count }
         ensures opcode { opcode_of (result / 8) ≡ (held self).opcode }
         ensures modifier { modifier_of (result % 8) ≡ (held self).modifier };
 
@@ -96,7 +104,7 @@ impl Cell for Instruction {
     #[tactic(auto, using(crate::proofs::Packing::modes_class))]
     #[inline]
     fn class(self) -> u64 {
-        64 + mode_code(self.a_mode) + 8 * mode_code(self.b_mode)
+        FIRST_OF_MODES + mode_code(self.a_mode) + 8 * mode_code(self.b_mode)
     }
 
     #[tactic(auto, using(crate::proofs::Packing::code))]

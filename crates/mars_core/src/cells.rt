@@ -1,9 +1,10 @@
 //! The cells of a core: how they are kept, read, written, and emptied again.
-ghost use Rattle.std.specs.Prelude.{◌≡◌, ℕ, ◌+◌, ◌<◌, ◌≤◌, Bool, true, false, Some, List, length, replicate, slice_get, slice_set, All, IfOk};
+ghost use Rattle.std.specs.Prelude.{◌≡◌, ℕ, ◌+◌, ◌<◌, ◌≤◌, Bool, true, List, length, replicate, slice_set, All, IfOk};
 ghost use Rattle.rc_instr.specs.Instruction.{empty_cell};
 ghost use Rattle.rc_instr.specs.declared.instruction.Instruction.{Instruction};
 ghost use Rattle.rc_instr.specs.Warrior.{IsBelow};
 ghost use Rattle.mars_core.specs.Core.{cell_at, filled_in, loaded_at, IsCore};
+ghost use Rattle.mars_core.specs.Store.{marks_after};
 
 use crate::cell::Cell;
 use crate::plain_queue::PlainQueue;
@@ -49,9 +50,7 @@ pub trait Cells {
         requires { at < length (items self.old) }
         ensures items { items self.new ≡ slice_set (items self.old) at (Self.Kept.held cell) }
         ensures marked { marked self.new ≡ slice_set (marked self.old) at true }
-        ensures first { slice_get (marked self.old) at ≡ Some false → marks self.new ≡ marks self.old + 1 }
-        ensures again { slice_get (marked self.old) at ≡ Some true → marks self.new ≡ marks self.old }
-        ensures marks { marks self.new ≤ marks self.old + 1 };
+        ensures marks { marks self.new ≡ marks_after (marked self.old) at (marks self.old) };
 
     /// Returns the cell at address `at`, which is below the size.
     fn get(&self, at: u32) -> Instruction
@@ -66,9 +65,7 @@ pub trait Cells {
         requires { at < length (items self.old) }
         ensures items { items self.new ≡ slice_set (items self.old) at instruction }
         ensures marked { marked self.new ≡ slice_set (marked self.old) at true }
-        ensures first { slice_get (marked self.old) at ≡ Some false → marks self.new ≡ marks self.old + 1 }
-        ensures again { slice_get (marked self.old) at ≡ Some true → marks self.new ≡ marks self.old }
-        ensures marks { marks self.new ≤ marks self.old + 1 }
+        ensures marks { marks self.new ≡ marks_after (marked self.old) at (marks self.old) }
     {
         self.put(at, Self::Kept::of(instruction));
     }
@@ -153,7 +150,7 @@ impl Cells for PlainCells {
     }
 
     #[inline]
-    #[tactic(auto, using(crate::proofs::Marks::all_stay, crate::proofs::Marks::none_first))]
+    #[tactic(auto, using(crate::proofs::Marks::all_stay, crate::proofs::Marks::none_added))]
     fn put(&mut self, at: u32, cell: Instruction) {
         self.cells[at as usize] = cell;
     }
@@ -196,7 +193,7 @@ pub(crate) fn read<C: Cells>(cells: &C, size: u32, at: u32) -> C::Kept
 }
 
 // Replaces a cell of a core.
-#[tactic(auto, using(crate::proofs::Below::core_set))]
+#[tactic(auto, using(crate::proofs::Below::core_set, crate::proofs::Marks::one_added))]
 #[inline]
 pub(crate) fn write<C: Cells>(cells: &mut C, size: u32, at: u32, cell: C::Kept)
     requires core { IsCore size (C.items cells.old) }

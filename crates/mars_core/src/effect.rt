@@ -1,10 +1,11 @@
 //! The opcodes: what each writes, and what it queues.
-ghost use Rattle.std.specs.Prelude.{◌≡◌, ◌<◌, ◌≤◌, ◌+◌, slice_set, if◌then◌else◌};
+ghost use Rattle.std.specs.Prelude.{◌≡◌, ◌<◌, ◌≤◌, ◌+◌, if◌then◌else◌};
 ghost use Rattle.rc_instr.specs.Warrior.{IsBelow};
 ghost use Rattle.rc_instr.specs.declared.instruction.Opcode.{Opcode};
-ghost use Rattle.mars_core.specs.Core.{cell_at, IsCore};
-ghost use Rattle.mars_core.specs.Pairs.{computed, counted_down, has_zero_divisor, pairs_of, written, written_value};
-ghost use Rattle.mars_core.specs.Executed.{IsActed};
+ghost use Rattle.mars_core.specs.Core.{updated_at, IsCore};
+ghost use Rattle.mars_core.specs.Pairs.{computed, computed_in_pairs, counted_down, has_zero_divisor};
+ghost use Rattle.mars_core.specs.Evaluated.{seen_operand};
+ghost use Rattle.mars_core.specs.Executed.{IsInside, IsActed};
 ghost use Rattle.mars_core.specs.declared.effect.Queued.{Queued};
 
 use crate::cell::Cell;
@@ -45,9 +46,9 @@ pub(crate) fn act<C: Cells>(
     b: Evaluated<C::Kept>,
 ) -> Queued
     requires core { IsCore size (C.items cells.old) }
-    requires a { IsBelow size (C.Kept.held a.copy) × (a.address < size) }
-    requires b { IsBelow size (C.Kept.held b.copy) × (b.address < size) }
-    ensures acted { IsActed opcode modifier size (C.items cells.old) pc a.address (C.Kept.held a.copy) (C.Kept.held b.copy) b.address (C.items cells.new) result }
+    requires a { IsInside size (seen_operand C.Kept.held a) }
+    requires b { IsInside size (seen_operand C.Kept.held b) }
+    ensures acted { IsActed opcode modifier size (C.items cells.old) pc (seen_operand C.Kept.held a) (seen_operand C.Kept.held b) (C.items cells.new) result }
     ensures marks { C.marks cells.new ≤ C.marks cells.old + 1 }
 {
     let (x, y) = (a.copy, b.copy);
@@ -94,10 +95,9 @@ fn move_numbers<C: Cells>(
 ) -> Queued
     requires core { IsCore size (C.items cells.old) }
     requires a { IsBelow size (C.Kept.held a) }
-    requires b { IsBelow size (C.Kept.held b.copy) × (b.address < size) }
+    requires b { IsInside size (seen_operand C.Kept.held b) }
     ensures queued { result ≡ Queued.Next }
-    ensures items { C.items cells.new ≡ slice_set (C.items cells.old) b.address
-        (computed Opcode.Mov modifier size (C.Kept.held a) (C.Kept.held b.copy) (cell_at (C.items cells.old) b.address)) }
+    ensures items { C.items cells.new ≡ updated_at (C.items cells.old) b.address (computed Opcode.Mov modifier size (C.Kept.held a) (C.Kept.held b.copy)) }
     ensures core { IsCore size (C.items cells.new) }
     ensures marks { C.marks cells.new ≤ C.marks cells.old + 1 }
 {
@@ -119,10 +119,9 @@ fn apply<C: Cells, O: Operation>(
 ) -> Queued
     requires core { IsCore size (C.items cells.old) }
     requires a { IsBelow size (C.Kept.held a) }
-    requires b { IsBelow size (C.Kept.held b.copy) × (b.address < size) }
+    requires b { IsInside size (seen_operand C.Kept.held b) }
     ensures queued { result ≡ Queued.Next }
-    ensures items { C.items cells.new ≡ slice_set (C.items cells.old) b.address
-        (written (written_value O.opcode size) (pairs_of modifier) (C.Kept.held a) (C.Kept.held b.copy) (cell_at (C.items cells.old) b.address)) }
+    ensures items { C.items cells.new ≡ updated_at (C.items cells.old) b.address (computed_in_pairs O.opcode modifier size (C.Kept.held a) (C.Kept.held b.copy)) }
     ensures core { IsCore size (C.items cells.new) }
     ensures marks { C.marks cells.new ≤ C.marks cells.old + 1 }
 {
@@ -143,10 +142,9 @@ fn divide<C: Cells, O: Operation>(
 ) -> Queued
     requires core { IsCore size (C.items cells.old) }
     requires a { IsBelow size (C.Kept.held a) }
-    requires b { IsBelow size (C.Kept.held b.copy) × (b.address < size) }
+    requires b { IsInside size (seen_operand C.Kept.held b) }
     ensures queued { result ≡ (if has_zero_divisor modifier (C.Kept.held a) then Queued.Nothing else Queued.Next) }
-    ensures items { C.items cells.new ≡ slice_set (C.items cells.old) b.address
-        (written (written_value O.opcode size) (pairs_of modifier) (C.Kept.held a) (C.Kept.held b.copy) (cell_at (C.items cells.old) b.address)) }
+    ensures items { C.items cells.new ≡ updated_at (C.items cells.old) b.address (computed_in_pairs O.opcode modifier size (C.Kept.held a) (C.Kept.held b.copy)) }
     ensures core { IsCore size (C.items cells.new) }
     ensures marks { C.marks cells.new ≤ C.marks cells.old + 1 }
 {
@@ -159,7 +157,7 @@ fn divide<C: Cells, O: Operation>(
 fn apply_count_down<C: Cells>(cells: &mut C, size: u32, modifier: Modifier, at: u32)
     requires core { IsCore size (C.items cells.old) }
     requires at { at < size }
-    ensures items { C.items cells.new ≡ slice_set (C.items cells.old) at (counted_down modifier size (cell_at (C.items cells.old) at)) }
+    ensures items { C.items cells.new ≡ updated_at (C.items cells.old) at (counted_down modifier size) }
     ensures core { IsCore size (C.items cells.new) }
     ensures marks { C.marks cells.new ≤ C.marks cells.old + 1 }
 {

@@ -1,10 +1,11 @@
-//! Instructions of which only the modes are known at compile time, by the second 64 classes.
+//! Instructions of which only the modes are known at compile time, by the classes of modes.
 ghost use Rattle.std.specs.Prelude.{◌<◌, ◌≤◌, ◌+◌, ◌/◌, ◌%◌};
 ghost use Rattle.rc_instr.specs.Warrior.{IsBelow};
-ghost use Rattle.mars_core.specs.Classes.{IsClassOf, IsModed};
-ghost use Rattle.mars_core.specs.Codes.{opcode_of, modifier_of};
+ghost use Rattle.mars_core.specs.Classes.{first_of_modes, IsClassOf, IsModed};
+ghost use Rattle.mars_core.specs.Codes.{code_count, opcode_of, modifier_of};
 ghost use Rattle.mars_core.specs.Core.{IsCore};
-ghost use Rattle.mars_core.specs.Executed.{IsFetched, IsExecuted, AreEvaluated, IsActed};
+ghost use Rattle.mars_core.specs.Evaluated.{seen_operand};
+ghost use Rattle.mars_core.specs.Executed.{IsFetched, IsExecuted, IsInside, AreEvaluated, IsActed};
 
 use crate::arm::evaluate_in;
 use crate::cell::Cell;
@@ -26,7 +27,7 @@ pub(crate) fn execute_by_modes<C: Cells, const PLACE: u64>(
 ) -> Executed
     requires fetched { IsFetched size (C.items cells.old) pc (C.Kept.held cell) }
     requires class { IsClassOf (C.Kept.held cell) class }
-    requires modes { 64 ≤ class }
+    requires modes { first_of_modes ≤ class }
     ensures executed { IsExecuted size (C.items cells.old) pc (C.items cells.new) result.jump result.queued }
     ensures marks { C.marks cells.new ≤ C.marks cells.old + 3 }
 {
@@ -52,8 +53,8 @@ fn operands<C: Cells, const PLACE: u64>(
     requires pc { pc < size }
     requires below { IsBelow size (C.Kept.held cell) }
     requires class { IsClassOf (C.Kept.held cell) class }
-    requires modes { 64 ≤ class }
-    ensures evaluated { AreEvaluated size (C.items cells.old) pc (C.Kept.held cell) result.0.address (C.Kept.held result.0.copy) result.1.address (C.Kept.held result.1.copy) (C.items cells.new) }
+    requires modes { first_of_modes ≤ class }
+    ensures evaluated { AreEvaluated size (C.items cells.old) pc (C.Kept.held cell) (seen_operand C.Kept.held result.0) (seen_operand C.Kept.held result.1) (C.items cells.new) }
     ensures marks { C.marks cells.new ≤ C.marks cells.old + 2 }
 {
     match class {
@@ -139,7 +140,7 @@ fn pair_in<C: Cells, const A_MODE: u64, const B_MODE: u64>(
     requires pc { pc < size }
     requires below { IsBelow size (C.Kept.held cell) }
     requires moded { IsModed A_MODE B_MODE (C.Kept.held cell) }
-    ensures evaluated { AreEvaluated size (C.items cells.old) pc (C.Kept.held cell) result.0.address (C.Kept.held result.0.copy) result.1.address (C.Kept.held result.1.copy) (C.items cells.new) }
+    ensures evaluated { AreEvaluated size (C.items cells.old) pc (C.Kept.held cell) (seen_operand C.Kept.held result.0) (seen_operand C.Kept.held result.1) (C.items cells.new) }
     ensures marks { C.marks cells.new ≤ C.marks cells.old + 2 }
 {
     let a = evaluate_in::<C, A_MODE>(cells, size, pc, cell.a_number());
@@ -157,11 +158,11 @@ fn act_by_code<C: Cells, const PLACE: u64>(
     a: Evaluated<C::Kept>,
     b: Evaluated<C::Kept>,
 ) -> Queued
-    requires code { code < 128 }
+    requires code { code < code_count }
     requires core { IsCore size (C.items cells.old) }
-    requires a { IsBelow size (C.Kept.held a.copy) × (a.address < size) }
-    requires b { IsBelow size (C.Kept.held b.copy) × (b.address < size) }
-    ensures acted { IsActed (opcode_of (code / 8)) (modifier_of (code % 8)) size (C.items cells.old) pc a.address (C.Kept.held a.copy) (C.Kept.held b.copy) b.address (C.items cells.new) result }
+    requires a { IsInside size (seen_operand C.Kept.held a) }
+    requires b { IsInside size (seen_operand C.Kept.held b) }
+    ensures acted { IsActed (opcode_of (code / 8)) (modifier_of (code % 8)) size (C.items cells.old) pc (seen_operand C.Kept.held a) (seen_operand C.Kept.held b) (C.items cells.new) result }
     ensures marks { C.marks cells.new ≤ C.marks cells.old + 1 }
 {
     match code {
@@ -310,9 +311,9 @@ fn act_once<C: Cells, const PLACE: u64, const OPCODE: u64, const MODIFIER: u64>(
 ) -> Queued
     requires codes { (OPCODE < 16) × (MODIFIER < 8) }
     requires core { IsCore size (C.items cells.old) }
-    requires a { IsBelow size (C.Kept.held a.copy) × (a.address < size) }
-    requires b { IsBelow size (C.Kept.held b.copy) × (b.address < size) }
-    ensures acted { IsActed (opcode_of OPCODE) (modifier_of MODIFIER) size (C.items cells.old) pc a.address (C.Kept.held a.copy) (C.Kept.held b.copy) b.address (C.items cells.new) result }
+    requires a { IsInside size (seen_operand C.Kept.held a) }
+    requires b { IsInside size (seen_operand C.Kept.held b) }
+    ensures acted { IsActed (opcode_of OPCODE) (modifier_of MODIFIER) size (C.items cells.old) pc (seen_operand C.Kept.held a) (seen_operand C.Kept.held b) (C.items cells.new) result }
     ensures marks { C.marks cells.new ≤ C.marks cells.old + 1 }
 {
     act(

@@ -3,6 +3,7 @@ ghost use Rattle.std.specs.Prelude.{◌≡◌, ◌<◌, ◌≤◌, ◌+◌};
 ghost use Rattle.rc_instr.specs.Warrior.{IsBelow};
 ghost use Rattle.mars_core.specs.Core.{cell_at, changed_at, IsCore};
 ghost use Rattle.mars_core.specs.Numbers.{sum_of, difference_of, field_of};
+ghost use Rattle.mars_core.specs.Evaluated.{seen_operand};
 ghost use Rattle.mars_core.specs.Executed.{IsEvaluated};
 
 use crate::cell::Cell;
@@ -34,7 +35,7 @@ pub(crate) fn evaluate<C: Cells>(
     requires core { IsCore size (C.items cells.old) }
     requires pc { pc < size }
     requires n { n < size }
-    ensures evaluated { IsEvaluated size (C.items cells.old) pc mode n result.address (C.Kept.held result.copy) (C.items cells.new) }
+    ensures evaluated { IsEvaluated size (C.items cells.old) pc mode n (seen_operand C.Kept.held result) (C.items cells.new) }
     ensures marks { C.marks cells.new ≤ C.marks cells.old + 1 }
 {
     match mode {

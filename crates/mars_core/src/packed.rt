@@ -2,11 +2,11 @@
 ghost use Rattle.std.specs.Prelude.{◌≡◌, ◌<◌, ◌%◌};
 ghost use Rattle.rc_instr.specs.Instruction.{opcode_number, modifier_number, mode_number};
 ghost use Rattle.rc_instr.specs.declared.instruction.Instruction.{Instruction};
-ghost use Rattle.mars_core.specs.Classes.{class_of_key, further_class_of_key};
+ghost use Rattle.mars_core.specs.Classes.{class_count, class_of_key, further_class_of_key};
 ghost use Rattle.mars_core.specs.Codes.{opcode_of, modifier_of, mode_of};
 ghost use Rattle.mars_core.specs.Packed.{IsClassed, packed, unpacked, is_marked, marked, empty_word, same_parts};
 
-use crate::cell::Cell;
+use crate::cell::{CLASS_COUNT, CODE_COUNT, Cell, FIRST_OF_MODES};
 use rc_instr::{Instruction, Mode, Modifier, Opcode};
 
 // What the parts of a word are multiplied by: the mark, the A-number, the class and the B-number.
@@ -114,7 +114,7 @@ pub(crate) fn mode_code(mode: Mode) -> u64
 fn class_of_key(key: u64) -> u64
     requires { key < 16384 }
     ensures value { result ≡ class_of_key key }
-    ensures small { result < 128 }
+    ensures small { result < class_count }
 {
     match key {
         // table of keys
@@ -169,7 +169,7 @@ fn class_of_key(key: u64) -> u64
 fn further_class_of_key(key: u64) -> u64
     requires { key < 16384 }
     ensures value { result ≡ further_class_of_key key }
-    ensures small { result < 128 }
+    ensures small { result < class_count }
 {
     match key {
         // table of further keys
@@ -198,7 +198,7 @@ fn further_class_of_key(key: u64) -> u64
         6757 => 62, // SNE.X *, @
         3332 => 63, // DAT.F <, $
         // end of further keys
-        _ => 64 + key / 256,
+        _ => FIRST_OF_MODES + key / 256,
     }
 }
 
@@ -276,13 +276,13 @@ impl Cell for PackedCell {
 
     #[inline]
     fn class(self) -> u64 {
-        self.word / CLASS % 128
+        self.word / CLASS % CLASS_COUNT
     }
 
     #[tactic(auto, using(crate::proofs::Packing::code), unfolding(crate::specs::Packed::unpacked))]
     #[inline]
     fn code(self) -> u64 {
-        self.word % 128
+        self.word % CODE_COUNT
     }
 
     #[tactic(auto, unfolding(crate::specs::Packed::unpacked))]

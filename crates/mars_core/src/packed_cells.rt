@@ -1,7 +1,7 @@
 //! Cells in words, with a journal of those that were written.
 ghost use Rattle.std.specs.Prelude.{◌≡◌, ◌<◌, ◌≤◌, ◌+◌, slice_index, slice_set, replicate, [], length, true, false, IfOk};
 ghost use Rattle.rc_instr.specs.Instruction.{empty_cell};
-ghost use Rattle.mars_core.specs.Packed.{unpacked, is_marked, empty_word, IsClassed};
+ghost use Rattle.mars_core.specs.Packed.{is_marked, empty_word, IsClassed};
 ghost use Rattle.mars_core.specs.Store.{IsStore, ListsWritten};
 
 use crate::cells::Cells;
@@ -131,7 +131,7 @@ impl Cells for PackedCells {
         }
     }
 
-    #[tactic(auto, using(crate::proofs::Stores::item_set, crate::proofs::Stores::marked_is, crate::proofs::Stores::marked_holds, crate::proofs::Marks::mark_set, crate::proofs::Marks::mark_at))]
+    #[tactic(auto, using(crate::proofs::Stores::item_set, crate::proofs::Stores::marked_is, crate::proofs::Stores::marked_holds, crate::proofs::Marks::mark_set, crate::proofs::Marks::mark_counted))]
     #[inline]
     fn put(&mut self, at: u32, cell: PackedCell) {
         let word = cell.marked().word;

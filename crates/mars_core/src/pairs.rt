@@ -3,7 +3,7 @@
 ghost use Rattle.std.specs.Prelude.{◌≡◌, ◌<◌, ◌≤◌, IfSome};
 ghost use Rattle.rc_instr.specs.Warrior.{IsBelow};
 ghost use Rattle.rc_instr.specs.declared.instruction.Opcode.{Opcode};
-ghost use Rattle.mars_core.specs.Pairs.{written_value, put, pairs_of, written, counted_down, has_zero_divisor, all_are, are_equal, are_less};
+ghost use Rattle.mars_core.specs.Pairs.{written_value, put, computed_in_pairs, counted_down, has_zero_divisor, all_are, are_equal, are_less};
 
 use crate::cell::Cell;
 use crate::number::{FieldA, FieldB, Number, difference, lowered, product, sum, with_number};
@@ -108,7 +108,7 @@ pub(crate) fn write_pairs<O: Operation, K: Cell>(
     requires a { IsBelow size (K.held a) }
     requires b { IsBelow size (K.held b) }
     requires target { IsBelow size (K.held target) }
-    ensures value { K.held result ≡ written (written_value O.opcode size) (pairs_of modifier) (K.held a) (K.held b) (K.held target) }
+    ensures value { K.held result ≡ computed_in_pairs O.opcode modifier size (K.held a) (K.held b) (K.held target) }
     ensures below { IsBelow size (K.held result) }
 {
     match modifier {

@@ -4,7 +4,7 @@ ghost use Rattle.mars_core.specs.Snapshot.{snapshot_view, IsBack};
 
 use crate::cell::Cell;
 use crate::cells::Cells;
-use crate::tasks::{Tasks, is_same};
+use crate::tasks::{Tasks, have_same_tasks};
 use rc_instr::OutOfMemory;
 use std::alloc::Global;
 use std::marker::Model;
@@ -79,7 +79,10 @@ impl<C: Cells> Snapshot<C> {
         ensures back { IfSome result (IsBack self.old (C.items cells.now) (C.Queue.held mine.now).items (C.Queue.held theirs.now).items cycles) }
         ensures kept { self.new ≡ self.old }
     {
-        if self.cycles == 0 || !is_same(&self.mine, mine) || !is_same(&self.theirs, theirs) {
+        if self.cycles == 0
+            || !have_same_tasks(&self.mine, mine)
+            || !have_same_tasks(&self.theirs, theirs)
+        {
             return None;
         }
         self.differs = differing_address(&self.cells, cells, self.differs);

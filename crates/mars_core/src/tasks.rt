@@ -1,6 +1,6 @@
 //! The queue of a warrior's tasks: their addresses, the next to execute first.
-ghost use Rattle.std.specs.Prelude.{◌≡◌, ◌<◌, ◌≤◌, ◌==◌, ◌∷◌, [], ◌++◌, Some, true, length, drop, slice_get, slice_index_or, if◌then◌else◌, nat_lt, IfOk};
-ghost use Rattle.mars_core.specs.Queue.{Queue, queue, ring_size};
+ghost use Rattle.std.specs.Prelude.{◌≡◌, ◌<◌, ◌≤◌, ◌==◌, ◌∷◌, [], ◌++◌, Some, true, length, drop, slice_get, slice_index_or, IfOk};
+ghost use Rattle.mars_core.specs.Queue.{Queue, queue, queue_with, without_first, ring_size};
 
 use rc_instr::OutOfMemory;
 use std::alloc::Global;
@@ -36,13 +36,13 @@ pub trait Tasks: Drop {
     /// Appends a task if there is room; else the task is lost (1994 draft).
     fn append(&mut self, task: u32)
         requires { task < 65536 }
-        ensures tasks { let q = held self.old in held self.new ≡ queue (if nat_lt (length q.items) q.capacity then q.items ++ task ∷ [] else q.items) q.capacity }
+        ensures tasks { held self.new ≡ queue_with (held self.old) (task ∷ []) }
         ensures first { 0 < length (held self.old).items → slice_get (held self.new).items 0 ≡ slice_get (held self.old).items 0 };
 
     /// Removes the first task of a queue that has one. Returns the new first task, if any.
     fn remove_first(&mut self) -> Option<u32>
         requires { 0 < length (held self.old).items }
-        ensures tasks { held self.new ≡ queue (drop 1 (held self.old).items) (held self.old).capacity }
+        ensures tasks { held self.new ≡ without_first (held self.old) }
         ensures first { result ≡ slice_get (held self.new).items 0 };
 
     /// Removes the first task of a queue that has one, and appends `last`, for which there is room
@@ -72,7 +72,7 @@ pub(crate) fn task_at<Q: Tasks>(tasks: &Q, index: usize) -> u16
 }
 
 // Checks whether two queues have the same tasks.
-pub(crate) fn is_same<Q: Tasks>(one: &Q, other: &Q) -> bool
+pub(crate) fn have_same_tasks<Q: Tasks>(one: &Q, other: &Q) -> bool
     ensures same { result ≡ true → (Q.held one.now).items ≡ (Q.held other.now).items }
     ensures found { (Q.held one.now).items ≡ (Q.held other.now).items → result ≡ true }
 {

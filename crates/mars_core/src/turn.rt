@@ -1,14 +1,14 @@
 //! One turn of a side: its first task executes an instruction, and queues what follows.
-ghost use Rattle.std.specs.Prelude.{◌≡◌, ◌<◌, ◌≤◌, ◌+◌, Some, length, drop, slice_get};
-ghost use Rattle.mars_core.specs.Queue.{queue};
-ghost use Rattle.mars_core.specs.Classes.{IsClassOf};
+ghost use Rattle.std.specs.Prelude.{◌≡◌, ◌<◌, ◌≤◌, ◌+◌, Some, length, slice_get};
+ghost use Rattle.mars_core.specs.Queue.{queue_with, queue_after, without_first};
+ghost use Rattle.mars_core.specs.Classes.{first_of_modes, IsClassOf};
 ghost use Rattle.mars_core.specs.Core.{IsCore, AreTasks};
-ghost use Rattle.mars_core.specs.State.{appended, core_after, tasks_after};
+ghost use Rattle.mars_core.specs.State.{core_after};
 ghost use Rattle.mars_core.specs.Evaluated.{addresses};
 ghost use Rattle.mars_core.specs.Executed.{IsFetched, IsExecuted};
 
 use crate::arm::arm;
-use crate::cell::Cell;
+use crate::cell::{Cell, FIRST_OF_MODES};
 use crate::cells::{Cells, read};
 use crate::effect::Queued;
 use crate::general::execute_by_modes;
@@ -29,7 +29,7 @@ pub(crate) fn take_turn<C: Cells>(cells: &mut C, tasks: &mut C::Queue, size: u32
     requires core { IsCore size (C.items cells.old) }
     requires tasks { AreTasks size (C.Queue.held tasks.old).items }
     ensures cells { C.items cells.new ≡ core_after (C.items cells.old) (C.Queue.held tasks.old).items }
-    ensures tasks { C.Queue.held tasks.new ≡ queue (tasks_after (C.Queue.held tasks.old).capacity (C.items cells.old) (C.Queue.held tasks.old).items) (C.Queue.held tasks.old).capacity }
+    ensures tasks { C.Queue.held tasks.new ≡ queue_after (C.items cells.old) (C.Queue.held tasks.old) }
     ensures core { IsCore size (C.items cells.new) }
     ensures below { AreTasks size (C.Queue.held tasks.new).items }
     ensures marks { C.marks cells.new ≤ C.marks cells.old + 3 }
@@ -58,7 +58,7 @@ pub(crate) fn next_turn<C: Cells, const PLACE: u64>(
     requires tasks { AreTasks size (C.Queue.held tasks.old).items }
     requires pc { Some pc ≡ slice_get (C.Queue.held tasks.old).items 0 }
     ensures cells { C.items cells.new ≡ core_after (C.items cells.old) (C.Queue.held tasks.old).items }
-    ensures tasks { C.Queue.held tasks.new ≡ queue (tasks_after (C.Queue.held tasks.old).capacity (C.items cells.old) (C.Queue.held tasks.old).items) (C.Queue.held tasks.old).capacity }
+    ensures tasks { C.Queue.held tasks.new ≡ queue_after (C.items cells.old) (C.Queue.held tasks.old) }
     ensures next { result ≡ slice_get (C.Queue.held tasks.new).items 0 }
     ensures core { IsCore size (C.items cells.new) }
     ensures below { AreTasks size (C.Queue.held tasks.new).items }
@@ -86,7 +86,7 @@ fn execute<C: Cells, const PLACE: u64>(
     ensures executed { IsExecuted size (C.items cells.old) pc (C.items cells.new) result.jump result.queued }
     ensures marks { C.marks cells.new ≤ C.marks cells.old + 3 }
 {
-    if class >= 64 {
+    if class >= FIRST_OF_MODES {
         return execute_by_modes::<C, PLACE>(cells, size, pc, cell, class);
     }
     execute_by_class(cells, size, pc, cell, class)
@@ -104,7 +104,7 @@ fn execute_by_class<C: Cells>(
 ) -> Executed
     requires fetched { IsFetched size (C.items cells.old) pc (C.Kept.held cell) }
     requires class { IsClassOf (C.Kept.held cell) class }
-    requires frequent { class < 64 }
+    requires frequent { class < first_of_modes }
     ensures executed { IsExecuted size (C.items cells.old) pc (C.items cells.new) result.jump result.queued }
     ensures marks { C.marks cells.new ≤ C.marks cells.old + 3 }
 {
@@ -187,7 +187,7 @@ fn requeue<Q: Tasks>(tasks: &mut Q, size: u32, pc: u32, executed: Executed) -> O
     requires pc { pc < size }
     requires jump { executed.jump < size }
     requires some { 0 < length (Q.held tasks.old).items }
-    ensures tasks { Q.held tasks.new ≡ queue (appended (Q.held tasks.old).capacity (drop 1 (Q.held tasks.old).items) (addresses size pc executed.jump executed.queued)) (Q.held tasks.old).capacity }
+    ensures tasks { Q.held tasks.new ≡ queue_with (without_first (Q.held tasks.old)) (addresses size pc executed.jump executed.queued) }
     ensures below { AreTasks size (addresses size pc executed.jump executed.queued) }
     ensures next { result ≡ slice_get (Q.held tasks.new).items 0 }
 {

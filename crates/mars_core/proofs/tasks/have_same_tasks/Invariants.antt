@@ -1,5 +1,5 @@
 use Rattle.std.proofs.Common.{◌≡◌, ℕ, ◌<◌, length, get_or}
-use Rattle.mars_core.proofs.tasks.is_same.Given as goal
+use Rattle.mars_core.proofs.tasks.have_same_tasks.Given as goal
 
 -- the tasks so far are the same
 abbrev pub invariant-loop-index : goal.invariant-loop-index
