@@ -5,6 +5,7 @@ use Rattle.rc_instr.specs.Outlet.{OutletView}
 use Rattle.rc_instr.specs.Rules.{RulesView}
 use Rattle.tune_problem.specs.declared.aim.Aim.{Aim}
 use Rattle.tune_problem.specs.declared.part.Part.{Part}
+use Rattle.tune_cert.specs.Shares.{share_part}
 use Rattle.tune_cert.specs.declared.demand.Demand.{Demand}
 use Rattle.tune_cert.specs.declared.share.Share.{Share}
 use Rattle.mars_core.specs.declared.side.Side.{Side}
@@ -16,7 +17,6 @@ use Rattle.tune_runs.specs.SettingRun.{setting_output}
 use Rattle.tune_runs.specs.SettingsRun.{WritesSettings}
 use Rattle.tune_runs.specs.TuneRun.{Texts, part_texts, WritesTuningFrom}
 use Rattle.tune_runs.specs.CheckRun.{check_for_output, check_output}
-use Rattle.tune_runs.specs.Given.{part_given}
 use Rattle.tune_search.specs.declared.method.Method.{Method}
 use Rattle.tune_runs.specs.declared.given.WhichSetting.{WhichSetting}
 use Rattle.tune_runs.specs.declared.fault.RunFault.{RunFault}
@@ -57,7 +57,7 @@ is_asked demand = is_some demand.keep || is_some demand.floor
 -- lines of the judgement if a ranking or a floor is asked for; or the first fault of the texts.
 abbrev pub check_command_output : Demand → Option Share → Texts → List ℕ → Result (Bool × List ℕ) RunFault
 check_command_output demand share t cert =
-    if is_asked demand then check_for_output t demand (option_map part_given share) cert else check_output t (option_map part_given share) cert
+    if is_asked demand then check_for_output t demand (option_map share_part share) cert else check_output t (option_map share_part share) cert
 
 -- The lines were written, and `accepted` says whether the certificate is accepted.
 abbrev pub WritesCheckOf : Demand → Option Share → Texts → List ℕ → Bool → Writer → Type 0

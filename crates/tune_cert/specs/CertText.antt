@@ -2,6 +2,7 @@
 -- them by default.
 use Rattle.std.specs.Prelude.{ℕ, ◌+◌, List, [], ◌∷◌, ◌++◌, codes, flat_map, length}
 use Rattle.std.specs.Fmt.{decimal}
+use Rattle.std.specs.Str.{byte}
 use Rattle.csv.specs.Writing.{default_writer, row_text}
 use Rattle.tables.specs.Records.{Fields}
 use Rattle.tune_problem.specs.declared.cert.Cert.{Cert}
@@ -13,11 +14,11 @@ use Rattle.tune_problem.specs.declared.statement.Statement.{Statement}
 
 -- A fight with its points: `7:3`.
 unfoldable pub item_text : ℕ × ℕ → List ℕ
-item_text item = decimal item.0 ++ 58 ∷ decimal item.1
+item_text item = decimal item.0 ++ byte ":" ∷ decimal item.1
 
 -- A space, then a fight with its points.
 unfoldable pub spaced_text : ℕ × ℕ → List ℕ
-spaced_text item = 32 ∷ item_text item
+spaced_text item = byte " " ∷ item_text item
 
 -- The list of a cap row: `0:3 1:1`, or `-` if it lists none.
 unfoldable pub list_text : List (ℕ × ℕ) → List ℕ

@@ -87,6 +87,10 @@ accepted_with p demand s = Accepted s.answer (ranking_for p s.rows (aim_for dema
 abbrev pub judgement_on : Problem → Demand → Part → Statement → Judgement
 judgement_on p demand share s = judgement_by s.answer (ranking_for p s.rows (aim_for demand s.answer)) (failure_of p demand share s)
 
+-- A share accepts a statement for a demand, with its answer and the ranking that its rows list.
+abbrev pub ShareAccepts : Problem → Demand → Part → Statement → Type 0
+ShareAccepts p demand share s = judgement_on p demand share s ≡ accepted_with p demand s
+
 -- The judgement of a share on what is read: on a statement, or else Malformed at this record.
 abbrev pub judgement_on_read : Problem → Demand → Part → Result Statement ℕ → Judgement
 judgement_on_read p demand share (Ok s) = judgement_on p demand share s

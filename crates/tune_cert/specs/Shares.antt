@@ -17,6 +17,10 @@ use Rattle.tune_cert.specs.declared.share.Share.{Share}
 abbrev pub share_part : Share → Part
 share_part share = part share.number share.shares
 
+-- This holds of each share, if the rows are split into `shares`.
+abbrev pub InEachShare : (shares : ℕ) → (Part → Type 0) → Type 0
+InEachShare shares Holds = (number : ℕ) → 1 ≤ number → number ≤ shares → Holds (part number shares)
+
 -- A refused or a cap row is right in a share if it is a right row of the certificate. A row of v
 -- that refers to u is right if u is another setting with the same warrior and has a cap row, whose
 -- fights rise and exist, and the cap by the points listed there, as one of v, does not beat the

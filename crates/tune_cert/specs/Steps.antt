@@ -8,13 +8,20 @@ use Rattle.rc_instr.specs.Warrior.{WarriorView}
 use Rattle.tune_problem.specs.Problem.{Problem, problem_of}
 use Rattle.tune_problem.specs.declared.aim.Aim.{Aim}
 use Rattle.tune_problem.specs.declared.cert.Cert.{Cert}
+use Rattle.tune_cert.specs.Checks.{share_settings}
+use Rattle.tune_cert.specs.Shares.{share_part}
 use Rattle.tune_cert.specs.declared.claim.Claim.{Claim}
+use Rattle.tune_cert.specs.declared.share.Share.{Share}
 use Rattle.csv.specs.Writing.{default_writer, writer_setup, fields_written, has_written, text_written}
 use Rattle.csv.specs.declared.writer.Writer.{Writer}
 
 -- Applies a rule of `Checks` to the inputs, the certificate and the aim of a claim.
 abbrev pub for_claim : {A : Type 0} → (rule : Problem → Cert → Option Aim → A) → Claim → A
 for_claim rule claim = rule (problem_of claim.inputs.now) claim.cert.now claim.aim
+
+-- The settings of a share, out of those of a claim.
+abbrev pub claim_settings : Share → Claim → List ℕ
+claim_settings share claim = share_settings (share_part share) (problem_of claim.inputs.now).count
 
 -- The most that the fights of a row can give.
 abbrev pub listed_most : Problem → List (ℕ × ℕ) → ℕ

@@ -1,30 +1,24 @@
 //! Checks certificates.
-ghost use Rattle.std.specs.Prelude.{◌≡◌, ◌≤◌, length, IfOk, IsTrue};
-ghost use Rattle.mars_core.specs.Arena.{IsBlank};
+ghost use Rattle.std.specs.Prelude.{◌≡◌, IfOk};
 ghost use Rattle.tables.specs.Records.{records_of};
 ghost use Rattle.tune_problem.specs.Parts.{whole};
 ghost use Rattle.tune_problem.specs.Problem.{problem_of};
-ghost use Rattle.tune_cert.specs.Checks.{wrong_alone, wrong_same, rows_failure, settings_between, share_settings, listed_fights_of, PlaysAtMost, is_version_of, has_row_count};
+ghost use Rattle.tune_cert.specs.Checks.{is_version_of, has_row_count};
 ghost use Rattle.tune_cert.specs.Verdict.{verdict_on, IsVerdictOf};
 ghost use Rattle.tune_cert.specs.Judgement.{is_answered, as_cert, judgement_on, judgement_of, IsOfSettings};
 ghost use Rattle.tune_cert.specs.Shares.{share_part};
-ghost use Rattle.tune_cert.specs.Steps.{for_claim};
 
 use crate::claim::Claim;
 use crate::demand::Demand;
 use crate::fault::{CheckFault, ReadFault};
-use crate::listed::ranking_for;
-use crate::read::{read_cert, read_statement, record_of};
-use crate::row_checks::{check_alone, check_same, is_best_row};
+use crate::ranking::ranking_for;
+use crate::read::{read_cert, read_statement};
+use crate::row_checks::is_best_row;
 use crate::share::Share;
-use crate::telling::{before_rows, refers, tell_row};
+use crate::share_rows::check_claim;
 use crate::verdict::{Judgement, Reason, Verdict};
-use crate::warriors::no_warriors;
-use mars_core::{Arena, PackedCells};
 use std::alloc::Global;
-use tune_problem::{
-    Answer, Best, Cert, Inputs, Silent, Standing, Statement, Watcher, cert_version,
-};
+use tune_problem::{Answer, Best, Cert, Inputs, Silent, Statement, Watcher, cert_version};
 
 /// Checks the bytes of a certificate against the inputs of a tuning.
 ///
@@ -271,138 +265,4 @@ fn rejected(index: u64, reason: Reason) -> Judgement
     ensures { result ≡ Judgement.Rejected index reason }
 {
     Judgement::Rejected { row: index, reason }
-}
-
-// Checks the rows of a share, in an arena of their own. Returns the first wrong row.
-fn check_claim<T: Watcher>(
-    alloc: Global,
-    claim: &Claim<'_>,
-    share: Share,
-    watcher: &mut T,
-) -> Result<Option<(u64, Reason)>, CheckFault>
-    ensures wrong { IfOk result (λ o. o ≡ for_claim rows_failure claim.now (share_settings (share_part share) (problem_of claim.now.inputs.now).count)) }
-{
-    let mut arena = Arena::<PackedCells>::try_new(alloc, claim.inputs.rules())?;
-    check_rows(alloc, &mut arena, claim, share, watcher)
-}
-
-// Checks the rows of a share: first those that refer to no other setting, then those that do.
-// Returns the first wrong row.
-fn check_rows<T: Watcher>(
-    alloc: Global,
-    arena: &mut Arena<PackedCells>,
-    claim: &Claim<'_>,
-    share: Share,
-    watcher: &mut T,
-) -> Result<Option<(u64, Reason)>, CheckFault>
-    requires blank { IsBlank claim.now.inputs.now.rules arena.old }
-    ensures wrong { IfOk result (λ o. o ≡ for_claim rows_failure claim.now (share_settings (share_part share) (problem_of claim.now.inputs.now).count)) }
-
-    // At most as many fights are played as the rows of the share list.
-    ensures most { PlaysAtMost arena.old arena.new
-        (listed_fights_of claim.now.cert.now.rows (share_settings (share_part share) (problem_of claim.now.inputs.now).count)) }
-{
-    let count = claim.inputs.count();
-    let first = share.first(count);
-    let end = share.end(count);
-    let mut standing = before_rows(named_best(claim), end - first);
-    if let Some(wrong) = check_rows_alone(
-        alloc,
-        arena,
-        claim,
-        first,
-        end,
-        &mut standing,
-        watcher,
-    )? {
-        return Ok(Some(wrong));
-    }
-    if none_refer(claim, first, end) {
-        return Ok(None);
-    }
-    check_rows_same(alloc, claim, first, end, &mut standing, watcher)
-}
-
-// Returns the best setting that the certificate names, for the watcher. It names none if its best
-// is the setting after the last, as `as_cert` makes it.
-fn named_best(claim: &Claim<'_>) -> Option<Best> {
-    if claim.cert.best >= claim.inputs.count() {
-        return None;
-    }
-    Some(Best {
-        vector: claim.cert.best,
-        total: claim.cert.total,
-    })
-}
-
-// Checks the refused and the cap rows from `first` to just before `end`. Returns the first wrong
-// one.
-fn check_rows_alone<T: Watcher>(
-    alloc: Global,
-    arena: &mut Arena<PackedCells>,
-    claim: &Claim<'_>,
-    first: u32,
-    end: u32,
-    standing: &mut Standing,
-    watcher: &mut T,
-) -> Result<Option<(u64, Reason)>, CheckFault>
-    requires blank { IsBlank claim.now.inputs.now.rules arena.old }
-    requires inside { end ≤ (problem_of claim.now.inputs.now).count }
-    ensures wrong { IfOk result (λ o. o ≡ for_claim wrong_alone claim.now (settings_between first end)) }
-
-    // At most as many fights are played as these rows list.
-    ensures most { PlaysAtMost arena.old arena.new (listed_fights_of claim.now.cert.now.rows (settings_between first end)) }
-{
-    let rows = claim.cert.rows.as_slice();
-    for vector in first..end {
-        let row = &rows[vector as usize];
-        if let Some(reason) = check_alone(alloc, arena, claim, vector, row, watcher)? {
-            return Ok(Some((record_of(u64::from(vector)), reason)));
-        }
-        if !refers(row) {
-            tell_row(row, standing, watcher);
-        }
-    }
-    Ok(None)
-}
-
-// Checks that no row from `first` to just before `end` refers to another setting.
-fn none_refer(claim: &Claim<'_>, first: u32, end: u32) -> bool
-    requires inside { end ≤ length claim.now.cert.now.rows }
-    ensures { IsTrue result → None ≡ for_claim wrong_same claim.now (settings_between first end) }
-{
-    let rows = claim.cert.rows.as_slice();
-    for vector in first..end {
-        if refers(&rows[vector as usize]) {
-            return false;
-        }
-    }
-    true
-}
-
-// Checks the rows from `first` to just before `end` that refer to other settings. Returns the first
-// wrong one. Assembles each such row's setting, and once each setting that such rows refer to.
-fn check_rows_same<T: Watcher>(
-    alloc: Global,
-    claim: &Claim<'_>,
-    first: u32,
-    end: u32,
-    standing: &mut Standing,
-    watcher: &mut T,
-) -> Result<Option<(u64, Reason)>, CheckFault>
-    requires inside { end ≤ (problem_of claim.now.inputs.now).count }
-    ensures wrong { IfOk result (λ o. o ≡ for_claim wrong_same claim.now (settings_between first end)) }
-{
-    let rows = claim.cert.rows.as_slice();
-    let mut warriors = no_warriors(alloc, claim.inputs.count())?;
-    for vector in first..end {
-        let row = &rows[vector as usize];
-        if let Some(reason) = check_same(alloc, claim, &mut warriors, vector, row)? {
-            return Ok(Some((record_of(u64::from(vector)), reason)));
-        }
-        if refers(row) {
-            tell_row(row, standing, watcher);
-        }
-    }
-    Ok(None)
 }

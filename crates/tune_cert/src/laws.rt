@@ -2,16 +2,16 @@
 //! function with an empty body: its contract is what is proved.
 ghost use Rattle.std.specs.Prelude.{◌≡◌, ◌↔◌, ◌≤◌, ℕ, true, List, Ok, Err};
 ghost use Rattle.tables.specs.Records.{Fields, records_of};
-ghost use Rattle.tune_problem.specs.Parts.{whole, part};
+ghost use Rattle.tune_problem.specs.Parts.{whole};
 ghost use Rattle.tune_problem.specs.Problem.{Problem, IsProblem};
 ghost use Rattle.tune_problem.specs.Valid.{IsValid};
 ghost use Rattle.tune_problem.specs.declared.part.Part.{Part};
 ghost use Rattle.tune_problem.specs.declared.statement.Statement.{Statement};
 ghost use Rattle.tune_cert.specs.CertText.{cert_text, statement_text, statement_fields, stated};
 ghost use Rattle.tune_cert.specs.Spelling.{IsCert, IsStatement, IsFirstMalformed, Spells, statement_of, cert_of_records};
-ghost use Rattle.tune_cert.specs.Shares.{IsValidInShare};
+ghost use Rattle.tune_cert.specs.Shares.{InEachShare, IsValidInShare};
 ghost use Rattle.tune_cert.specs.Verdict.{verdict_on, IsVerdictOf, IsRightVerdict};
-ghost use Rattle.tune_cert.specs.Judgement.{judgement_on, accepted_with, judged, no_demand, MeetsDemand};
+ghost use Rattle.tune_cert.specs.Judgement.{judgement_on, judged, no_demand, MeetsDemand, ShareAccepts};
 
 use crate::demand::Demand;
 use crate::verdict::Verdict;
@@ -31,7 +31,8 @@ pub fn a_written_certificate_is_read()
 /// States that what is read of records is what they spell: with floors the statement, and without
 /// the certificate, or else the first malformed record.
 pub fn records_are_read_as_they_are_spelled()
-    ensures statement { (records : List Fields) (s : Statement) → (statement_of true records ≡ Ok s) ↔ (IsStatement s × (records ≡ statement_fields s)) }
+    ensures statement { (records : List Fields) (s : Statement)
+        → (statement_of true records ≡ Ok s) ↔ (IsStatement s × (records ≡ statement_fields s)) }
     ensures cert { (records : List Fields) (c : Cert) → (cert_of_records records ≡ Ok c) ↔ Spells records c }
     ensures fault { (records : List Fields) (n : ℕ) → (cert_of_records records ≡ Err n) ↔ IsFirstMalformed records n }
 {}
@@ -45,7 +46,8 @@ pub fn records_spell_at_most_one_certificate()
 /// says of the bytes holds, everything that is checked before a rejection is right, an accepted
 /// certificate names the optimum and its total, whoever made it, and a valid one is accepted.
 pub fn the_verdict_is_right()
-    ensures one { (p : Problem) (share : Part) (records : List Fields) (v w : Verdict) → IsVerdictOf p share records v → IsVerdictOf p share records w → v ≡ w }
+    ensures one { (p : Problem) (share : Part) (records : List Fields) (v w : Verdict)
+        → IsVerdictOf p share records v → IsVerdictOf p share records w → v ≡ w }
     ensures right { (p : Problem) (records : List Fields) (v : Verdict) → IsProblem p → IsVerdictOf p whole records v → IsRightVerdict p records v }
 {}
 
@@ -54,8 +56,7 @@ pub fn the_verdict_is_right()
 /// share, into however many shares its rows are split.
 pub fn accepted_in_every_share_is_valid()
     ensures accepted { (p : Problem) (share : Part) (c : Cert) → (verdict_on p share c ≡ Verdict.Accepted c.best c.total) ↔ IsValidInShare p share c }
-    ensures shares { (p : Problem) (shares : ℕ) (c : Cert) → IsProblem p → 1 ≤ shares
-        → ((number : ℕ) → 1 ≤ number → number ≤ shares → IsValidInShare p (part number shares) c) ↔ IsValid p c }
+    ensures shares { (p : Problem) (shares : ℕ) (c : Cert) → IsProblem p → 1 ≤ shares → InEachShare shares (λ share. IsValidInShare p share c) ↔ IsValid p c }
 {}
 
 /// States that a check of all rows with a demand accepts a statement exactly if it meets the
@@ -63,15 +64,14 @@ pub fn accepted_in_every_share_is_valid()
 /// one that no setting reaches the floor that is asked for. The check then names its answer, and
 /// the ranking that its rows list.
 pub fn a_demand_is_met()
-    ensures { (p : Problem) (demand : Demand) (s : Statement) → IsProblem p → (judgement_on p demand whole s ≡ accepted_with p demand s) ↔ MeetsDemand p demand s }
+    ensures { (p : Problem) (demand : Demand) (s : Statement) → IsProblem p → ShareAccepts p demand whole s ↔ MeetsDemand p demand s }
 {}
 
 /// States that all shares of the rows accept a statement for a demand exactly if a check of all
 /// rows does, each with the same answer and ranking.
 pub fn accepted_in_every_share_meets_the_demand()
     ensures { (p : Problem) (shares : ℕ) (demand : Demand) (s : Statement) → 1 ≤ shares
-        → ((number : ℕ) → 1 ≤ number → number ≤ shares → judgement_on p demand (part number shares) s ≡ accepted_with p demand s)
-        ↔ (judgement_on p demand whole s ≡ accepted_with p demand s) }
+        → InEachShare shares (λ share. ShareAccepts p demand share s) ↔ ShareAccepts p demand whole s }
 {}
 
 /// States that the judgement of a share on a certificate without a demand is its verdict.

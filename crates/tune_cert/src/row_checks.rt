@@ -1,27 +1,25 @@
-//! Checks single rows of a certificate.
-ghost use Rattle.std.specs.Prelude.{◌≡◌, ◌<◌, ◌==◌, ◌||◌, not, IsTrue, IfOk, IfSome, IfNone, None, Some, Option, length, ◌+◌, ◌*◌, ◌≤◌, ◌^◌, ℕ, List, true, slice_get};
+//! Checks single rows of a certificate. What is asked of the fights that a row lists is in
+//! `listings`.
+ghost use Rattle.std.specs.Prelude.{◌≡◌, ◌<◌, ◌==◌, ◌||◌, not, IfOk, IfSome, IfNone, None, Some, Option, length, ℕ, List, slice_get};
 ghost use Rattle.mars_core.specs.Arena.{IsBlank};
-ghost use Rattle.mars_fight.specs.Limits.{MOST_FIGHTS, MOST_WEIGHT};
-ghost use Rattle.rc_instr.specs.Warrior.{Fits};
 ghost use Rattle.tune_problem.specs.Optimum.{beats};
 ghost use Rattle.tune_problem.specs.Problem.{problem_of};
-ghost use Rattle.tune_problem.specs.Valid.{listed_in, listed_total};
-ghost use Rattle.tune_problem.specs.Exact.{lists_all, listed_cap};
+ghost use Rattle.tune_problem.specs.Valid.{listed_in};
+ghost use Rattle.tune_problem.specs.Exact.{listed_cap};
 ghost use Rattle.tune_problem.specs.declared.cert.Row.TheVariants.{Refused, Cap};
-ghost use Rattle.tune_cert.specs.Checks.{rises, are_fights, have_points, PlaysAtMost, is_no_better, is_exact, is_best_row, cap_reason, alone_reason, same_reason, reference_reason};
-ghost use Rattle.tune_cert.specs.Steps.{AreAssembled, for_claim, listed_most};
+ghost use Rattle.tune_cert.specs.Checks.{PlaysAtMost, is_exact, is_best_row, cap_reason, alone_reason, same_reason, reference_reason};
+ghost use Rattle.tune_cert.specs.Steps.{AreAssembled, for_claim};
 
 use crate::claim::Claim;
 use crate::fault::CheckFault;
+use crate::listings::{are_fights, have_points, is_rising, listed_cap, listed_total, lists_all};
 use crate::verdict::Reason;
 use crate::warriors::share_warrior;
 use mars_core::{Arena, PackedCells};
-use mars_fight::MOST_POINTS;
 use rc_instr::Warrior;
 use std::alloc::Global;
 use tune_problem::{
-    Best, Inputs, Row, Rows, Watcher, beats, contends, fight_count, fight_points, fight_weight,
-    greatest_total, setting_warrior,
+    Best, Inputs, Row, Rows, Watcher, beats, contends, fight_count, setting_warrior,
 };
 
 // Returns what is wrong with a refused or a cap row, and passes over a row that refers to another
@@ -161,20 +159,6 @@ pub(crate) fn is_best_row(inputs: &Inputs, rows: &Rows, best: Best) -> bool
     listed_total(inputs, listed) == best.total
 }
 
-// Checks whether a cap row lists each of the `fights` fights, in order.
-pub(crate) fn lists_all(fights: u32, listed: &[(u32, u8)]) -> bool
-    ensures { result ≡ lists_all fights 0 listed.now }
-{
-    let mut next: u64 = 0;
-    for (index, _) in listed {
-        if u64::from(*index) != next {
-            return false;
-        }
-        next += 1;
-    }
-    next == u64::from(fights)
-}
-
 // Returns the fights in the row of setting `vector` if that is a cap row.
 pub(crate) fn cap_row(rows: &Rows, vector: u32) -> Option<&[(u32, u8)]>
     ensures some { IfSome result (λ row. slice_get rows.now vector ≡ Some (Cap row.now)) }
@@ -184,103 +168,6 @@ pub(crate) fn cap_row(rows: &Rows, vector: u32) -> Option<&[(u32, u8)]>
         Some(Row::Cap(listed)) => Some(listed.as_slice()),
         _ => None,
     }
-}
-
-// Adds up the scores that a cap row lists: points times the weight of the fight.
-pub(crate) fn listed_total(inputs: &Inputs, listed: &[(u32, u8)]) -> u32
-    requires few { length listed.now ≤ MOST_FIGHTS }
-    ensures sum { result ≡ listed_total (problem_of inputs.now) listed.now }
-    ensures small { result ≤ 255 * MOST_WEIGHT * length listed.now }
-{
-    let mut total: u32 = 0;
-    for (index, points) in listed {
-        total += u32::from(*points) * fight_weight(inputs, *index);
-    }
-    total
-}
-
-// Checks whether the fights of a cap row rise, so that none is listed twice.
-fn is_rising(listed: &[(u32, u8)]) -> bool
-    ensures { result ≡ rises 0 listed.now }
-{
-    let mut next: u64 = 0;
-    for (index, _) in listed {
-        if u64::from(*index) < next {
-            return false;
-        }
-        next = u64::from(*index) + 1;
-    }
-    true
-}
-
-// Checks whether every listed fight exists.
-fn are_fights(inputs: &Inputs, listed: &[(u32, u8)]) -> bool
-    ensures { result ≡ are_fights (problem_of inputs.now) listed.now }
-{
-    let fights = fight_count(inputs);
-    for (index, _) in listed {
-        if *index >= fights {
-            return false;
-        }
-    }
-    true
-}
-
-// Checks whether every listed fight exists and gives the listed points. Plays the fights in order
-// and stops at the first that does not.
-fn have_points<T: Watcher>(
-    arena: &mut Arena<PackedCells>,
-    inputs: &Inputs,
-    warrior: &Warrior,
-    listed: &[(u32, u8)],
-    watcher: &mut T,
-) -> bool
-    requires blank { IsBlank inputs.now.rules arena.old }
-    requires fits { Fits inputs.now.rules warrior.now }
-    ensures points { result ≡ have_points (problem_of inputs.now) warrior.now listed.now }
-    ensures blank { IsBlank inputs.now.rules arena.new }
-
-    // If all points are as listed, each listed fight is played once, and no other.
-    ensures all { IsTrue result → arena.old.fights + length listed.now < 2 ^ 64 → arena.new.fights ≡ arena.old.fights + length listed.now }
-    ensures most { PlaysAtMost arena.old arena.new (length listed.now) }
-{
-    let fights = fight_count(inputs);
-    for (index, points) in listed {
-        if *index >= fights {
-            return false;
-        }
-        let made = fight_points(arena, inputs, warrior, *index);
-        watcher.hear(arena.fights());
-        if made != *points {
-            return false;
-        }
-    }
-    true
-}
-
-// Returns the cap of a row: the scores that it lists, and the most that the other fights can give.
-#[tactic(auto, using(crate::proofs::ListedCaps::besides_row))]
-fn listed_cap(inputs: &Inputs, listed: &[(u32, u8)]) -> u32
-    requires rising { rises 0 listed.now ≡ true }
-    requires fights { are_fights (problem_of inputs.now) listed.now ≡ true }
-    ensures { result ≡ listed_cap (problem_of inputs.now) listed.now }
-{
-    let greatest = greatest_total(inputs);
-    let most = listed_most(inputs, listed);
-    listed_total(inputs, listed) + (greatest - most)
-}
-
-// Adds up the most that the fights of a cap row can give.
-fn listed_most(inputs: &Inputs, listed: &[(u32, u8)]) -> u32
-    requires few { length listed.now ≤ MOST_FIGHTS }
-    ensures sum { result ≡ listed_most (problem_of inputs.now) listed.now }
-    ensures small { result ≤ 3 * MOST_WEIGHT * length listed.now }
-{
-    let mut most: u32 = 0;
-    for (index, _) in listed {
-        most += MOST_POINTS * fight_weight(inputs, *index);
-    }
-    most
 }
 
 // Checks whether setting `vector` is the best setting of the certificate, or cap `cap` does not

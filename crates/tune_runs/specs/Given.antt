@@ -2,9 +2,6 @@
 use Rattle.std.specs.Prelude.{ℕ, List, map}
 use Rattle.std.specs.Global.{Vec}
 use Rattle.rc_instr.specs.Rules.{RulesView, rules_view}
-use Rattle.tune_problem.specs.Parts.{part}
-use Rattle.tune_problem.specs.declared.part.Part.{Part}
-use Rattle.tune_cert.specs.declared.share.Share.{Share}
 use Rattle.tune_runs.specs.FightText.{FightWords}
 use Rattle.tune_runs.specs.DuelRun.{Duel, duel}
 use Rattle.tune_runs.specs.TuneRun.{Texts, part_texts, texts}
@@ -32,7 +29,3 @@ texts_given t = part_texts t.template.now (map (λ o. o.items) t.opponents.now) 
 -- What a tuning or a check of all settings is given.
 abbrev pub all_given : (template : List ℕ) → List (Vec ℕ) → (schedule : List ℕ) → RulesView → Texts
 all_given template opponents schedule rules = texts template (map (λ o. o.items) opponents) schedule rules
-
--- Share I of K has the settings that part I of K would have.
-abbrev pub part_given : Share → Part
-part_given share = part share.number share.shares

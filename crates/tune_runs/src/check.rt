@@ -2,8 +2,8 @@
 ghost use Rattle.std.specs.Prelude.{◌≡◌, ◌≢◌, None, Some, true, false, IfErr};
 ghost use Rattle.std.specs.Option.{option_map};
 ghost use Rattle.tune_runs.specs.Runs.{IsRun, Returns};
-ghost use Rattle.tune_runs.specs.Given.{all_given, texts_given, part_given};
-ghost use Rattle.tune_problem.specs.Parts.{part};
+ghost use Rattle.tune_runs.specs.Given.{all_given, texts_given};
+ghost use Rattle.tune_cert.specs.Shares.{share_part};
 ghost use Rattle.tune_runs.specs.CheckRun.{accepts, accepts_for, check_for_output, check_output, share_meant, verdict_given};
 
 use crate::fault::RunFault;
@@ -115,7 +115,7 @@ pub fn check_share_run<T: Watcher, W: Write>(
     requires { out.old.failed ≡ false }
 
     // The line is that of the share's verdict on the certificate, for the inputs in the texts.
-    ensures run { IsRun (check_output (texts_given given.now) (Some (part_given share)) cert.now) result out.old out.new }
+    ensures run { IsRun (check_output (texts_given given.now) (Some (share_part share)) cert.now) result out.old out.new }
 {
     let verdict = verdict_given(alloc, given, share, cert, watcher)?;
     let line = verdict_line(alloc, Some(share), verdict)?;
@@ -147,7 +147,7 @@ pub fn check_for_run<T: Watcher, W: Write>(
     requires out { out.old.failed ≡ false }
 
     // The lines are those of the share's judgement on the certificate, for the inputs in the texts.
-    ensures run { IsRun (check_for_output (texts_given given.now) demand (option_map part_given share) cert.now) result out.old out.new }
+    ensures run { IsRun (check_for_output (texts_given given.now) demand (option_map share_part share) cert.now) result out.old out.new }
 {
     let judged = judged_lines(alloc, given, demand, share, watcher, cert)?;
     out.write_all(judged.lines.as_slice())?;
@@ -171,7 +171,7 @@ fn judged_lines<T: Watcher>(
     watcher: &mut T,
     cert: &[u8],
 ) -> Result<Judged, RunFault>
-    ensures { Returns (λ j. (j.is_accepted, j.lines.items)) result (check_for_output (texts_given given.now) demand (option_map part_given share) cert.now) }
+    ensures { Returns (λ j. (j.is_accepted, j.lines.items)) result (check_for_output (texts_given given.now) demand (option_map share_part share) cert.now) }
 {
     let inputs = inputs_of(alloc, given)?;
     watcher.begin(&inputs);
@@ -187,7 +187,7 @@ fn judged_lines<T: Watcher>(
 
 // Returns the share that is meant: all rows, if none is given.
 fn share_meant(share: Option<Share>) -> Share
-    ensures { part result.number result.shares ≡ share_meant (option_map part_given share) }
+    ensures { share_part result ≡ share_meant (option_map share_part share) }
 {
     match share {
         Some(share) => share,
@@ -214,7 +214,7 @@ fn verdict_given<T: Watcher>(
     cert: &[u8],
     watcher: &mut T,
 ) -> Result<Verdict, RunFault>
-    ensures { Returns (λ v. v) result (verdict_given (texts_given given.now) (part_given share) cert.now) }
+    ensures { Returns (λ v. v) result (verdict_given (texts_given given.now) (share_part share) cert.now) }
 {
     let inputs = inputs_of(alloc, given)?;
     watcher.begin(&inputs);

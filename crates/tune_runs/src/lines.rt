@@ -3,7 +3,7 @@ ghost use Rattle.std.specs.Prelude.{◌≡◌, ◌++◌, IfOk, OnOk};
 ghost use Rattle.std.specs.Option.{option_map};
 ghost use Rattle.tune_problem.specs.Problem.{problem_of};
 ghost use Rattle.tune_cert.specs.Judgement.{IsOfSettings};
-ghost use Rattle.tune_runs.specs.Given.{part_given};
+ghost use Rattle.tune_cert.specs.Shares.{share_part};
 ghost use Rattle.tune_runs.specs.ResultLine.{points_text, result_line};
 ghost use Rattle.mars_core.specs.declared.arena.Outcome.{Outcome};
 ghost use Rattle.tune_cert.specs.declared.verdict.Reason.{Reason};
@@ -36,7 +36,7 @@ pub(crate) fn verdict_line(
     share: Option<Share>,
     verdict: Verdict,
 ) -> Result<Vec<u8>, OutOfMemory>
-    ensures { IfOk result (λ line. line.items ≡ verdict_line (option_map part_given share) verdict) }
+    ensures { IfOk result (λ line. line.items ≡ verdict_line (option_map share_part share) verdict) }
 {
     match verdict {
         Verdict::Accepted { best, total } => accepted_line(alloc, share, best, total),
@@ -54,7 +54,7 @@ pub(crate) fn judgement_lines(
     judgement: &Judgement,
 ) -> Result<Vec<u8>, OutOfMemory>
     requires settings { IsOfSettings (problem_of inputs.now).count judgement.now }
-    ensures { IfOk result (λ lines. lines.items ≡ judgement_lines inputs.now demand (option_map part_given share) judgement.now) }
+    ensures { IfOk result (λ lines. lines.items ≡ judgement_lines inputs.now demand (option_map share_part share) judgement.now) }
 {
     match judgement {
         Judgement::Accepted { answer, ranking } => {
@@ -70,7 +70,7 @@ pub(crate) fn judgement_lines(
 
 // Appends `accepted`, or `accepted share I/K`.
 fn add_accepted(line: &mut Vec<u8>, share: Option<Share>) -> Result<(), OutOfMemory>
-    ensures { OnOk result (line.new.items ≡ line.old.items ++ accepted_words (option_map part_given share)) }
+    ensures { OnOk result (line.new.items ≡ line.old.items ++ accepted_words (option_map share_part share)) }
 {
     match share {
         None => Ok(line.extend_from_slice(b"accepted")?),
@@ -155,7 +155,7 @@ fn accepted_line(
     best: u32,
     total: u32,
 ) -> Result<Vec<u8>, OutOfMemory>
-    ensures { IfOk result (λ line. line.items ≡ accepted_words (option_map part_given share) ++ best_text best total) }
+    ensures { IfOk result (λ line. line.items ≡ accepted_words (option_map share_part share) ++ best_text best total) }
 {
     let mut line = Vec::new(alloc);
     add_accepted(&mut line, share)?;

@@ -248,7 +248,7 @@ starts p rules aim method = record {
   recent = refl;
   all_known = tt;
   copied_is = tt;
-  work = sym (blank_sum listed_in refl p.count);
+  fights = sym (blank_sum listed_in refl p.count);
   count = sym (blank_sum (λ r. bit (is_filled r)) refl p.count);
   room = omega arith;
 }
@@ -319,7 +319,7 @@ module _ (p : Problem) (laws : IsProblem p) (start : p.start < p.count) (rules :
         copied = λ v is.
             let i : v < p.count = inside_copied v g.copied is s.copied_is in
             (i, told_copied v (p.warrior v) is (all_told v i));
-        fights = s.work;
+        fights = s.fights;
       }
 
   -- what was found is what a search promises

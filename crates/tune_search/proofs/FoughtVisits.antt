@@ -30,7 +30,7 @@ use Rattle.tune_search.proofs.Totals.{cap_all, order_length, total_le_cap}
 use Rattle.tune_search.proofs.ListedFights.{listed_cap, prefix_distinct, sorted_is_listed}
 use Rattle.tune_search.proofs.Leads.{all_fought, as_asked, enough_cases, start_contends}
 use Rattle.tune_search.proofs.Recalls.{none_found}
-use Rattle.tune_search.proofs.Steps.{filled_more, full_stays, inside_rows, keeps_same, known_more, left_more, told_more, whole_stays, work_more}
+use Rattle.tune_search.proofs.Steps.{filled_more, full_stays, inside_rows, keeps_same, known_more, left_more, told_more, whole_stays, fights_more}
 use Rattle.tune_problem.specs.declared.aim.Aim.{Aim}
 use Rattle.tune_search.specs.declared.fought.Fought.{Fought}
 use Rattle.tune_search.specs.declared.method.Method.{Method}
@@ -198,7 +198,7 @@ module _ (p : Problem) (laws : IsProblem p) (start : p.start < p.count) (rules :
         recent = recent_then;
         all_known = known_then;
         copied_is = copied_then _ g.copied s.copied_is;
-        work = ap (λ m. (g.fights + m) + copied_fights rows' g.copied) lengths ∙ work_more p rules aim method k v at g.rows (Cap row) now.blank g.fights g.copied s.work now.fresh;
+        fights = ap (λ m. (g.fights + m) + copied_fights rows' g.copied) lengths ∙ fights_more p rules aim method k v at g.rows (Cap row) now.blank g.fights g.copied s.fights now.fresh;
         count = filled_more p rules aim method k v at g.rows (Cap row) now.blank g.candidates s.count refl;
         room = let a : g.fights ≤ MOST_FIGHTS * k = s.room in omega (arith, few);
       })

@@ -98,8 +98,8 @@ module _ (p : Problem) (f : Found) (s : IsSearch p PlayingAll f) where
         let inside : k < p.count = subst (λ (n : ℕ). k < n) s.valid.rows_are l in
         row_at k (p.warrior k) inside refl ∙ sym (rows_at k inside))
 
-    pub all_work : f.fights ≡ f.candidates * p.fights
-    all_work =
+    pub fights_of_all : f.fights ≡ f.candidates * p.fights
+    fights_of_all =
         let none : copied_fights f.rows f.copied ≡ 0 = ap (copied_fights f.rows) all_copied in
         let fights : f.fights + copied_fights f.rows f.copied ≡ listed_fights f.rows = s.work.fights in
         let played : f.fights ≡ listed_fights f.rows = omega (arith, fights, none) in

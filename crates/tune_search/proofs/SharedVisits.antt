@@ -29,7 +29,7 @@ use Rattle.tune_search.proofs.Slots.{slot_other, slot_same}
 use Rattle.tune_search.proofs.Rankings.{visited_behind}
 use Rattle.tune_search.proofs.FoughtCaps.{later_cases, start_cases, total_few}
 use Rattle.tune_search.proofs.Recalls.{Recalled, found, promoted_is, promoted_known}
-use Rattle.tune_search.proofs.Steps.{Keeps, filled_more, fought_stays, full_stays, inside_rows, keeps_new, keeps_same, known_more, left_more, told_more, whole_stays, work_copied, work_more}
+use Rattle.tune_search.proofs.Steps.{Keeps, filled_more, fought_stays, full_stays, inside_rows, keeps_new, keeps_same, known_more, left_more, told_more, whole_stays, fights_copied, fights_more}
 use Rattle.tune_problem.specs.declared.aim.Aim.{Aim}
 use Rattle.tune_search.specs.declared.fought.Fought.{Fought}
 use Rattle.tune_search.specs.declared.method.Method.{Method}
@@ -176,7 +176,7 @@ module _ (p : Problem) (laws : IsProblem p) (start : p.start < p.count) (rules :
         recent = recent_shared;
         all_known = known_more p rules aim method k v at g.rows (Same u) now.blank _ (promoted_known p rules hold aim method g.rows k w is_w fits g.known other one);
         copied_is = subst (λ (o : Option Best). HasCopied p (suc k) o g.copied) (sym same_first) (now.copied_grows g.copied s.copied_is);
-        work = ap (λ m. m + copied_fights same' g.copied) (sym (add-zero g.fights)) ∙ work_more p rules aim method k v at g.rows (Same u) now.blank g.fights g.copied s.work now.fresh;
+        fights = ap (λ m. m + copied_fights same' g.copied) (sym (add-zero g.fights)) ∙ fights_more p rules aim method k v at g.rows (Same u) now.blank g.fights g.copied s.fights now.fresh;
         count = filled_more p rules aim method k v at g.rows (Same u) now.blank g.candidates s.count refl;
         room = let a : g.fights ≤ MOST_FIGHTS * k = s.room in omega arith;
       })
@@ -280,7 +280,7 @@ module _ (p : Problem) (laws : IsProblem p) (start : p.start < p.count) (rules :
         recent = recent_shared;
         all_known = known_more p rules aim method k v at g.rows row now.blank _ (promoted_known p rules hold aim method g.rows k w is_w fits g.known other one);
         copied_is = copied_taken;
-        work = work_copied p rules aim method k v at g.rows row now.blank g.fights (ap (λ o. g.fights + copied_fights g.rows o) (sym was_none) ∙ s.work);
+        fights = fights_copied p rules aim method k v at g.rows row now.blank g.fights (ap (λ o. g.fights + copied_fights g.rows o) (sym was_none) ∙ s.fights);
         count = filled_more p rules aim method k v at g.rows row now.blank g.candidates s.count (ap is_filled row_is);
         room = let a : g.fights ≤ MOST_FIGHTS * k = s.room in omega arith;
       })

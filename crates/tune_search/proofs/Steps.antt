@@ -147,14 +147,14 @@ module _ (p : Problem) (rules : RulesView) (aim : Aim) (method : Method) (k v : 
       let old : listed_in (get_or rows v Refused) ≡ 0 = ap listed_in was in
       omega arith
 
-  pub work_more : (f : ℕ) (copied : Option ℕ) → f + copied_fights rows copied ≡ listed_fights rows → copied ≢ Some v →
+  pub fights_more : (f : ℕ) (copied : Option ℕ) → f + copied_fights rows copied ≡ listed_fights rows → copied ≢ Some v →
       (f + listed_in row) + copied_fights after copied ≡ listed_fights after
-  work_more f None e other = let more = sum_more in omega (arith, more)
-  work_more f (Some u) e other =
+  fights_more f None e other = let more = sum_more in omega (arith, more)
+  fights_more f (Some u) e other =
       let same : listed_by (slice_get after u) ≡ listed_by (slice_get rows u) = ap listed_by (slot_other rows v u row (λ same. other (ap Some same))) in
       let more = sum_more in omega (arith, more, same)
 
-  pub work_copied : (f : ℕ) → f + 0 ≡ listed_fights rows → f + copied_fights after (Some v) ≡ listed_fights after
-  work_copied f e =
+  pub fights_copied : (f : ℕ) → f + 0 ≡ listed_fights rows → f + copied_fights after (Some v) ≡ listed_fights after
+  fights_copied f e =
       let same : listed_by (slice_get after v) ≡ listed_in row = ap listed_by (slot_same rows v row inside_rows) in
       let more = sum_more in omega (arith, more, same)

@@ -172,7 +172,7 @@ module _ (p : Problem) (laws : IsProblem p) (start : p.start < p.count) (rules :
       );
       all_known = known_grows g.known s.all_known;
       copied_is = copied_grows g.copied s.copied_is;
-      work = s.work;
+      fights = s.fights;
       count = s.count;
       room = let a : g.fights ≤ MOST_FIGHTS * k = s.room in omega arith;
     })

@@ -58,8 +58,9 @@ NoneAssembles p = (v : ℕ) → v < p.count → p.warrior v ≡ None
 abbrev pub IsRefused : Problem → SearchFault → Type 0
 IsRefused p fault = fault ≡ NoCandidate → NoneAssembles p
 
--- What a search returns beside its answer: the version of the certificate, a row for each setting,
--- the setting with the copied row, the number of fights played, and the number of candidates.
+-- What a search returns beside the ranking or the best setting: the version of the certificate, a
+-- row for each setting, the setting with the copied row, and the numbers of fights played and of
+-- candidates.
 pub record Work : Type 0 where
   pub version : ℕ
   pub rows : List Row

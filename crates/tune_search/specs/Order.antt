@@ -1,6 +1,7 @@
 -- The order in which the fights of a setting are played, and how many of them are.
-use Rattle.std.specs.Prelude.{ℕ, Bool, true, false, not, ◌==◌, if◌then◌else◌, List, ◌++◌, map, take, Option, Some, None}
+use Rattle.std.specs.Prelude.{◌≡◌, ℕ, ◌<◌, Bool, true, false, not, ◌==◌, if◌then◌else◌, List, ◌++◌, length, map, take, All, Option, Some, None}
 use Rattle.std.specs.List.{filter}
+use Rattle.std.specs.List.Sorted.{IsPermutation}
 use Rattle.rc_instr.specs.Warrior.{WarriorView}
 use Rattle.mars_core.specs.Fight.{least}
 use Rattle.tune_problem.specs.Problem.{Problem}
@@ -31,6 +32,12 @@ order_after p false (Some w) = by_points (played p w (all_fights p))
 -- index alone for the start setting itself, and for all if the start setting does not assemble.
 unfoldable pub fight_order : Problem → ℕ → List ℕ
 fight_order p v = order_after p (v == p.start) (p.warrior p.start)
+
+-- An order of fights has each fight of the schedule once.
+pub record IsFightOrder (p : Problem) (order : List ℕ) : Type 0 where
+  pub all : length order ≡ p.fights
+  pub once : IsPermutation (all_fights p) order
+  pub below : All (λ k. k < p.fights) order
 
 -- The aim that decides when setting v is dropped. The start setting has no floor, so that it plays
 -- all its fights.

@@ -14,6 +14,7 @@ use Rattle.tune_problem.specs.Optimum.{cap_of}
 use Rattle.tune_problem.specs.Valid.{IsOwnVersion, listed_fights, listed_indices}
 use Rattle.tune_problem.specs.declared.cert.Row.{Row}
 use Rattle.tune_problem.specs.declared.cert.Row.TheVariants.{Refused, Same, Cap}
+use Rattle.tune_search.specs.Plays.{played}
 use Rattle.tune_search.specs.Order.{order_after, enough_fights}
 use Rattle.tune_search.specs.Visits.{visits_before, ranking_after, IsFought}
 use Rattle.tune_search.specs.Recent.{IsRecent}
@@ -43,6 +44,14 @@ pub record IsCandidateAt (i : InputsView) (v : ℕ) (c : Candidate) : Type 0 whe
 -- The fights of a challenge that are played.
 abbrev pub fights_of_challenge : Problem → Challenge → List ℕ
 fights_of_challenge p c = enough_fights p c.method c.aim c.entrant.now.warrior c.order.now c.entrant.now.vector c.ranking.now
+
+-- The fights of a challenge that are played, each with its points.
+abbrev pub listing_of_challenge : Problem → Challenge → List (ℕ × ℕ)
+listing_of_challenge p c = played p c.entrant.now.warrior (fights_of_challenge p c)
+
+-- The cap of the warrior of a challenge by these fights.
+abbrev pub cap_of_challenge : Problem → Challenge → ℕ
+cap_of_challenge p c = cap_of p c.entrant.now.warrior (fights_of_challenge p c)
 
 -- Fights with points, by the index of the fight.
 abbrev pub by_index : ℕ × ℕ → ℕ × ℕ → Ordering
@@ -110,7 +119,7 @@ pub record IsUnderWay (p : Problem) (rules : RulesView) (aim : Aim) (method : Me
   pub all_known : AllByRecursion (IsKnown p rules aim method g.rows k) g.known
   pub copied_is : HasCopied p k (first_of g.ranking) g.copied
   -- every listed fight was played once, except those of the copied row
-  pub work : g.fights + copied_fights g.rows g.copied ≡ listed_fights g.rows
+  pub fights : g.fights + copied_fights g.rows g.copied ≡ listed_fights g.rows
   pub count : g.candidates ≡ count_by is_filled g.rows
   -- a bound, so that the count of fights does not wrap around
   pub room : g.fights ≤ MOST_FIGHTS * k

@@ -1,13 +1,11 @@
 //! Plays the fights of one warrior.
-ghost use Rattle.std.specs.Prelude.{◌≡◌, ◌<◌, ◌≤◌, ◌+◌, ◌^◌, length, IfOk, All};
+ghost use Rattle.std.specs.Prelude.{◌≡◌, ◌<◌, ◌≤◌, ◌+◌, ◌^◌, length, IfOk};
 ghost use Rattle.rc_instr.specs.Warrior.{Fits};
 ghost use Rattle.mars_core.specs.Arena.{IsBlank};
 ghost use Rattle.mars_fight.specs.Limits.{MOST_FIGHTS};
 ghost use Rattle.tune_problem.specs.Problem.{problem_of};
-ghost use Rattle.tune_problem.specs.Optimum.{all_fights, cap_of};
-ghost use Rattle.std.specs.List.Sorted.{IsPermutation};
-ghost use Rattle.tune_search.specs.Plays.{played};
-ghost use Rattle.tune_search.specs.State.{fights_of_challenge};
+ghost use Rattle.tune_search.specs.Order.{IsFightOrder};
+ghost use Rattle.tune_search.specs.State.{listing_of_challenge, cap_of_challenge};
 
 use crate::candidate::Candidate;
 use crate::method::{Method, drops};
@@ -47,11 +45,9 @@ pub(crate) fn play_enough<T: Watcher>(
 ) -> Result<Bout, AllocError>
     requires blank { IsBlank inputs.now.rules arena.old }
     requires fits { Fits inputs.now.rules challenge.now.entrant.now.warrior }
-    requires all { length challenge.now.order.now ≡ (problem_of inputs.now).fights }
-    requires once { IsPermutation (all_fights (problem_of inputs.now)) challenge.now.order.now }
-    requires below { All (λ k. k < (problem_of inputs.now).fights) challenge.now.order.now }
-    ensures listing { let p = problem_of inputs.now in IfOk result (λ b. b.listing.items ≡ played p challenge.now.entrant.now.warrior (fights_of_challenge p challenge.now)) }
-    ensures cap { let p = problem_of inputs.now in IfOk result (λ b. b.cap ≡ cap_of p challenge.now.entrant.now.warrior (fights_of_challenge p challenge.now)) }
+    requires order { IsFightOrder (problem_of inputs.now) challenge.now.order.now }
+    ensures listing { IfOk result (λ b. b.listing.items ≡ listing_of_challenge (problem_of inputs.now) challenge.now) }
+    ensures cap { IfOk result (λ b. b.cap ≡ cap_of_challenge (problem_of inputs.now) challenge.now) }
     ensures few { IfOk result (λ b. length b.listing.items ≤ MOST_FIGHTS) }
     ensures blank { IsBlank inputs.now.rules arena.new }
     ensures fights { IfOk result (λ b. arena.old.fights + length b.listing.items < 2 ^ 64 → arena.new.fights ≡ arena.old.fights + length b.listing.items) }

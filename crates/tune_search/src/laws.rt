@@ -48,14 +48,15 @@ pub fn all_methods_find_the_optimum()
 /// The premise `IsProblem`, that a fight gives 0, 1 or 3 points, holds for any inputs.
 pub fn playing_all_lists_every_fight()
     ensures rows { (p : Problem) (f : Found) → IsProblem p → IsSearch p Method.PlayingAll f → f.rows ≡ rows_of p }
-    ensures work { (p : Problem) (f : Found) → IsProblem p → IsSearch p Method.PlayingAll f → f.fights ≡ f.candidates * p.fights }
+    ensures fights { (p : Problem) (f : Found) → IsProblem p → IsSearch p Method.PlayingAll f → f.fights ≡ f.candidates * p.fights }
     ensures copied { (p : Problem) (f : Found) → IsSearch p Method.PlayingAll f → f.copied ≡ None }
 {}
 
 /// States that what a search finds with keep 1 and the floor 0 is what `IsSearch` says, and that no
 /// setting assembles if it finds no best one.
 pub fn a_search_without_a_floor_is_a_search()
-    ensures found { (p : Problem) (method : Method) (f : Findings) (best : Best) → IsSearchFrom p best_alone method f → first_of f.ranking ≡ Some best → IsSearch p method (found_of f best) }
+    ensures found { (p : Problem) (method : Method) (f : Findings) (best : Best) → IsSearchFrom p best_alone method f
+        → first_of f.ranking ≡ Some best → IsSearch p method (found_of f best) }
     ensures none { (p : Problem) (method : Method) (f : Findings) → IsSearchFrom p best_alone method f → first_of f.ranking ≡ None → NoneAssembles p }
 {}
 

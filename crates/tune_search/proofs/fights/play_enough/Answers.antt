@@ -28,7 +28,7 @@ loop-index-preserved g c =
     let scores : ArePoints c.from.result = subst ArePoints (sym same) c.fight_points-points.ensures.scores in
     record {
       fought = c.in_ok-push.ensures.items ∙ played_more p w order i _ _ c.loop-index-test.true points c.loop-index.invariant.fought;
-      holds = cap_more p w order i _ _ _ c.loop-index-test.true c.requires.once (same ∙ points) scores c.fight_weight.ensures.weight c.loop-index.invariant.holds;
+      holds = cap_more p w order i _ _ _ c.loop-index-test.true c.requires.order.once (same ∙ points) scores c.fight_weight.ensures.weight c.loop-index.invariant.holds;
       kept = below_more _ _ c.loop-index.invariant.kept (ap (λ n. drops c.args.challenge.now.method c.args.challenge.now.aim n c.args.challenge.now.entrant.now.vector c.args.challenge.now.ranking.now) (sym c.loop-index.invariant.holds) ∙ sym c.drops.ensures ∙ c.if-drops.false);
       blank = c.fight_points-points.ensures.blank;
       counted = one_counted _ _ _ _ _ _ c.in_ok-push.ensures.items c.fight_points-points.ensures.fights c.loop-index.invariant.counted;
@@ -43,4 +43,4 @@ overflow_sub-cap-in-loop-index g c =
     let points : c.fight_points-points.result ≡ p.points w (get_or order i 0) = c.fight_points-points.ensures.points in
     let same : c.from.result ≡ c.fight_points-points.result = c.from.ensures in
     let scores : ArePoints c.from.result = subst ArePoints (sym same) c.fight_points-points.ensures.scores in
-    cap_room p w order i _ _ _ c.loop-index-test.true c.requires.once (same ∙ points) scores c.fight_weight.ensures.weight c.loop-index.invariant.holds
+    cap_room p w order i _ _ _ c.loop-index-test.true c.requires.order.once (same ∙ points) scores c.fight_weight.ensures.weight c.loop-index.invariant.holds

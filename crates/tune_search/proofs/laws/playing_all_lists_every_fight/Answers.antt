@@ -1,11 +1,11 @@
-use Rattle.tune_search.proofs.PlayingAll.{all_copied, all_rows, all_work}
+use Rattle.tune_search.proofs.PlayingAll.{all_copied, all_rows, fights_of_all}
 use Rattle.tune_search.proofs.laws.playing_all_lists_every_fight.Goals as goal
 
 pub returns-clause-rows : goal.returns-clause-rows
 returns-clause-rows c = λ p f laws s. all_rows p f s laws
 
-pub returns-clause-work : goal.returns-clause-work
-returns-clause-work c = λ p f laws s. all_work p f s laws
+pub returns-clause-fights : goal.returns-clause-fights
+returns-clause-fights c = λ p f laws s. fights_of_all p f s laws
 
 pub returns-clause-copied : goal.returns-clause-copied
 returns-clause-copied c = λ p f s. all_copied p f s

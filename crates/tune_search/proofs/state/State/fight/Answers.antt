@@ -1,4 +1,4 @@
-use Rattle.std.proofs.Common.{◌≡◌, ◌+◌, ◌==◌, ◌<◌, arith, ◌∙◌, ◌∷◌, if◌then◌else◌, ap, sym, refl, subst, length, List, ℕ, All, take}
+use Rattle.std.proofs.Common.{◌≡◌, ◌+◌, ◌==◌, ◌<◌, arith, ◌∙◌, ◌∷◌, if◌then◌else◌, ap, sym, refl, subst, length, List, ℕ, take}
 use Rattle.std.specs.List.{slice_set}
 use Rattle.std.specs.List.Sorted.{IsPermutation}
 use Rattle.tune_problem.specs.Problem.{problem_of}
@@ -7,7 +7,7 @@ use Rattle.tune_problem.specs.declared.watcher.Best.{Best}
 use Rattle.tune_problem.specs.declared.cert.Row.TheVariants.{Cap}
 use Rattle.tune_problem.proofs.Scores.{inputs_problem}
 use Rattle.tune_search.specs.Plays.{played}
-use Rattle.tune_search.specs.Order.{aim_at, by_points, enough}
+use Rattle.tune_search.specs.Order.{IsFightOrder, aim_at, by_points, enough}
 use Rattle.tune_search.specs.Visits.{setting_visited}
 use Rattle.tune_search.specs.Cache.{CacheView}
 use Rattle.tune_search.specs.Method.{capacity_of}
@@ -21,41 +21,21 @@ use Rattle.tune_search.proofs.FoughtVisits.{fought_visit}
 use Rattle.tune_search.proofs.state.State.fight.Goals as goal
 use Rattle.tune_problem.specs.Ranking.{next_ranking}
 
-pub play_enough-requires-clause-all : goal.play_enough-requires-clause-all
-play_enough-requires-clause-all g c =
+pub play_enough-requires-clause-order : goal.play_enough-requires-clause-order
+play_enough-requires-clause-order g c =
     let i = c.args.inputs.now in
     let p = problem_of i in
     let s = c.args.self.now in
     let k = c.args.visits in
     let v = setting_visited p.start k in
     let inside : v < p.count = visited_below p.start p.count k c.requires.state.start_inside c.requires.visits in
-    ap length c.deref.ensures.value
-    ∙ order_length p s.order.items (permutes p (inputs_problem i) c.requires.state.start_inside i.rules s.aim c.requires.state.is_aim c.args.self.now.method k v refl inside
-    (progress_of s) c.requires.state.going)
-
-pub play_enough-requires-clause-once : goal.play_enough-requires-clause-once
-play_enough-requires-clause-once g c =
-    let i = c.args.inputs.now in
-    let p = problem_of i in
-    let s = c.args.self.now in
-    let k = c.args.visits in
-    let v = setting_visited p.start k in
-    let inside : v < p.count = visited_below p.start p.count k c.requires.state.start_inside c.requires.visits in
-    subst (λ (l : List ℕ). IsPermutation (all_fights p) l) (sym c.deref.ensures.value)
-    (permutes p (inputs_problem i) c.requires.state.start_inside i.rules s.aim c.requires.state.is_aim c.args.self.now.method k v refl inside
-    (progress_of s) c.requires.state.going)
-
-pub play_enough-requires-clause-below : goal.play_enough-requires-clause-below
-play_enough-requires-clause-below g c =
-    let i = c.args.inputs.now in
-    let p = problem_of i in
-    let s = c.args.self.now in
-    let k = c.args.visits in
-    let v = setting_visited p.start k in
-    let inside : v < p.count = visited_below p.start p.count k c.requires.state.start_inside c.requires.visits in
-    subst (λ (l : List ℕ). All (λ k. k < p.fights) l) (sym c.deref.ensures.value)
-    (order_below p s.order.items (permutes p (inputs_problem i) c.requires.state.start_inside i.rules s.aim c.requires.state.is_aim c.args.self.now.method k v refl inside
-    (progress_of s) c.requires.state.going))
+    let once : IsPermutation (all_fights p) s.order.items = permutes p (inputs_problem i) c.requires.state.start_inside i.rules s.aim c.requires.state.is_aim c.args.self.now.method k v refl inside
+    (progress_of s) c.requires.state.going in
+    subst (λ (l : List ℕ). IsFightOrder p l) (sym c.deref.ensures.value) (record {
+      all = order_length p s.order.items once;
+      once = once;
+      below = order_below p s.order.items once;
+    })
 
 pub returns : goal.returns
 returns g c =
