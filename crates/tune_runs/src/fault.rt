@@ -16,12 +16,17 @@ use tune_template::{TemplateFault, TemplateKind};
 
 /// Why a run fails. If several faults apply, the first in the run's `# Errors` is returned.
 ///
-/// `FightText`, `Rules`, `Load` and `Position` are of fights; `Asm` is of an assembly, and of the
-/// candidate's text in a fight of two texts, whose other text is `Opponent` with index 0;
-/// `TooManyOpponents` to `NoCandidate` and `Part` are of tunings, and of checks except for
-/// `NoCandidate`; `Template`, `NoSuchSetting` and `Asm` are of the assembly of a setting, and
-/// `Template` also of the count of settings. No fault within another is an `OutOfMemory`: that is
-/// `RunFault::OutOfMemory`.
+/// | Run | Its faults in their order, before `Write` and `OutOfMemory` |
+/// |---|---|
+/// | `fight_run` | `FightText`, `Rules`, `Load`, `Position` |
+/// | `duel_run` | `Asm` of the candidate's text, `Opponent` with index 0, `Position` |
+/// | `asm_run` | `Asm` |
+/// | `settings_run` | `Template` |
+/// | `setting_run` | `Template`, `NoSuchSetting`, `Asm` |
+/// | a tuning | `TooManyOpponents`, `Template`, `Opponent`, `Schedule`, `Part`, `NoCandidate` |
+/// | a check | `TooManyOpponents`, `Template`, `Opponent`, `Schedule`, `Part` |
+///
+/// No fault within another is an `OutOfMemory`: that is `RunFault::OutOfMemory`.
 #[derive(Clone, Copy, Debug, PartialEq, Eq, Error)]
 pub enum RunFault {
     /// The fight text is malformed at this line, from 1.

@@ -1,8 +1,8 @@
 //! A setting: from a template to the load file of one of its settings.
-ghost use Rattle.std.specs.Prelude.{◌≡◌, ◌<◌, false, IfOk};
+ghost use Rattle.std.specs.Prelude.{◌≡◌, ◌<◌, false, IfOk, IfErr};
 ghost use Rattle.rc_instr.specs.Warrior.{Fits};
 ghost use Rattle.tune_template.specs.Instances.{setting_count};
-ghost use Rattle.tune_runs.specs.Runs.{Returns, IsRun};
+ghost use Rattle.tune_runs.specs.Runs.{Returns, IsRun, IsOutOfMemory};
 ghost use Rattle.tune_runs.specs.SettingRun.{index_meant, index_within, setting_warrior, setting_output};
 
 use crate::asm::loadfile_of;
@@ -74,6 +74,7 @@ fn warrior_at(
 fn index_of(template: &Template, which: WhichSetting) -> Result<u32, RunFault>
     ensures index { Returns (λ i. i) result (index_within (setting_count template.now) (index_meant which template.now.ranges.spans)) }
     ensures inside { IfOk result (λ i. i < setting_count template.now) }
+    ensures memory { IfErr result (λ e. ¬ IsOutOfMemory e) }
 {
     let index = index_meant(template, which);
     if index < template.count() {
