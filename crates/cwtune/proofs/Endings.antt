@@ -16,7 +16,7 @@ use Rattle.tune_runs.specs.declared.given.WhichSetting.{WhichSetting}
 use Rattle.tune_problem.specs.declared.aim.Aim.{Aim}
 use Rattle.tune_search.specs.declared.method.Method.{Method}
 use Rattle.cwtune.specs.CommandLine.{AsksForFight, AsksForHelp, command_of, is_command}
-use Rattle.cwtune.specs.Commands.{IsEnded, IsCheckEnded, WritesFightIn, WritesDuelOf, WritesSomeDuel, WritesLoadFile, WritesSomeLoadFile, WritesSomeSettings, WritesReport, WritesSomeReport, WritesCheckLine, WritesSomeCheckLine, status_of}
+use Rattle.cwtune.specs.Commands.{KeepsOutput, IsEnded, IsCheckEnded, WritesFightIn, WritesDuelOf, WritesSomeDuel, WritesLoadFile, WritesSomeLoadFile, WritesSomeSettings, WritesReport, WritesSomeReport, WritesCheckLine, WritesSomeCheckLine, status_of}
 use Rattle.cwtune.specs.Program.{IsProgramRun, IsSuccess}
 use Rattle.cwtune.specs.declared.ending.Ending.{Ending}
 use Rattle.cwtune.specs.declared.ending.Ending.TheVariants.{Refused, Misused, Failed}
@@ -58,19 +58,18 @@ named_at P r x is h = subst (λ q. IfOk q P) is h
 
 -- what is promised of a fight holds of words that ask for none
 other_run : {X : Type 0} (words : List (List ℕ)) (input : Option (List ℕ)) (old new : OutletView) (ended : Result X Ending) (status : ℕ)
-    → status ≡ status_of ended → (AsksForFight words → ⊥) → (IsErrOf ended Misused → new ≡ old)
-    → (IsErrOf ended Refused → (new ≡ old) ⊎ WritesSomeCheckLine false (writer old new)) → (IsTrue new.failed → IsErrOf ended Failed)
-    → (IsErrOf ended Failed → (new ≡ old) ⊎ IsTrue new.failed)
+    → status ≡ status_of ended → (AsksForFight words → ⊥) → KeepsOutput old new ended
+    → (IsErrOf ended Refused → (new ≡ old) ⊎ WritesSomeCheckLine false (writer old new))
     → (status ≡ 0 → AsksForHelp words ⊎ IsSuccess words input (writer old new)) → IsProgramRun words input old new status
-other_run words input old new ended status is other misused unwritten failed lost success = record {
+other_run words input old new ended status is other kept unwritten success = record {
   done = λ asked e. absurd (other asked);
   refused = λ asked e. absurd (other asked);
   understood = λ asked e. other asked;
   success = success;
-  misused = λ e. misused (misused_at ended status is e);
+  misused = λ e. kept.misused (misused_at ended status is e);
   unwritten = λ e. unwritten (refused_at ended status is e);
-  failed = λ f. is ∙ ap status_of (failed f);
-  lost = λ e. lost (failed_at ended status is e);
+  failed = λ f. is ∙ ap status_of (kept.failed f);
+  lost = λ e. kept.lost (failed_at ended status is e);
   status = at_most ended status is;
 }
 
@@ -79,7 +78,7 @@ quiet_run : {X Wrote : Type 0} (words : List (List ℕ)) (input : Option (List �
     → status ≡ status_of ended → (AsksForFight words → ⊥) → IsEnded Wrote old new ended
     → (status ≡ 0 → AsksForHelp words ⊎ IsSuccess words input (writer old new)) → IsProgramRun words input old new status
 quiet_run words input old new ended status is other ended_so success =
-    other_run words input old new ended status is other ended_so.misused (λ e. inl (ended_so.refused e)) ended_so.failed ended_so.lost success
+    other_run words input old new ended status is other ended_so.kept (λ e. inl (ended_so.refused e)) success
 
 same_word : (word named other : List ℕ) → named ≡ word → IsTrue (bytes_eq other other) → named ≡ other → IsTrue (bytes_eq word other)
 same_word word named other is same e = subst (λ w. IsTrue (bytes_eq w other)) (sym e ∙ is) same
@@ -139,8 +138,8 @@ pub check_run : {X : Type 0} (words : List (List ℕ)) (input : Option (List ℕ
     (demand : Demand) (share : Option Share) (ended : Result X Ending) (status : ℕ) → status ≡ status_of ended → (AsksForFight words → ⊥)
     → IsCheckEnded (WritesCheckLine rules part demand share) old new ended → command_of words ≡ codes "check" → IsProgramRun words input old new status
 check_run words input old new rules part demand share ended status is other ended_so named =
-    other_run words input old new ended status is other ended_so.misused
-    (λ e. elim (ended_so.refused e) [ inl same ↦ inl same | inr line ↦ inr (rules, part, demand, share, line) ]) ended_so.failed ended_so.lost
+    other_run words input old new ended status is other ended_so.kept
+    (λ e. elim (ended_so.refused e) [ inl same ↦ inl same | inr line ↦ inr (rules, part, demand, share, line) ])
     (λ e. let line = done_at ended status is ended_so.done e in
     inr (success_of (codes "check") words input (writer old new) named refl no no no no (λ _. (rules, part, demand, share, line))))
 

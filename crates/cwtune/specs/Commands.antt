@@ -97,29 +97,30 @@ status_of (Err Refused) = 1
 status_of (Err Misused) = 2
 status_of (Err Failed) = 3
 
--- How a command ends. `Wrote` says what it writes if it succeeds. A refusal or a usage error left
--- standard output as it was, and so did a failure, unless a write failed. A failed write ended as
--- `Failed`.
-pub record IsEnded {X : Type 0} (Wrote : Type 0) (old new : OutletView) (result : Result X Ending) : Type 0 where
-  pub done : OnOk result Wrote
-  pub refused : IsErrOf result Refused → new ≡ old
+-- How every command ends: a usage error left standard output as it was, and so did a failure,
+-- unless a write failed. A failed write ended as `Failed`.
+pub record KeepsOutput {X : Type 0} (old new : OutletView) (result : Result X Ending) : Type 0 where
   pub misused : IsErrOf result Misused → new ≡ old
   pub failed : IsTrue new.failed → IsErrOf result Failed
   pub lost : IsErrOf result Failed → (new ≡ old) ⊎ IsTrue new.failed
+
+-- How a command ends, unless it is a check. `Wrote` says what it writes if it succeeds. A refusal
+-- left standard output as it was.
+pub record IsEnded {X : Type 0} (Wrote : Type 0) (old new : OutletView) (result : Result X Ending) : Type 0 where
+  pub done : OnOk result Wrote
+  pub refused : IsErrOf result Refused → new ≡ old
+  pub kept : KeepsOutput old new result
 
 -- How a command ends whose words are understood: never with a usage error.
 abbrev pub EndsUnderstood : {X : Type 0} → (Wrote : Type 0) → (old new : OutletView) → Result X Ending → Type 0
 EndsUnderstood Wrote old new result = IsEnded Wrote old new result × IfErr result (λ e. e ≢ Misused)
 
--- How a check ends. `Wrote` says what it writes if it accepts, and if it does not. An input that is
--- refused, or a usage error, left standard output as it was, and so did a failure, unless a write
--- failed. A failed write ended as `Failed`.
+-- How a check ends. `Wrote` says what it writes if it accepts, and if it rejects. An input that is
+-- refused left standard output as it was.
 pub record IsCheckEnded {X : Type 0} (Wrote : Bool → Writer → Type 0) (old new : OutletView) (result : Result X Ending) : Type 0 where
   pub done : OnOk result (Wrote true (writer old new))
   pub refused : IsErrOf result Refused → (new ≡ old) ⊎ Wrote false (writer old new)
-  pub misused : IsErrOf result Misused → new ≡ old
-  pub failed : IsTrue new.failed → IsErrOf result Failed
-  pub lost : IsErrOf result Failed → (new ≡ old) ⊎ IsTrue new.failed
+  pub kept : KeepsOutput old new result
 
 -- The ending of a fault of a run: `Failed` if a write failed or memory ran out, and otherwise
 -- `Refused`.

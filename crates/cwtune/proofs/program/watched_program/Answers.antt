@@ -15,10 +15,10 @@ returns-in-Ok-Fight g c =
           (text, fault, is, why, c.fight.ensures.ended.0.refused refused);
       understood = λ asked e. subst (λ r. IfErr r (λ x. x ≢ Misused)) (misused_at _ _ c.status_of.ensures e) c.fight.ensures.ended.1 refl;
       success = λ e. inr (fight_success words _ _ named (inl (done_at _ _ c.status_of.ensures c.fight.ensures.ended.0.done e)));
-      misused = λ e. c.fight.ensures.ended.0.misused (misused_at _ _ c.status_of.ensures e);
+      misused = λ e. c.fight.ensures.ended.0.kept.misused (misused_at _ _ c.status_of.ensures e);
       unwritten = λ e. inl (c.fight.ensures.ended.0.refused (refused_at _ _ c.status_of.ensures e));
-      failed = λ f. c.status_of.ensures ∙ ap status_of (c.fight.ensures.ended.0.failed f);
-      lost = λ e. c.fight.ensures.ended.0.lost (failed_at _ _ c.status_of.ensures e);
+      failed = λ f. c.status_of.ensures ∙ ap status_of (c.fight.ensures.ended.0.kept.failed f);
+      lost = λ e. c.fight.ensures.ended.0.kept.lost (failed_at _ _ c.status_of.ensures e);
       status = at_most _ _ c.status_of.ensures;
     }
 
