@@ -26,7 +26,8 @@ use Rattle.rc_expand.specs.Read.Lines.{choose, is_free, is_colon, has_modifier, 
 use Rattle.rc_expand.specs.Unroll.{UnrolledSoFarView, Step, nothing_unrolled, has_room, with_line, with_copy, copies_from, with_earlier, is_bare_rof, rof_check, line_check, one_line, one_copy, one_block, unrolled_in, unrolled}
 use Rattle.rc_expand.specs.Unroll.Copies.{BlockCopyView, NumberingView, numbering_by, is_in_block, line_in_copy, line_in, all_of, is_counter, with_number, with_counter, joins, copied_from, copied_tokens, copied_code, copied_rest, or_spoiled, copied_line}
 use Rattle.rc_expand.specs.Unroll.Openings.{OpeningView, earlier_of, opening_with_counter, count_of, counter_name, counter_of, opening}
-use Rattle.rc_expand.specs.Replace.{Equs, TokensSoFarView, BodyStep, with_token, with_replacement, token_or_body, exempt_len, equ_in, equ_body, with_tokens, body_within, tokens_within, replaced_tokens, line_tokens}
+use Rattle.rc_expand.specs.Equs.{Equs, equ_in}
+use Rattle.rc_expand.specs.Replace.{TokensSoFarView, BodyStep, with_token, with_replacement, token_or_body, exempt_len, equ_body, with_tokens, body_within, tokens_within, replaced_tokens, line_tokens}
 use Rattle.rc_expand.specs.Replace.Lines.{own_label_then, own_labels, others_here_or_later, other_labels, expanded_line, made_line, line_with_others, line_of, names_of, LinesSoFarView, nothing_replaced, with_expanded_line, with_names, line_added, line_replaced, lines_replaced, replaced}
 use Rattle.rc_expand.specs.Expansion.{LineLies, names_given, context_of, expansion_by, expansion_of, IsExpansion}
 use Rattle.rc_expand.proofs.Reading.LabelLaws.{labels_and_rest}
@@ -310,7 +311,10 @@ module _ (source : List ℕ) where
   option_in (Some t) h = (h, tt)
 
   -- EQU names give way to tokens of EQU names
-  module _ (equs : Equs) (bodies : Bodies equs) where
+  module _ (given : GivenNamesView) (equs : Equs) (bodies : Bodies equs) where
+    abbrev here : ContextView
+    here = record { source = source; given = given; equs = equs }
+
     abbrev Tokens : TokensSoFarView → Type 0
     Tokens r = Ls r.tokens
 
@@ -318,7 +322,7 @@ module _ (source : List ℕ) where
     entry_in [] h name = tt
     entry_in (e ∷ table) h name = either (λ o. IfSome o (λ e. Ls e.tokens)) (bytes_eq name e.0) _ _ h.0 (entry_in table h.1 name)
 
-    body_in : (t : Token) → IfSome (equ_body source equs t) Ls
+    body_in : (t : Token) → IfSome (equ_body here t) Ls
     body_in t = some_over (λ e. Ls e.tokens) Ls (λ e. e.tokens) (equ_in source equs t)
         (either (λ o. IfSome o (λ e. Ls e.tokens)) (is_name_token t) _ _ (entry_in equs bodies (name_of source t)) tt) (λ e h. h)
 
@@ -335,40 +339,40 @@ module _ (source : List ℕ) where
     token_replaced inner g t None i h r j = token_kept t i r j
     token_replaced inner g t (Some body) i h r j = g body h r j
 
-    spread_kept : (inner : BodyStep) → InnerKeeps inner → (ts : List Token) → Ls ts → (r : TokensSoFarView) → Tokens r → IfOk (with_tokens source equs inner ts r) Tokens
+    spread_kept : (inner : BodyStep) → InnerKeeps inner → (ts : List Token) → Ls ts → (r : TokensSoFarView) → Tokens r → IfOk (with_tokens here inner ts r) Tokens
     spread_kept inner g [] h r j = j
     spread_kept inner g (t ∷ ts) h r j =
-        after Tokens Tokens (with_tokens source equs inner ts) (token_or_body inner t (equ_body source equs t) r) (token_replaced inner g t (equ_body source equs t) h.0 (body_in t) r j) (λ x i. spread_kept inner g ts h.1 x i)
+        after Tokens Tokens (with_tokens here inner ts) (token_or_body inner t (equ_body here t) r) (token_replaced inner g t (equ_body here t) h.0 (body_in t) r j) (λ x i. spread_kept inner g ts h.1 x i)
 
-    inner_kept : (levels : ℕ) → InnerKeeps (body_within source equs levels)
+    inner_kept : (levels : ℕ) → InnerKeeps (body_within here levels)
     inner_kept zero body h r j = tt
     inner_kept (suc n) body h r j =
-        after Tokens Tokens (with_tokens source equs (body_within source equs n) body) (with_replacement r) (replacement_kept r j) (λ x i. spread_kept (body_within source equs n) (inner_kept n) body h x i)
+        after Tokens Tokens (with_tokens here (body_within here n) body) (with_replacement r) (replacement_kept r j) (λ x i. spread_kept (body_within here n) (inner_kept n) body h x i)
 
-    replaced_in : (line : ℕ) (front ts : List Token) → Ls front → Ls ts → IfOk (replaced_tokens source equs line front ts) Ls
+    replaced_in : (line : ℕ) (front ts : List Token) → Ls front → Ls ts → IfOk (replaced_tokens here line front ts) Ls
     unfolding replaced_tokens
     replaced_in line front ts h i =
         let start : TokensSoFarView = record { line = line; tokens = front; replacements = 0 } in
-        over Tokens Ls (λ r. r.tokens) (tokens_within source equs DEEPEST_EQU ts start) (spread_kept (body_within source equs DEEPEST_EQU) (inner_kept DEEPEST_EQU) ts i start h) (λ r j. j)
+        over Tokens Ls (λ r. r.tokens) (tokens_within here DEEPEST_EQU ts start) (spread_kept (body_within here DEEPEST_EQU) (inner_kept DEEPEST_EQU) ts i start h) (λ r j. j)
 
-    line_tokens_in : (line : ℕ) (w : RawWord) (ts : List Token) → Ls ts → IfOk (line_tokens source equs line w ts) Ls
+    line_tokens_in : (line : ℕ) (w : RawWord) (ts : List Token) → Ls ts → IfOk (line_tokens here line w ts) Ls
     line_tokens_in line w ts h =
         let n = exempt_len source w ts in
         let all = All-from_recursion (LiesIn source) ts h in
         replaced_in line (take n ts) (drop n ts) (recursion_from_All (LiesIn source) (take n ts) (All-take (LiesIn source) n ts all)) (recursion_from_All (LiesIn source) (drop n ts) (All-drop (LiesIn source) n ts all))
 
-    made_in : (h : RawLine) (w : RawWord) (ts : List Token) → IsIn h → Ls ts → IfOk (made_line source equs h w ts) (LineLies source)
+    made_in : (h : RawLine) (w : RawWord) (ts : List Token) → IsIn h → Ls ts → IfOk (made_line here h w ts) (LineLies source)
     made_in h w ts i j =
-        over Ls (LineLies source) (expanded_line source h w) (line_tokens source equs h.number w ts) (line_tokens_in h.number w ts j)
+        over Ls (LineLies source) (expanded_line source h w) (line_tokens here h.number w ts) (line_tokens_in h.number w ts j)
         (λ r k. record { labels = All-from_recursion (LiesIn source) (own_labels source h.labels) (own_in h.labels i.labels); tokens = All-from_recursion (LiesIn source) r k })
 
-    with_labels_in : (h : RawLine) (others : List (List Token)) → IsIn h → Labels others → IfOk (line_with_others source equs h others) (LineLies source)
+    with_labels_in : (h : RawLine) (others : List (List Token)) → IsIn h → Labels others → IfOk (line_with_others here h others) (LineLies source)
     with_labels_in h [] i j = made_in h h.word h.rest i i.rest
     with_labels_in h (l ∷ ls) i j =
         made_in h word.Code (flat_map (λ x. x) (l ∷ ls) ++ (option_to_list h.directive ++ h.rest)) i
         (both (LiesIn source) (flat_map (λ x. x) (l ∷ ls)) (option_to_list h.directive ++ h.rest) (joined_up (l ∷ ls) j) (both (LiesIn source) (option_to_list h.directive) h.rest (option_in h.directive i.directive) i.rest))
 
-    line_of_in : (h : RawLine) → IsIn h → IfOk (line_of source equs h) (LineLies source)
+    line_of_in : (h : RawLine) → IsIn h → IfOk (line_of here h) (LineLies source)
     unfolding line_of
     line_of_in h i = with_labels_in h (other_labels source h.labels) i (others_in h.labels i.labels)
 
@@ -417,9 +421,9 @@ module _ (s : ContextView) where
   Made r = ByRecursion (LineLies s.source) r.lines
 
   module _ (bodies : Bodies s.source s.equs) where
-    made_and_added : (h : RawLine) (lines : List Line) (names : List (List ℕ)) → IsIn s.source h → ByRecursion (LineLies s.source) lines → IfOk (mapped (with_expanded_line lines names) (line_of s.source s.equs h)) Made
+    made_and_added : (h : RawLine) (lines : List Line) (names : List (List ℕ)) → IsIn s.source h → ByRecursion (LineLies s.source) lines → IfOk (mapped (with_expanded_line lines names) (line_of s h)) Made
     made_and_added h lines names i j =
-        over (LineLies s.source) Made (with_expanded_line lines names) (line_of s.source s.equs h) (line_of_in s.source s.equs bodies h i) (λ l k. both (LineLies s.source) lines (l ∷ []) j (k, tt))
+        over (LineLies s.source) Made (with_expanded_line lines names) (line_of s h) (line_of_in s.source s.given s.equs bodies h i) (λ l k. both (LineLies s.source) lines (l ∷ []) j (k, tt))
 
     added : (w : RawWord) (h : RawLine) (lines : List Line) (names : List (List ℕ)) → IsIn s.source h → ByRecursion (LineLies s.source) lines → IfOk (line_added s w h lines names) Made
     added word.Equ h lines names i j = j

@@ -4,6 +4,7 @@
 pub mod Limits
 pub mod Results
 pub mod Names
+pub mod Equs
 pub mod Contexts
 pub mod NameTables
 pub mod Read

@@ -6,7 +6,7 @@ use Rattle.rc_text.specs.Symbols.{counter_text}
 use Rattle.rc_expand.specs.declared.name_table.Spelling.{Spelling}
 use Rattle.rc_expand.specs.declared.name_table.Spelling.TheVariants.{Written, Copied}
 use Rattle.rc_expand.specs.Names.{entry_of}
-use Rattle.rc_expand.specs.Replace.{Equs, equ_in}
+use Rattle.rc_expand.specs.Equs.{Equs, equ_in}
 
 -- Bytes, then the counters joined to them.
 abbrev pub joined_name : List ℕ → List ℕ → List ℕ

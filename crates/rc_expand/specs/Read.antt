@@ -17,7 +17,7 @@ use Rattle.rc_expand.specs.Results.{at_line}
 use Rattle.rc_expand.specs.Names.{GivenNamesView, entry_of, is_taken}
 use Rattle.rc_expand.specs.Read.Lines.{lines_from, plain_token}
 use Rattle.rc_expand.specs.Read.Faults.{text_fault}
-use Rattle.rc_expand.specs.Replace.{Equs}
+use Rattle.rc_expand.specs.Equs.{Equs}
 use Rattle.rc_expand.specs.Read.Tree.{BlockTree, NoLine, OneLine, Block, blocks_of}
 
 -- The lines of a text as a tree, and its EQU names with their tokens.
@@ -60,7 +60,7 @@ module _ (source : List ℕ) where
     equs_from (OneLine raw rest) equs = do
       more ← equs_after_line raw.word raw equs
       equs_from rest more
-    equs_from (Block f inside r rest) equs = equs_from rest equs
+    equs_from (Block opens inside closes rest) equs = equs_from rest equs
 
     -- The EQU names of the EQU lines outside blocks.
     unfoldable pub equs_of : BlockTree → Result Equs ExpandFault

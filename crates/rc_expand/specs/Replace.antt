@@ -2,7 +2,6 @@
 pub mod Lines
 use Rattle.std.specs.Prelude.{Result, Ok, Err, ℕ, zero, suc, ◌+◌, nat_lt, List, [], ◌∷◌, ◌++◌, length, take, drop, Option, Some, None, option_map, if◌then◌else◌}
 use Rattle.rc_text.specs.declared.token.Token.{Token}
-use Rattle.rc_text.specs.Symbols.{name_of}
 use Rattle.rc_expand.specs.declared.fault.ExpandFault.{ExpandFault}
 use Rattle.rc_expand.specs.declared.fault.ExpandKind.TheVariants.{EquTooDeep, TooManyTokens}
 use Rattle.rc_expand.specs.declared.read.raw_line.RawWord.{RawWord}
@@ -10,17 +9,9 @@ use Rattle.rc_expand.specs.declared.read.raw_line.RawWord.TheVariants as word
 use Rattle.rc_expand.specs.Limits.{MOST_TOKENS, MOST_REPLACEMENTS, DEEPEST_EQU}
 use Rattle.rc_instr.specs.Results.{mapped, ◌>>=◌}
 use Rattle.rc_expand.specs.Results.{at_line}
-use Rattle.rc_expand.specs.Read.Lines.{is_name_token, has_modifier}
-use Rattle.rc_expand.specs.Names.{entry_of}
-
--- The tokens of an EQU name, and the line that defines it.
-pub record EquView : Type 0 where
-  pub tokens : List Token
-  pub line : ℕ
-
--- The EQU names with their tokens.
-abbrev pub Equs : Type 0
-Equs = List (List ℕ × EquView)
+use Rattle.rc_expand.specs.Read.Lines.{has_modifier}
+use Rattle.rc_expand.specs.Equs.{equ_in}
+use Rattle.rc_expand.specs.Contexts.{ContextView}
 
 -- The tokens of a line so far, its number, and how many EQU names were replaced in it.
 pub record TokensSoFarView : Type 0 where
@@ -61,14 +52,10 @@ module _ (source : List ℕ) where
   exempt_len word.Code ts = exempt_len_of_code ts
   exempt_len _ ts = 0
 
-module _ (source : List ℕ) (equs : Equs) where
-  -- The EQU name that a token is, if it is one.
-  abbrev pub equ_in : Token → Option EquView
-  equ_in t = if is_name_token t then entry_of equs (name_of source t) else None
-
-  -- The tokens of that EQU name.
+module _ (context : ContextView) where
+  -- The tokens of the EQU name that a token is, if it is one.
   abbrev pub equ_body : Token → Option (List Token)
-  equ_body t = option_map (λ e. e.tokens) (equ_in t)
+  equ_body t = option_map (λ e. e.tokens) (equ_in context.source context.equs t)
 
   -- Adds tokens in turn.
   abbrev pub with_tokens : BodyStep → List Token → TokenStep
@@ -97,4 +84,4 @@ module _ (source : List ℕ) (equs : Equs) where
 
   -- The tokens of a line by its word: those at its front that are exempt stay as they are.
   abbrev pub line_tokens : ℕ → RawWord → List Token → Result (List Token) ExpandFault
-  line_tokens line w ts = replaced_tokens line (take (exempt_len source w ts) ts) (drop (exempt_len source w ts) ts)
+  line_tokens line w ts = replaced_tokens line (take (exempt_len context.source w ts) ts) (drop (exempt_len context.source w ts) ts)

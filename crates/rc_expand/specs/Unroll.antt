@@ -80,20 +80,20 @@ one_copy inside copies line counter k u = do
   v ← with_copy line u
   inside (copies ++ (record { counter = counter; number = k } ∷ [])) v
 
-module _ (s : ContextView) where
+module _ (context : ContextView) where
   -- Adds a line other than FOR and ROF as it is in these copies, unless it has a fault.
   abbrev pub one_line : List BlockCopyView → RawLine → Step
   one_line copies raw u = do
-    _ ← line_check (is_in_block copies) (line_in s.source copies raw)
-    with_line (line_in s.source copies raw) u
+    _ ← line_check (is_in_block copies) (line_in context.source copies raw)
+    with_line (line_in context.source copies raw) u
 
   -- A block in these copies: its FOR, the labels before the counter, its copies, and then its ROF.
-  abbrev pub one_block : (inside : List BlockCopyView → Step) → List BlockCopyView → (f rof : RawLine) → Step
-  one_block inside copies f rof u = do
-    o ← opening s (line_in s.source copies f)
-    v ← with_earlier f.number o.earlier u
-    w ← copies_from (one_copy inside copies f.number o.counter) o.count 1 v
-    rof_check (line_in s.source copies rof) w
+  abbrev pub one_block : (inside : List BlockCopyView → Step) → List BlockCopyView → (opens closes : RawLine) → Step
+  one_block inside copies opens closes u = do
+    o ← opening context (line_in context.source copies opens)
+    v ← with_earlier opens.number o.earlier u
+    w ← copies_from (one_copy inside copies opens.number o.counter) o.count 1 v
+    rof_check (line_in context.source copies closes) w
 
   -- Lines in these copies, the outermost first.
   abbrev pub unrolled_in : BlockTree → List BlockCopyView → Step
@@ -101,8 +101,8 @@ module _ (s : ContextView) where
   unrolled_in (OneLine raw rest) copies u = do
     v ← one_line copies raw u
     unrolled_in rest copies v
-  unrolled_in (Block f inside rof rest) copies u = do
-    v ← one_block (unrolled_in inside) copies f rof u
+  unrolled_in (Block opens inside closes rest) copies u = do
+    v ← one_block (unrolled_in inside) copies opens closes u
     unrolled_in rest copies v
 
   -- The second pass.

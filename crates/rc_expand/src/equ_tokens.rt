@@ -3,7 +3,9 @@
 ghost use Rattle.std.specs.Prelude.{◌≡◌, ◌≢◌, ℕ, List, [], ◌∷◌, ◌++◌, ◌+◌, ◌≤◌, length, MatchResult, Ok, Err, Some, None, option_map, All, IfSome, IfOk, OnOk};
 ghost use Rattle.rc_expand.specs.Results.{Returns};
 ghost use Rattle.rc_expand.specs.NameTables.{at_index, AreIndices};
-ghost use Rattle.rc_expand.specs.Replace.{with_token, equ_in, token_within, tokens_within, replaced_tokens};
+ghost use Rattle.rc_expand.specs.Contexts.{seen_context};
+ghost use Rattle.rc_expand.specs.Equs.{equ_in};
+ghost use Rattle.rc_expand.specs.Replace.{with_token, token_within, tokens_within, replaced_tokens};
 
 pub(crate) mod links;
 
@@ -41,7 +43,7 @@ pub(crate) fn replace_tokens(
     front: Vec<Token>,
     tokens: &[Token],
 ) -> Result<Tokens, ExpandFault>
-    ensures { Returns (λ t. t) result (replaced_tokens context.now.source.now context.now.equs.now line front.items tokens.now) }
+    ensures { Returns (λ t. t) result (replaced_tokens (seen_context context.now) line front.items tokens.now) }
 {
     let indices = link_tokens(context.alloc, context.source, tokens, context.equs)?;
     let mut out = TokensSoFar {
@@ -63,7 +65,7 @@ fn append_replaced(
     levels: u8,
 ) -> Result<(), ExpandFault>
     requires { AreIndices context.now.source.now context.now.equs.now tokens.now indices.now }
-    ensures { Returns (λ u. out.new) result (tokens_within context.now.source.now context.now.equs.now levels tokens.now out.old) }
+    ensures { Returns (λ u. out.new) result (tokens_within (seen_context context.now) levels tokens.now out.old) }
 {
     for i in 0..tokens.len() {
         append_token(out, context, &tokens[i], indices[i], levels)?;
@@ -81,7 +83,7 @@ fn append_token(
     levels: u8,
 ) -> Result<(), ExpandFault>
     requires { at_index context.now.equs.now index ≡ equ_in context.now.source.now context.now.equs.now token.now }
-    ensures { Returns (λ u. out.new) result (token_within context.now.source.now context.now.equs.now levels token.now out.old) }
+    ensures { Returns (λ u. out.new) result (token_within (seen_context context.now) levels token.now out.old) }
 {
     match body_at(context, index) {
         None => push_token(out, token),

@@ -52,13 +52,13 @@ pub fn expand(
 ) -> Result<Expanded, ExpandFault>
     ensures { Returns (λ e. e.lines) result (expansion_of source.now (table_in constants.now) rules.now) }
 {
-    let names = GivenNames { constants, rules };
-    let (blocks, equs) = first_pass(alloc, source, &names)?;
+    let given = GivenNames { constants, rules };
+    let (blocks, equs) = first_pass(alloc, source, &given)?;
     let links = link_equs(alloc, source, &equs)?;
     let context = Context {
         alloc,
         source,
-        names: &names,
+        given: &given,
         equs: &equs,
         links: &links,
     };

@@ -74,10 +74,10 @@ pub(crate) fn is_joined_name(bytes: &[u8], counters: &[u16], name: &[u8]) -> boo
 
 // Checks for a constant or a predefined name, CURLINE included.
 #[tactic(auto, unfolding(crate::specs::Names::is_taken))]
-pub(crate) fn is_taken(names: &GivenNames, source: &[u8], token: &Token) -> bool
-    ensures { result ≡ is_taken (seen_given_names names.now) (name_of source.now token.now) }
+pub(crate) fn is_taken(given: &GivenNames, source: &[u8], token: &Token) -> bool
+    ensures { result ≡ is_taken (seen_given_names given.now) (name_of source.now token.now) }
 {
-    names.value(source, token).is_some() || spells(source, token, b"CURLINE")
+    given.value(source, token).is_some() || spells(source, token, b"CURLINE")
 }
 
 // Writes a counter as it is joined to a name: in decimal, with at least two digits.

@@ -27,12 +27,12 @@ use std::alloc::Global;
 pub(crate) fn first_pass(
     alloc: Global,
     source: &[u8],
-    names: &GivenNames,
+    given: &GivenNames,
 ) -> Result<(Blocks, NameTable<'static, Equ>), ExpandFault>
-    ensures { Returns (λ p. record { blocks = tree_of p.0.lines.items; equs = p.1 }) result (first_pass source.now (seen_given_names names.now)) }
+    ensures { Returns (λ p. record { blocks = tree_of p.0.lines.items; equs = p.1 }) result (first_pass source.now (seen_given_names given.now)) }
 {
     let lines = read_lines(alloc, source)?;
     let blocks = Blocks::find(alloc, lines)?;
-    let equs = collect_equs(alloc, source, names, &blocks.as_slice())?;
+    let equs = collect_equs(alloc, source, given, &blocks.as_slice())?;
     Ok((blocks, equs))
 }

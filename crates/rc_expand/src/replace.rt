@@ -117,7 +117,7 @@ fn define_name<'a>(
 ) -> Result<(), ExpandFault>
     ensures { Returns (λ u. names_in names.new) result (with_names (seen_context context.now) line (name_of context.now.source.now label.now ∷ []) (names_in names.old)) }
 {
-    if is_taken(context.names, context.source, label) {
+    if is_taken(context.given, context.source, label) {
         return Err(at_line(line, ExpandKind::DuplicateName));
     }
     if names.add(context.alloc, context.source, label, ())? {

@@ -5,11 +5,11 @@ ghost use Rattle.std.specs.Prelude.{◌≡◌};
 ghost use Rattle.rc_expand.specs.Results.{Returns};
 ghost use Rattle.rc_expand.specs.Contexts.{seen_context};
 ghost use Rattle.rc_expand.specs.Read.Tree.{tree_of};
-ghost use Rattle.rc_expand.specs.Unroll.{with_line, with_earlier, copies_from, word_check, line_check, one_line, one_block, unrolled_in, unrolled};
+ghost use Rattle.rc_expand.specs.Unroll.{with_line, with_earlier, copies_from, word_check, line_check, one_line, unrolled_in, unrolled};
 ghost use Rattle.rc_expand.specs.Unroll.Copies.{is_in_block, line_in};
 ghost use Rattle.rc_expand.specs.Unroll.Openings.{earlier_of};
 ghost use Rattle.rc_expand.specs.Unroll.Reached.{copies_in, reached_part};
-ghost use Rattle.rc_expand.specs.Unroll.Steps.{step_of_copy};
+ghost use Rattle.rc_expand.specs.Unroll.Steps.{step_of_block, step_of_copy};
 
 pub(crate) mod copy;
 pub(crate) mod opening;
@@ -112,7 +112,7 @@ fn append_block<'a>(
     inside: &BlockSlice<'a>,
     rof: &'a RawLine,
 ) -> Result<(), ExpandFault>
-    ensures { Returns (λ u. out.new) result (one_block (seen_context context.now) (unrolled_in (seen_context context.now) (tree_of inside.now.lines.now)) (copies_in copies.now) raw.now rof.now out.old) }
+    ensures { Returns (λ u. out.new) result (step_of_block context.now copies.now inside.now raw.now rof.now out.old) }
 {
     let made = line_in(context.alloc, context.source, copies, raw)?;
     let opening = read_opening(context, &made)?;

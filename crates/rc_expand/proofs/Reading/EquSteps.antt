@@ -2,7 +2,7 @@
 use Rattle.std.proofs.Common.{◌≡◌, ℕ, false, List, Option, Some, None, refl, sym, ◌∙◌, ap}
 use Rattle.std.specs.Prelude.{is_some, option_map}
 use Rattle.rc_expand.specs.Names.{entry_of}
-use Rattle.rc_expand.specs.Replace.{EquView, Equs}
+use Rattle.rc_expand.specs.Equs.{EquView, Equs}
 
 still_some : (o : Option EquView) → is_some (option_map (λ (e : EquView). e.line) o) ≡ is_some o
 still_some None = refl

@@ -4,7 +4,7 @@ use Rattle.std.specs.Prelude.{is_some, slice_get, IfSome}
 use Rattle.std.specs.Global.{Vec}
 use Rattle.std.proofs.lemmas.List.{append-nil, map-append}
 use Rattle.rc_text.specs.declared.token.Token.{Token}
-use Rattle.rc_expand.specs.Replace.{EquView, Equs, equ_in}
+use Rattle.rc_expand.specs.Equs.{EquView, Equs, equ_in}
 use Rattle.rc_expand.specs.NameTables.{at_index, AreIndices, AreLinks}
 
 module _ {A : Type 0} where

@@ -74,7 +74,7 @@ module _ {A : Type 0} (s : ContextView) (number : ℕ) (name : List ℕ) (table 
 
 module _ (s : ContextView) where
   -- the names of a line are new, and the line is made
-  pub line_made : (h : RawLine) (r : LinesSoFarView) (names : List (List ℕ)) (l : Line) (lines : List Line) → with_names s h.number (names_of s.source h) r.names ≡ Ok names → h.word ≢ word.Equ → line_of s.source s.equs h ≡ Ok l
+  pub line_made : (h : RawLine) (r : LinesSoFarView) (names : List (List ℕ)) (l : Line) (lines : List Line) → with_names s h.number (names_of s.source h) r.names ≡ Ok names → h.word ≢ word.Equ → line_of s h ≡ Ok l
       → lines ≡ r.lines ++ (l ∷ []) → line_replaced s h r ≡ Ok (record { names = names; lines = lines })
   line_made h r names l lines d w e p =
       ap (and_then (line_added s h.word h r.lines)) d
@@ -82,7 +82,7 @@ module _ (s : ContextView) where
       ∙ ap (mapped (with_expanded_line r.lines names)) e
       ∙ (λ x. Ok (record { names = names; lines = sym p x }))
     where
-      by_word : (v : RawWord) → v ≢ word.Equ → line_added s v h r.lines names ≡ mapped (with_expanded_line r.lines names) (line_of s.source s.equs h)
+      by_word : (v : RawWord) → v ≢ word.Equ → line_added s v h r.lines names ≡ mapped (with_expanded_line r.lines names) (line_of s h)
       by_word word.Equ w = absurd (w refl)
       by_word _ w = refl
 

@@ -37,17 +37,17 @@ module _ (s : ContextView) (line : ℕ) (ts : List Token) where
   counted_in r = counted (option_and_then limited_count (result_ok (evaluation_of names (symbols_of s.source r))))
 
   -- a count with a value, small or not
-  pub count_valued : (r : List Token) (x : ℤ) (o : Option ℕ) → replaced_tokens s.source s.equs line [] ts ≡ Ok r → Ok x ≡ evaluation_of names (symbols_of s.source r) → o ≡ limited_count x → count_of s line ts ≡ counted o
+  pub count_valued : (r : List Token) (x : ℤ) (o : Option ℕ) → replaced_tokens s line [] ts ≡ Ok r → Ok x ≡ evaluation_of names (symbols_of s.source r) → o ≡ limited_count x → count_of s line ts ≡ counted o
   unfolding count_of
   count_valued r x o e v m = ap (and_then counted_in) e ∙ (ap (λ v. counted (option_and_then limited_count (result_ok v))) (sym v) ∙ ap counted (sym m))
 
   -- a count without a value
-  pub count_valueless : (r : List Token) (f : EvalFault) → replaced_tokens s.source s.equs line [] ts ≡ Ok r → Err f ≡ evaluation_of names (symbols_of s.source r) → count_of s line ts ≡ counted None
+  pub count_valueless : (r : List Token) (f : EvalFault) → replaced_tokens s line [] ts ≡ Ok r → Err f ≡ evaluation_of names (symbols_of s.source r) → count_of s line ts ≡ counted None
   unfolding count_of
   count_valueless r f e v = ap (and_then counted_in) e ∙ ap (λ v. counted (option_and_then limited_count (result_ok v))) (sym v)
 
   -- a count whose EQU names cannot be replaced
-  pub count_refused : (f : ExpandFault) → replaced_tokens s.source s.equs line [] ts ≡ Err f → count_of s line ts ≡ Err f
+  pub count_refused : (f : ExpandFault) → replaced_tokens s line [] ts ≡ Err f → count_of s line ts ≡ Err f
   unfolding count_of
   count_refused f e = ap (and_then counted_in) e
 

@@ -18,8 +18,8 @@ opens_or_closes _ = false
 abbrev pub IsNested : ℕ → BlockTree → Type 0
 IsNested n NoLine = Unit {0}
 IsNested n (OneLine raw rest) = (opens_or_closes raw.word ≡ false) × IsNested n rest
-IsNested zero (Block f inside r rest) = ⊥
-IsNested (suc n) (Block f inside r rest) = (f.word ≡ word.For) × IsNested n inside × (r.word ≡ word.Rof) × IsNested (suc n) rest
+IsNested zero (Block opens inside closes rest) = ⊥
+IsNested (suc n) (Block opens inside closes rest) = (opens.word ≡ word.For) × IsNested n inside × (closes.word ≡ word.Rof) × IsNested (suc n) rest
 
 -- An open block: its FOR, and the lines between it and the FOR around it, or the beginning.
 pub record Open : Type 0 where

@@ -21,13 +21,13 @@ pub data BlockTree : Type 0 where
 abbrev pub lines_of : BlockTree → List RawLine
 lines_of NoLine = []
 lines_of (OneLine raw rest) = raw ∷ lines_of rest
-lines_of (Block f inside r rest) = f ∷ (lines_of inside ++ (r ∷ lines_of rest))
+lines_of (Block opens inside closes rest) = opens ∷ (lines_of inside ++ (closes ∷ lines_of rest))
 
 -- A number for each line: for a FOR the distance to its ROF, 1 if that comes next, and else 0.
 abbrev pub distances : BlockTree → List ℕ
 distances NoLine = []
 distances (OneLine raw rest) = 0 ∷ distances rest
-distances (Block f inside r rest) = suc (length (distances inside)) ∷ (distances inside ++ (0 ∷ distances rest))
+distances (Block opens inside closes rest) = suc (length (distances inside)) ∷ (distances inside ++ (0 ∷ distances rest))
 
 -- What is read while a block is open: the lines up to its ROF, the ROF, and what comes after it.
 pub record Part (A : Type 0) : Type 0 where

@@ -16,7 +16,7 @@ use Rattle.rc_expand.specs.Results.{at_line}
 use Rattle.rc_expand.specs.Contexts.{ContextView}
 use Rattle.rc_expand.specs.Names.{is_among, is_taken}
 use Rattle.rc_expand.specs.Read.Lines.{label_token}
-use Rattle.rc_expand.specs.Replace.{Equs, line_tokens}
+use Rattle.rc_expand.specs.Replace.{line_tokens}
 
 abbrev pub line_word : RawWord → LineWord
 line_word word.Bare = line.Bare
@@ -47,22 +47,23 @@ module _ (source : List ℕ) where
   abbrev pub expanded_line : RawLine → RawWord → List Token → Line
   expanded_line raw w tokens = record { number = raw.number; labels = own_labels raw.labels; word = line_word w; tokens = tokens }
 
-  abbrev pub made_line : Equs → RawLine → RawWord → List Token → Result Line ExpandFault
-  made_line equs raw w tokens = mapped (expanded_line raw w) (line_tokens source equs raw.number w tokens)
-
-  -- If a would-be label is not a single name, the line is code, and begins with the tokens of that
-  -- label.
-  abbrev pub line_with_others : Equs → RawLine → List (List Token) → Result Line ExpandFault
-  line_with_others equs raw [] = made_line equs raw raw.word raw.rest
-  line_with_others equs raw (l ∷ ls) = made_line equs raw word.Code (flat_map (λ x. x) (l ∷ ls) ++ (option_to_list raw.directive ++ raw.rest))
-
-  -- A line with its EQU names replaced.
-  unfoldable pub line_of : Equs → RawLine → Result Line ExpandFault
-  line_of equs raw = line_with_others equs raw (other_labels raw.labels)
-
   -- The names that a line defines: its labels, or its EQU name.
   abbrev pub names_of : RawLine → List (List ℕ)
   names_of raw = map (name_of source) (own_labels raw.labels)
+
+module _ (context : ContextView) where
+  abbrev pub made_line : RawLine → RawWord → List Token → Result Line ExpandFault
+  made_line raw w tokens = mapped (expanded_line context.source raw w) (line_tokens context raw.number w tokens)
+
+  -- If a would-be label is not a single name, the line is code, and begins with the tokens of that
+  -- label.
+  abbrev pub line_with_others : RawLine → List (List Token) → Result Line ExpandFault
+  line_with_others raw [] = made_line raw raw.word raw.rest
+  line_with_others raw (l ∷ ls) = made_line raw word.Code (flat_map (λ x. x) (l ∷ ls) ++ (option_to_list raw.directive ++ raw.rest))
+
+  -- A line with its EQU names replaced.
+  unfoldable pub line_of : RawLine → Result Line ExpandFault
+  line_of raw = line_with_others raw (other_labels context.source raw.labels)
 
 -- The names defined so far, and the lines of the expansion.
 pub record LinesSoFarView : Type 0 where
@@ -75,23 +76,23 @@ nothing_replaced = record { names = []; lines = [] }
 abbrev pub with_expanded_line : List Line → List (List ℕ) → Line → LinesSoFarView
 with_expanded_line lines names l = record { names = names; lines = lines ++ (l ∷ []) }
 
-module _ (s : ContextView) where
+module _ (context : ContextView) where
   -- Defines names one after the other. None may be a constant, a predefined name or defined
   -- before.
   abbrev pub with_names : (number : ℕ) → List (List ℕ) → (before : List (List ℕ)) → Result (List (List ℕ)) ExpandFault
   with_names number [] before = Ok before
   with_names number (n ∷ ns) before =
-      if is_taken s.given n || is_among before n then Err (at_line number DuplicateName) else with_names number ns (before ++ (n ∷ []))
+      if is_taken context.given n || is_among before n then Err (at_line number DuplicateName) else with_names number ns (before ++ (n ∷ []))
 
   -- Drops an EQU line, and adds any other.
   abbrev pub line_added : RawWord → RawLine → List Line → List (List ℕ) → Result LinesSoFarView ExpandFault
   line_added word.Equ raw lines names = Ok (record { names = names; lines = lines })
-  line_added _ raw lines names = mapped (with_expanded_line lines names) (line_of s.source s.equs raw)
+  line_added _ raw lines names = mapped (with_expanded_line lines names) (line_of context raw)
 
   -- Adds a line: first its names, then its tokens.
   abbrev pub line_replaced : RawLine → LinesSoFarView → Result LinesSoFarView ExpandFault
   line_replaced raw r = do
-    names ← with_names raw.number (names_of s.source raw) r.names
+    names ← with_names raw.number (names_of context.source raw) r.names
     line_added raw.word raw r.lines names
 
   abbrev pub lines_replaced : List RawLine → LinesSoFarView → Result LinesSoFarView ExpandFault

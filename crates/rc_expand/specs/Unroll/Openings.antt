@@ -18,7 +18,8 @@ use Rattle.rc_expand.specs.Results.{at_line}
 use Rattle.rc_expand.specs.Names.{entry_of, given_names, is_taken}
 use Rattle.rc_expand.specs.Contexts.{ContextView}
 use Rattle.rc_expand.specs.Read.Lines.{is_colon, is_unjoined, plain_token}
-use Rattle.rc_expand.specs.Replace.{EquView, replaced_tokens}
+use Rattle.rc_expand.specs.Equs.{EquView}
+use Rattle.rc_expand.specs.Replace.{replaced_tokens}
 
 -- What a FOR says.
 pub record OpeningView : Type 0 where
@@ -32,9 +33,9 @@ earlier_of [] = []
 earlier_of (l ∷ []) = []
 earlier_of (l ∷ m ∷ ls) = l ∷ earlier_of (m ∷ ls)
 
--- The view of an opening. Its earlier labels are those of its FOR `f`.
-abbrev pub seen_opening : (f : RawLine) → Opening → OpeningView
-seen_opening f s = record { counter = option_map (λ b. b.now) s.counter; earlier = earlier_of f.labels; count = s.count }
+-- The view of an opening. Its earlier labels are those of its FOR `opens`.
+abbrev pub seen_opening : (opens : RawLine) → Opening → OpeningView
+seen_opening opens o = record { counter = option_map (λ b. b.now) o.counter; earlier = earlier_of opens.labels; count = o.count }
 
 -- The count of a value: 0 if that is below 1, None if it is above the limit.
 abbrev pub limited_count : ℤ → Option ℕ
@@ -72,27 +73,27 @@ counter_of source line [] = Ok None
 counter_of source line (l ∷ []) = mapped Some (ok_or (plain_token source l) (at_line line (counter_fault_kind l)))
 counter_of source line (l ∷ m ∷ ls) = counter_of source line (m ∷ ls)
 
-module _ (s : ContextView) where
+module _ (context : ContextView) where
   -- The number of copies: the value of the tokens after FOR, with their EQU names replaced.
   unfoldable pub count_of : (line : ℕ) → List Token → Result ℕ ExpandFault
   count_of line ts = do
-    tokens ← replaced_tokens s.source s.equs line [] ts
-    ok_or (option_and_then limited_count (result_ok (evaluation_of (given_names s.given.constants s.given.rules) (symbols_of s.source tokens)))) (at_line line CountRefused)
+    tokens ← replaced_tokens context line [] ts
+    ok_or (option_and_then limited_count (result_ok (evaluation_of (given_names context.given.constants context.given.rules) (symbols_of context.source tokens)))) (at_line line CountRefused)
 
   -- The name of a counter, which must be neither a constant nor a predefined name nor an EQU name.
   abbrev pub counter_name : (line : ℕ) → Option Token → Result (Option (List ℕ)) ExpandFault
   counter_name line None = Ok None
   counter_name line (Some t) =
-      if is_taken s.given (name_of s.source t) then Err (at_line line DuplicateName) else
-      unless_equ line (name_of s.source t) (entry_of s.equs (name_of s.source t))
+      if is_taken context.given (name_of context.source t) then Err (at_line line DuplicateName) else
+      unless_equ line (name_of context.source t) (entry_of context.equs (name_of context.source t))
 
   -- What a FOR with this counter says, unless its count is refused.
   abbrev pub opening_with_counter : RawLine → Option (List ℕ) → Result OpeningView ExpandFault
-  opening_with_counter f name = mapped (λ n. record { counter = name; earlier = earlier_of f.labels; count = n }) (count_of f.number f.rest)
+  opening_with_counter opens name = mapped (λ n. record { counter = name; earlier = earlier_of opens.labels; count = n }) (count_of opens.number opens.rest)
 
   -- What a FOR says, or its fault: that of the counter comes before that of the count. A FOR is
   -- spoiled if a ninth counter would be joined to a name in it; that is `BadDirective`.
   unfoldable pub opening : RawLine → Result OpeningView ExpandFault
-  opening f =
-      if f.spoiled then Err (at_line f.number BadDirective) else
-      counter_of s.source f.number f.labels >>= counter_name f.number >>= opening_with_counter f
+  opening opens =
+      if opens.spoiled then Err (at_line opens.number BadDirective) else
+      counter_of context.source opens.number opens.labels >>= counter_name opens.number >>= opening_with_counter opens

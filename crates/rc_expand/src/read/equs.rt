@@ -28,7 +28,7 @@ pub(crate) struct Equ {
 }
 
 impl Model for Equ {
-    ghost use Rattle.rc_expand.specs.Replace.{EquView};
+    ghost use Rattle.rc_expand.specs.Equs.{EquView};
 
     ghost Value = { EquView };
 
@@ -51,16 +51,16 @@ impl Equ {
 pub(crate) fn collect_equs(
     alloc: Global,
     source: &[u8],
-    names: &GivenNames,
+    given: &GivenNames,
     blocks: &BlockSlice,
 ) -> Result<NameTable<'static, Equ>, ExpandFault>
-    ensures { Returns (λ t. t) result (equs_of source.now (seen_given_names names.now) (tree_of blocks.now.lines.now)) }
+    ensures { Returns (λ t. t) result (equs_of source.now (seen_given_names given.now) (tree_of blocks.now.lines.now)) }
 {
     let mut equs = NameTable::new(alloc);
     let mut rest = *blocks;
     while let Some((raw, block, after)) = rest.split_first() {
         if block.is_none() {
-            add_equ(alloc, source, names, &mut equs, raw)?;
+            add_equ(alloc, source, given, &mut equs, raw)?;
         }
         rest = after;
     }
@@ -71,14 +71,14 @@ pub(crate) fn collect_equs(
 fn add_equ(
     alloc: Global,
     source: &[u8],
-    names: &GivenNames,
+    given: &GivenNames,
     equs: &mut NameTable<'static, Equ>,
     raw: &RawLine,
 ) -> Result<(), ExpandFault>
-    ensures { Returns (λ u. equs.new) result (equs_after_line source.now (seen_given_names names.now) raw.now.word raw.now equs.old) }
+    ensures { Returns (λ u. equs.new) result (equs_after_line source.now (seen_given_names given.now) raw.now.word raw.now equs.old) }
 {
     if raw.word == RawWord::Equ {
-        let (name, equ) = read_equ(alloc, source, names, equs, raw)?;
+        let (name, equ) = read_equ(alloc, source, given, equs, raw)?;
         equs.insert(name, equ)?;
     }
     Ok(())
@@ -88,15 +88,15 @@ fn add_equ(
 fn read_equ(
     alloc: Global,
     source: &[u8],
-    names: &GivenNames,
+    given: &GivenNames,
     equs: &NameTable<Equ>,
     raw: &RawLine,
 ) -> Result<(KeptName<'static>, Equ), ExpandFault>
-    ensures equ { Returns (λ e. equs.now ++ (e ∷ [])) result (with_equ source.now (seen_given_names names.now) raw.now equs.now) }
+    ensures equ { Returns (λ e. equs.now ++ (e ∷ [])) result (with_equ source.now (seen_given_names given.now) raw.now equs.now) }
     ensures new { IfOk result (λ e. is_some (entry_of equs.now e.0) ≡ false) }
 {
     let token = equ_token(source, raw)?;
-    if is_taken(names, source, token) || equ_line(equs, source, token).is_some() {
+    if is_taken(given, source, token) || equ_line(equs, source, token).is_some() {
         return Err(at_line(raw.number, ExpandKind::DuplicateName));
     }
     let name = copied_name(alloc, source, token)?;

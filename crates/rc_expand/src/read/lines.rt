@@ -80,7 +80,7 @@ fn read_line(
     number: u64,
     tokens: &mut Vec<Token>,
 ) -> Result<RawLine, AllocError>
-    ensures { IfOk result (λ h. h ≡ raw_line_of source.now number tokens.old.items) }
+    ensures { IfOk result (λ line. line ≡ raw_line_of source.now number tokens.old.items) }
 {
     let (labels, at) = read_labels(alloc, source, tokens.as_slice())?;
     if at == tokens.len() {

@@ -91,7 +91,7 @@ impl Labels {
 }
 
 pub(crate) fn clone_raw_line(alloc: Global, raw: &RawLine) -> Result<RawLine, AllocError>
-    ensures { IfOk result (λ h. h ≡ raw.now) }
+    ensures { IfOk result (λ clone. clone ≡ raw.now) }
 {
     let labels = clone_labels(alloc, raw.labels.as_slice())?;
     let directive = clone_directive(&raw.directive)?;

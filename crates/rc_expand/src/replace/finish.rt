@@ -1,6 +1,7 @@
 //! From an unrolled line to a line of the expansion.
 ghost use Rattle.std.specs.Prelude.{◌≡◌, ◌≢◌, ◌++◌, ◌≤◌, length, option_to_list, flat_map, All, IfOk, IfSome, OnOk, Ok, Err};
 ghost use Rattle.rc_expand.specs.Results.{Returns};
+ghost use Rattle.rc_expand.specs.Contexts.{seen_context};
 ghost use Rattle.rc_expand.specs.Replace.{exempt_len_of_code, exempt_len, line_tokens};
 ghost use Rattle.rc_expand.specs.Replace.Lines.{line_word, own_labels, other_labels, made_line, line_of};
 
@@ -48,7 +49,7 @@ pub(crate) fn line_of(
 ) -> Result<Line, ExpandFault>
     requires labels { labels ≡ own_labels context.now.source.now raw.now.labels }
     requires others { others.now ≡ other_labels context.now.source.now raw.now.labels }
-    ensures { Returns (λ l. l) result (line_of context.now.source.now context.now.equs.now raw.now) }
+    ensures { Returns (λ l. l) result (line_of (seen_context context.now) raw.now) }
 {
     if others.is_empty() {
         return made_line(context, raw, labels, raw.word, raw.rest.as_slice());
@@ -103,7 +104,7 @@ fn made_line(
     tokens: &[Token],
 ) -> Result<Line, ExpandFault>
     requires { labels ≡ own_labels context.now.source.now raw.now.labels }
-    ensures { Returns (λ l. l) result (made_line context.now.source.now context.now.equs.now raw.now word tokens.now) }
+    ensures { Returns (λ l. l) result (made_line (seen_context context.now) raw.now word tokens.now) }
 {
     let tokens = line_tokens(context, raw.number, word, tokens)?;
     Ok(Line {
@@ -121,7 +122,7 @@ fn line_tokens(
     word: RawWord,
     tokens: &[Token],
 ) -> Result<Tokens, ExpandFault>
-    ensures { Returns (λ t. t) result (line_tokens context.now.source.now context.now.equs.now line word tokens.now) }
+    ensures { Returns (λ t. t) result (line_tokens (seen_context context.now) line word tokens.now) }
 {
     let (front, back) = tokens.split_at(exempt_len(context.source, word, tokens));
     let mut kept = Vec::new(context.alloc);

@@ -116,7 +116,7 @@ fn counter_name<'a>(
 fn check_counter(context: &Context, token: &Token, line: u64) -> Result<(), ExpandFault>
     ensures { Returns (λ u. Some (name_of context.now.source.now token.now)) result (counter_name (seen_context context.now) line (Some token.now)) }
 {
-    if is_taken(context.names, context.source, token) {
+    if is_taken(context.given, context.source, token) {
         return Err(at_line(line, ExpandKind::DuplicateName));
     }
     match equ_line(context.equs, context.source, token) {
@@ -132,7 +132,7 @@ fn count_of(context: &Context, raw: &RawLine) -> Result<u16, ExpandFault>
 {
     let front = Vec::new(context.alloc);
     let tokens = replace_tokens(context, raw.number, front, raw.rest.as_slice())?;
-    match eval(context.source, tokens.as_slice(), context.names) {
+    match eval(context.source, tokens.as_slice(), context.given) {
         Ok(value) => match limited_count(value) {
             Some(count) => Ok(count),
             None => Err(at_line(raw.number, ExpandKind::CountRefused)),

@@ -74,7 +74,7 @@ impl<'a> Reached<'a> {
     // not of earlier labels alone.
     #[tactic(auto, using(crate::proofs::Unrolling::Reaching::uncounted))]
     pub(crate) fn as_written(&self) -> Option<&'a RawLine>
-        ensures { IfSome result (λ h. h.now ≡ self.now) }
+        ensures { IfSome result (λ line. line.now ≡ self.now) }
     {
         if !self.is_earlier && have_no_counter(&self.copies) {
             Some(self.raw)
@@ -85,7 +85,7 @@ impl<'a> Reached<'a> {
 
     // Makes the line as it is in its copies.
     pub(crate) fn make(&self, alloc: Global) -> Result<RawLine, AllocError>
-        ensures { IfOk result (λ h. h ≡ self.now) }
+        ensures { IfOk result (λ made. made ≡ self.now) }
     {
         let made = line_in(alloc, self.source, &self.copies, self.raw)?;
         if !self.is_earlier {
@@ -97,7 +97,7 @@ impl<'a> Reached<'a> {
 
 // Makes the line of the labels before a counter.
 fn earlier_line(alloc: Global, raw: &RawLine) -> Result<RawLine, AllocError>
-    ensures { IfOk result (λ h. h ≡ bare_line raw.now.number (earlier_of raw.now.labels)) }
+    ensures { IfOk result (λ made. made ≡ bare_line raw.now.number (earlier_of raw.now.labels)) }
 {
     let labels = earlier_labels(alloc, raw.labels.as_slice())?;
     Ok(RawLine::bare(alloc, raw.number, labels))
@@ -111,7 +111,7 @@ pub(crate) fn line_in(
     copies: &[BlockCopy],
     raw: &RawLine,
 ) -> Result<RawLine, AllocError>
-    ensures { IfOk result (λ h. h ≡ line_in source.now (copies_in copies.now) raw.now) }
+    ensures { IfOk result (λ made. made ≡ line_in source.now (copies_in copies.now) raw.now) }
 {
     match copies.split_first() {
         None => clone_raw_line(alloc, raw),
@@ -138,7 +138,7 @@ fn copy_for_each(
     copies: &[BlockCopy],
     line: RawLine,
 ) -> Result<RawLine, AllocError>
-    ensures { IfOk result (λ h. h ≡ line_in source.now (copies_in copies.now) line) }
+    ensures { IfOk result (λ made. made ≡ line_in source.now (copies_in copies.now) line) }
 {
     let mut made = line;
     for i in 0..copies.len() {

@@ -1,4 +1,5 @@
 use Rattle.std.proofs.Common.{◌≡◌, ◌+◌, ◌*◌, drop}
+use Rattle.rc_expand.specs.Contexts.{seen_context}
 use Rattle.rc_expand.specs.Replace.{tokens_within}
 use Rattle.rc_expand.proofs.equ_tokens.+replace.Given as goal
 
@@ -11,5 +12,5 @@ decreases-append_token l = 2 * l.levels
 -- the tokens that are left make the whole
 abbrev pub invariant-append_replaced-loop-i : goal.invariant-append_replaced-loop-i
 invariant-append_replaced-loop-i l =
-    tokens_within l.context.source.now l.context.equs.now l.levels l.tokens l.fn.out
-    ≡ tokens_within l.context.source.now l.context.equs.now l.levels (drop l.i l.tokens) l.out
+    tokens_within (seen_context l.context) l.levels l.tokens l.fn.out
+    ≡ tokens_within (seen_context l.context) l.levels (drop l.i l.tokens) l.out

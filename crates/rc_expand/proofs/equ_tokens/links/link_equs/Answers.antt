@@ -1,6 +1,6 @@
 use Rattle.std.proofs.Common.{◌∙◌, ap, map, ℕ, Option}
 use Rattle.std.specs.Global.{Vec}
-use Rattle.rc_expand.specs.Replace.{EquView, equ_in}
+use Rattle.rc_expand.specs.Equs.{EquView, equ_in}
 use Rattle.rc_expand.specs.NameTables.{at_index}
 use Rattle.rc_expand.proofs.Reading.TableIndices.{value_pushed, values_done}
 use Rattle.rc_expand.proofs.equ_tokens.links.link_equs.Goals as goal

@@ -1,5 +1,5 @@
 use Rattle.std.proofs.Common.{◌≡◌, ◌++◌, ◌-◌, map, drop, length}
-use Rattle.rc_expand.specs.Replace.{equ_in}
+use Rattle.rc_expand.specs.Equs.{equ_in}
 use Rattle.rc_expand.specs.NameTables.{at_index}
 use Rattle.rc_expand.proofs.equ_tokens.links.link_equs.Given as goal
 

@@ -11,5 +11,5 @@ decreases-loop-raw l = size (tree_of l.rest.lines.now)
 -- the lines that are left make the whole
 abbrev pub invariant-loop-raw : goal.invariant-loop-raw
 invariant-loop-raw l =
-    equs_from l.source (seen_given_names l.names) (tree_of l.blocks.lines.now) []
-    ≡ equs_from l.source (seen_given_names l.names) (tree_of l.rest.lines.now) l.equs
+    equs_from l.source (seen_given_names l.given) (tree_of l.blocks.lines.now) []
+    ≡ equs_from l.source (seen_given_names l.given) (tree_of l.rest.lines.now) l.equs
