@@ -121,7 +121,7 @@ fn inputs_say_what_a_certificate_counts(rt: HostRuntime) -> Result<(), Fail> {
     Ok(())
 }
 
-// Writes the certificate of `five_rows` on a writer that takes this many writes, and then fails or
+// Writes the certificate of `five_rows` on a writer that takes `writes` writes, and then fails or
 // takes no byte. Returns the result, and what the writer took.
 fn cut(
     alloc: Global,
@@ -134,7 +134,7 @@ fn cut(
     Ok((result, out.into_inner().taken))
 }
 
-// A certificate of 95 bytes, cut after each piece.
+// A certificate of 91 bytes, which takes 13 pieces, cut after each.
 #[test]
 fn a_write_failure_is_reported(rt: HostRuntime) -> Result<(), Fail> {
     for pieces in 0..15usize {

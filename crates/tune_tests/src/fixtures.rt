@@ -1,5 +1,10 @@
-//! Rules, warriors, templates and certificates that several modules use. A candidate fights both
-//! opponents once. An imp wins against the first, and ties with the second: its total is 4.
+//! Rules, warriors, templates and certificates that several modules use.
+//!
+//! All expected values are worked out by hand from this. A candidate fights both opponents once. An
+//! imp wins against the first, for 3 points, and ties with the second, for 1: its total is 4 of 6,
+//! and its row lists `0:3 1:1`. The other settings order their fights by the points of the start
+//! setting, the fewest first. So an imp that cannot beat the lead plays its tie, has a cap of 4,
+//! and is dropped: its row lists `1:1`. The row of setting v is record v + 2 of a certificate.
 ghost use Rattle.std.specs.Prelude.{◌≡◌, IfOk, length, All};
 ghost use Rattle.rc_instr.specs.Checks.{rules_of};
 ghost use Rattle.rc_instr.specs.Rules.{rules_view};
@@ -24,7 +29,7 @@ pub(crate) const IMP_TEXT: &[u8] = b"MOV 0, 1\n";
 
 pub(crate) const IMP_FILE: &[u8] = b"ORG 0\nMOV.I $0, $1\n";
 
-// One fight against each of two opponents, at address 8.
+// A schedule of one fight against each of the two opponents, at address 8.
 pub(crate) const BOTH: &[u8] = b"opponent,position,first\n0,8,c\n1,8,c\n";
 
 // The only setting of a template without constants, an imp; and its certificate.

@@ -43,6 +43,7 @@ fn searched(alloc: Global, text: &[u8], aim: Aim) -> Result<Summary, Fail>
     })
 }
 
+// Settings 0 and 1 play both fights. Setting 2 plays its tie: a cap of 4 does not beat setting 0.
 #[test]
 fn a_total_of_the_floor_leads(rt: HostRuntime) -> Result<(), Fail> {
     let aim = Aim { keep: 1, floor: 4 };

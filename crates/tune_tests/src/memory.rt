@@ -1,5 +1,5 @@
-//! One test for each call that allocates: rows of results worked out by hand, and `OutOfMemory`
-//! passed on as the test's error.
+//! One test for each call that allocates: tables of results worked out by hand, and `OutOfMemory`
+//! passed on as the test's error. The searches and the certificates are those of `fixtures`.
 //!
 //! `make test` also runs each of these tests with its first, second and so on request for memory
 //! refused (gate/refuse/growth.py). It then ends with the same results, or with the error
@@ -225,7 +225,8 @@ fn search_with(alloc: Global, text: &[u8], capacity: u32) -> Result<Searched, Fa
     })
 }
 
-// A template, and what a search finds that remembers 4096 settings.
+// A template, and what a search finds that remembers 4096 settings: how many fights it plays, and
+// its certificate, whose `cap` rows list these fights. A copied row lists those of another again.
 struct SearchCase {
     name: &'static str,
     text: &'static [u8],
@@ -270,7 +271,7 @@ fn search_finds_the_optimum(rt: HostRuntime) -> Result<(), Fail> {
     Ok(())
 }
 
-// The cache has room for both warriors.
+// The cache has room for both warriors: one plays both fights, and the other its tie.
 #[test]
 fn search_with_a_cache_of_two(rt: HostRuntime) -> Result<(), Fail> {
     let found = search_with(rt.alloc(), TWO_IN_TURN, 2)?;

@@ -7,8 +7,9 @@ use std::alloc::Global;
 use std::test::Fail;
 use tune_problem::{Inputs, Part, part_size, setting_warrior, start_setting};
 
-// A part of six settings, of which the search begins with the fifth: the count of its settings, the
-// index of its start setting, and its first setting.
+// A part of the six settings (0, 5), (0, 6), (1, 5), (1, 6), (2, 5) and (2, 6), of which the fifth
+// is the start setting: the count of its settings, the index of its start setting, and its first
+// setting. A part without the start setting starts with its first one.
 struct PartCase {
     name: &'static str,
     part: Part,

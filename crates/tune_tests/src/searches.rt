@@ -5,6 +5,7 @@ use std::test::Fail;
 use tune_problem::{Best, Silent, beats};
 use tune_search::{Method, SearchFault, search, search_by};
 
+// Settings 1 and 2 assemble, and each plays both fights.
 #[test]
 fn a_search_may_play_everything(rt: HostRuntime) -> Result<(), Fail> {
     let inputs = inputs_of(rt.alloc(), FIRST_REFUSED)?;

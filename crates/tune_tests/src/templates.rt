@@ -49,6 +49,7 @@ const TEMPLATES: [TemplateCase; 5] = [
         name: "the most constants",
         text: b";@tune A 0 1 1 1\n;@tune B 0 1 1 0\n;@tune C 0 1 1 1\n;@tune D 0 1 1 0\n;@tune E 0 1 1 1\n;@tune F 0 1 1 0\n;@tune G 0 1 1 1\n;@tune H 0 1 1 0",
         count: 256,
+        // The last constant changes first: the STARTs are the binary digits of the index.
         start: 170,
         constants: 8,
     },

@@ -73,7 +73,7 @@ fn after(settings: u32, count: u32, fights: u64, best: Option<Best>) -> Option<S
     })
 }
 
-// A wrong certificate of two settings, and how many fights a check plays until it rejects it.
+// A wrong certificate of two imps, and how many fights a check plays until it rejects it.
 struct WrongCase {
     name: &'static str,
     cert: &'static [u8],
@@ -109,7 +109,7 @@ fn a_check_stops_at_what_is_wrong(rt: HostRuntime) -> Result<(), Fail> {
     Ok(())
 }
 
-// Setting 1 of `FIRST_REFUSED`, an imp.
+// Setting 1 of `FIRST_REFUSED` and of `THREE_UNEQUAL`, an imp.
 const SECOND: Option<Best> = Some(Best {
     vector: 1,
     total: 4,

@@ -111,7 +111,8 @@ fn tuned(alloc: Global, report: Failing, cert: Failing) -> Result<Tuned, Fail> {
     Ok((result, report.into_inner().taken, cert.into_inner().taken))
 }
 
-// A certificate of 62 bytes, cut after each piece: then the report is not begun.
+// A certificate of 58 bytes, which takes nine pieces, cut after each: the report is begun only
+// after the last.
 #[test]
 fn a_certificate_is_cut(rt: HostRuntime) -> Result<(), Fail> {
     for writes in 0..10usize {
@@ -141,7 +142,8 @@ fn a_certificate_is_not_flushed(rt: HostRuntime) -> Result<(), Fail> {
     Ok(())
 }
 
-// A report of 71 bytes, cut after each piece: the certificate is written whole before.
+// A report of 71 bytes, which takes eleven pieces, cut after each: the certificate is written whole
+// before.
 #[test]
 fn a_report_is_cut(rt: HostRuntime) -> Result<(), Fail> {
     for writes in 0..12usize {

@@ -1,5 +1,6 @@
-//! One test for each run that allocates: results worked out by hand, and `OutOfMemory` passed on as
-//! the test's error. The writers have their room beforehand.
+//! One test for each run that allocates: tables of results worked out by hand, and `OutOfMemory`
+//! passed on as the test's error. The tunings and the certificates are those of `fixtures`. The
+//! writers have their room beforehand.
 //!
 //! `make test` also runs each of these tests with its first, second and so on request for memory
 //! refused (gate/refuse/growth.py). It then ends with the same results, or with the error
@@ -23,9 +24,6 @@ fn outlet(alloc: Global) -> Result<Outlet<Vec<u8>>, AllocError>
 {
     Ok(Outlet::new(Vec::with_capacity(alloc, 256)?))
 }
-
-const POSTED: &[u8] =
-    b"From: a mail header\n;redcode-94\n;name Dwarf\n;author A. K. Dewdney\n;assert CORESIZE % 4 == 0\nstep EQU 4\n  ORG start\nbomb DAT #0, #0\nstart ADD #step, bomb\n  MOV bomb, @bomb\n  JMP start\n  END\n";
 
 // Returns what a run wrote, or the text of its fault. A refused run has to have written nothing.
 // Out of memory is an error.
@@ -53,6 +51,11 @@ struct TextCase {
     text: &'static [u8],
     want: &'static [u8],
 }
+
+// A warrior as it was posted: a mail header, which is skipped since it comes before `;redcode`,
+// comments that say whose it is, and an assertion about the rules.
+const POSTED: &[u8] =
+    b"From: a mail header\n;redcode-94\n;name Dwarf\n;author A. K. Dewdney\n;assert CORESIZE % 4 == 0\nstep EQU 4\n  ORG start\nbomb DAT #0, #0\nstart ADD #step, bomb\n  MOV bomb, @bomb\n  JMP start\n  END\n";
 
 const ASSEMBLIES: [TextCase; 12] = [
     TextCase {
@@ -141,6 +144,7 @@ fn asm_run_writes_the_load_file(rt: HostRuntime) -> Result<(), Fail> {
 pub(crate) const FIGHT_OF_IMPS: &[u8] =
     b"rules 16 20 4 4 4\nfight 8 c\ncandidate\nORG 0\nMOV.I $0, $1\nopponent\nORG 0\nMOV.I $0, $1\n";
 
+// Fights of at most 20 cycles, of two turns each: a tie takes 40 turns.
 const FIGHTS: [TextCase; 4] = [
     TextCase {
         name: "two imps tie",
@@ -220,7 +224,7 @@ fn tune_with(alloc: Global, template: &[u8], capacity: u32) -> Result<Tuned, Fai
 }
 
 // A template, and what a tuning writes that remembers 4096 settings: the report, or the text of its
-// fault, and the certificate.
+// fault, and the certificate. The report counts the fights played, of those of all candidates.
 struct TuningCase {
     name: &'static str,
     template: &'static [u8],
@@ -271,7 +275,7 @@ fn tune_run_writes_the_optimum(rt: HostRuntime) -> Result<(), Fail> {
     Ok(())
 }
 
-// Six settings with two warriors, and room for both.
+// Six settings with two warriors, and room for both: one plays both fights, and the other its tie.
 #[test]
 fn tune_run_with_a_cache_of_two(rt: HostRuntime) -> Result<(), Fail> {
     let tuned = tune_with(rt.alloc(), TWO_IN_TURN, 2)?;

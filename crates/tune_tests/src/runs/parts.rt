@@ -6,7 +6,8 @@ use tune_cert::Silent;
 use tune_problem::Part;
 use tune_runs::{Method, check_part_run, tune_by_run};
 
-// The certificate of the second half of the settings.
+// The certificate of the second half of the settings, those of K 3, 4 and 5: the first and the last
+// have one warrior.
 const HALF_CERT: &[u8] = b"cwcert,1,3\nbest,0,4\ncap,0,0:3 1:1\ncap,1,1:1\nsame,2,0\n";
 
 const SECOND_HALF: Part = Part {

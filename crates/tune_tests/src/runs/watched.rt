@@ -89,7 +89,7 @@ fn tune(
     tune_by_run(alloc, texts, method, told, &mut report, &mut cert)
 }
 
-// A setting is dropped after one fight of two.
+// The third setting is dropped after one fight of two.
 #[test]
 fn a_tuning_tells_its_watcher_once(rt: HostRuntime) -> Result<(), Fail> {
     let rules = small_rules()?;
