@@ -26,7 +26,7 @@ by_vector s u v l h = grind (arith, nat_tests)
 pub by_total : (s u v : ℕ) (l : Best) → copies s u v (Some l) ≡ true → beats l.total v l.total l.vector ≡ true
 by_total s u v l h = grind (arith, nat_tests)
 
--- where v does not copy, its total does not beat the lead, as that of u does not
+-- if v does not copy, its total does not beat the lead, as that of u does not
 pub shares_trails : (s u v t z c : ℕ) → visits_before s u < visits_before s v → visits_before s z < visits_before s v → copies s u v (Some (record { total = t; vector = z })) ≡ false → beats c u t z ≡ false → beats c v t z ≡ false
 shares_trails s u v t z c bu bz apart no_more =
     let behind : Trails c u t z = trails c u t z no_more in

@@ -1,4 +1,4 @@
--- When a vector has fought enough.
+-- When a setting has fought enough.
 use Rattle.std.proofs.Common.{◌≡◌, ℕ, ◌<◌, ◌≤◌, arith, Bool, true, false, List, take, ◌⊎◌, inl, inr, refl}
 use Rattle.rc_instr.specs.Warrior.{WarriorView}
 use Rattle.tune_problem.specs.Problem.{Problem}

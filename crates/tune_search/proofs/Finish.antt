@@ -81,7 +81,7 @@ module _ (p : Problem) (laws : IsProblem p) (start : p.start < p.count) (aim : A
       | inr n ↦ behind_first aim is_aim cap u ranking is_ranking.order (all_map ranking (λ x r. r.reaches) is_ranking.members) (ap (contends aim cap u) is ∙ n)
     ]
 
-    -- and so for each vector with the same warrior that is visited later
+    -- and so for each setting with the same warrior that is visited later
     pub shared_behind : (v : ℕ) → v < p.count → p.warrior v ≡ Some x → visits_before p.start u < visits_before p.start v → Beaten aim cap v lead
     shared_behind v l is_v before = elim (same_number u p.start) [
       | inl first ↦ subst (λ (n : ℕ). Beaten aim n v lead) (sym (start_cases p laws start aim is_aim method rows u x h first).0) (behind v x l is_v)

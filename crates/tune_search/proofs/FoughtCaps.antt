@@ -45,7 +45,7 @@ module _ (p : Problem) (laws : IsProblem p) (start : p.start < p.count) (aim : A
   pub total_few : total_of p x ≤ cap
   total_few = omega (arith, row_cap_is, total_le_cap p laws x order permutes many)
 
-  -- where all fights were fought
+  -- if all fights were played
   all_long : many ≡ p.fights → length h.row ≡ p.fights
   all_long e =
       listed_length p x ks h.row h.listed ∙ ap (λ j. length (take j order)) e

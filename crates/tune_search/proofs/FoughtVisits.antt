@@ -75,7 +75,7 @@ module _ (p : Problem) (laws : IsProblem p) (start : p.start < p.count) (rules :
     lengths : length made ≡ length row
     lengths = sym (length_permutation made row same)
 
-    -- where all fights were fought
+    -- if all fights were played
     all_made : enough p method (aim_at p aim v) w g.order v g.ranking ≡ p.fights → length made ≡ p.fights
     all_made e = ap length made_is ∙ length-map {B = ℕ × ℕ} ks (λ k. (k, p.points w k)) ∙ ap (λ j. length (take j g.order)) e
         ∙ ap length (take_all p.fights g.order (omega (arith, order_length p g.order now.permutes))) ∙ order_length p g.order now.permutes

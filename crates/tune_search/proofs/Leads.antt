@@ -64,7 +64,7 @@ enough_cases p method aim w order v ranking =
       | inr h ↦ inr (dropped method aim _ v ranking h)
     ]
 
--- where the cap at the end contends, all were fought
+-- if the cap at the end contends, all were played
 pub all_fought : (p : Problem) (method : Method) (aim : Aim) (w : WarriorView) (order : List ℕ) (v : ℕ) (ranking : List Best) →
     contends aim (cap_of p w (take (enough p method aim w order v ranking) order)) v ranking ≡ true → enough p method aim w order v ranking ≡ p.fights
 all_fought p method aim w order v ranking h = elim (enough_cases p method aim w order v ranking) [ inl e ↦ e | inr n ↦ absurd (cc) ]

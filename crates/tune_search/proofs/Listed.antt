@@ -11,7 +11,7 @@ use Rattle.tune_problem.specs.Optimum.{all_fights, candidates_of}
 use Rattle.tune_problem.specs.Valid.{listed_in, listed_fights}
 use Rattle.tune_search.specs.Plays.{played, row_with, row_of, rows_of}
 
--- one more vector, with a warrior or without one
+-- one more setting, with a warrior or without one
 one_more : (p : Problem) (o : Option WarriorView) (c s : ℕ) → s ≡ c * p.fights → listed_in (row_with p o) + s ≡ (cond (is_some o) 1 0 + c) * p.fights
 one_more p None c s e = omega (arith, e)
 one_more p (Some w) c s e =

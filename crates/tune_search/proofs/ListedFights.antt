@@ -1,4 +1,4 @@
--- Rows of fights, by number.
+-- Lists of fights, by index.
 use Rattle.std.proofs.Common.{◌≡◌, ◌≢◌, ℕ, suc, ◌+◌, ◌<◌, ◌≤◌, arith, false, List, [], ◌∷◌, All, length, take, get_or, nat_eq, refl, ◌∙◌, ap, subst}
 use Rattle.std.specs.List.{sum_by, range_with_len, IsDistinct, AllByRecursion}
 use Rattle.std.specs.List.Sorted.{IsPermutation, IsStrictlyIncreasing, IsSorted}
@@ -27,7 +27,7 @@ test_apart a b h = grind (arith, nat_tests)
 flips : (a b : ℕ) → nat_eq a b ≡ nat_eq b a
 flips a b = grind (arith, nat_tests)
 
--- every number once
+-- every index once
 pub range_distinct : (n : ℕ) → IsDistinct nat_eq (range_with_len 0 n)
 range_distinct n = IsDistinct-from_apart nat_eq (range_with_len 0 n) (λ i j d l m.
     let len : length (range_with_len 0 n) ≡ n = length-range_with_len 0 n in
@@ -48,7 +48,7 @@ prefix_distinct n j order h =
 in_order : (x y : ℕ × ℕ) → is_lt (by_index y x) ≡ false → x.0 ≤ y.0
 in_order x y h = grind (arith, nat_tests)
 
--- what is sorted and has no number twice is rising
+-- what is sorted and has no index twice is rising
 pub rising : (row : List (ℕ × ℕ)) → IsSorted by_index row → IsDistinct nat_eq (listed_indices row) → IsStrictlyIncreasing (listed_indices row)
 rising row sorted distinct = λ k l.
     let n : length (listed_indices row) ≡ length row = length-map row (λ e. e.0) in

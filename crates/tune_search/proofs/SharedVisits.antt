@@ -76,7 +76,7 @@ module _ (p : Problem) (laws : IsProblem p) (start : p.start < p.count) (rules :
     unfolding u_fought with_cap
     cap_is = with_cap.1
 
-    -- where its cap contends as one of v, all its fights were fought
+    -- if its cap contends as one of v, all its fights were played
     u_whole : contends aim other.cap v g.ranking ≡ true → (other.cap ≡ total_of p w) × (length u_fought.row ≡ p.fights)
     u_whole run = elim (later_cases p laws start aim is_aim method g.rows u w u_fought v k u_earlier (let b : visits_before p.start u < k = u_before in omega arith) now.at_most) [
       | inl a ↦ (cap_is ∙ a.0, a.1)

@@ -1,5 +1,4 @@
--- The two methods of a search: it drops settings and shares fights, or it plays
--- all fights.
+-- The two methods of a search: it drops settings and shares fights, or it plays all fights.
 use Rattle.std.specs.Prelude.{ℕ, ◌≤◌}
 use Rattle.tune_search.specs.Limits.{MOST_CAPACITY}
 use Rattle.tune_search.specs.declared.method.Method.{Method}
