@@ -30,7 +30,7 @@ pub(crate) const IMP_TEXT: &[u8] = b"MOV 0, 1\n";
 pub(crate) const IMP_FILE: &[u8] = b"ORG 0\nMOV.I $0, $1\n";
 
 // A schedule of one fight against each of the two opponents, at address 8.
-pub(crate) const BOTH: &[u8] = b"opponent,position,first\n0,8,c\n1,8,c\n";
+pub(crate) const TWO_FIGHTS: &[u8] = b"opponent,position,first\n0,8,c\n1,8,c\n";
 
 // The only setting of a template without constants, an imp; and its certificate.
 pub(crate) const ONE_IMP: &[u8] = b"MOV 0, 1";
@@ -211,7 +211,7 @@ pub(crate) fn texts_of<'a>(
     TuneTexts {
         template,
         opponents,
-        schedule: BOTH,
+        schedule: TWO_FIGHTS,
         rules,
         part,
     }
@@ -222,6 +222,6 @@ pub(crate) fn inputs_of(alloc: Global, text: &[u8]) -> Result<Inputs, Fail> {
     let rules = small_rules()?;
     let template = Template::read(alloc, text)?;
     let opponents = two_opponents(alloc, &rules)?;
-    let schedule = Schedule::read(alloc, BOTH, 2, &rules)?;
+    let schedule = Schedule::read(alloc, TWO_FIGHTS, 2, &rules)?;
     Ok(Inputs::new(template, opponents, schedule, rules))
 }

@@ -220,7 +220,7 @@ fn search_with(alloc: Global, text: &[u8], capacity: u32) -> Result<Searched, Fa
     let inputs = inputs_of(alloc, text)?;
     let found = search(alloc, &inputs, capacity)?;
     Ok(Searched {
-        fights: u64::from(found.fights),
+        fights: found.fights,
         cert: cert_of(alloc, &found)?,
     })
 }

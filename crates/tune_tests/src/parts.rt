@@ -7,9 +7,12 @@ use std::alloc::Global;
 use std::test::Fail;
 use tune_problem::{Inputs, Part, part_size, setting_warrior, start_setting};
 
-// A part of the six settings (0, 5), (0, 6), (1, 5), (1, 6), (2, 5) and (2, 6), of which the fifth
-// is the start setting: the count of its settings, the index of its start setting, and its first
-// setting. A part without the start setting starts with its first one.
+// Six settings: (0, 5), (0, 6), (1, 5), (1, 6), (2, 5) and (2, 6), of which the fifth is the start
+// setting.
+const SIX_SETTINGS: &[u8] = b";@tune A 0 2 1 2\n;@tune B 5 6 1 5\nDAT A, B";
+
+// A part of the six settings: the count of its settings, the index of its start setting, and its
+// first setting. A part without the start setting starts with its first one.
 struct PartCase {
     name: &'static str,
     part: Part,
@@ -82,7 +85,7 @@ const PARTS: [PartCase; 6] = [
 ];
 
 fn six_settings(alloc: Global) -> Result<Inputs, Fail> {
-    inputs_of(alloc, b";@tune A 0 2 1 2\n;@tune B 5 6 1 5\nDAT A, B")
+    inputs_of(alloc, SIX_SETTINGS)
 }
 
 // Checks that a part has this count of settings, this start setting and this first setting.

@@ -1,7 +1,8 @@
 //! Each run on writers that take some pieces of its text and then fail, or then take no byte; and
 //! on writers that fail at once, if it refuses its input.
 use crate::fixtures::{
-    BOTH, THREE_UNEQUAL, THREE_UNEQUAL_CERT, THREE_UNEQUAL_REPORT, both_opponents, small_rules,
+    THREE_UNEQUAL, THREE_UNEQUAL_CERT, THREE_UNEQUAL_REPORT, TWO_FIGHTS, both_opponents,
+    small_rules,
 };
 use crate::runs::memory::FIGHT_OF_IMPS;
 use crate::writers::{Broken, Failing, PIECE};
@@ -64,7 +65,7 @@ fn checked(alloc: Global, writer: Failing) -> Result<(Result<(), RunFault>, Vec<
         alloc,
         THREE_UNEQUAL,
         texts,
-        BOTH,
+        TWO_FIGHTS,
         &rules,
         THREE_UNEQUAL_CERT,
         &mut out,
@@ -102,7 +103,7 @@ fn tuned(alloc: Global, report: Failing, cert: Failing) -> Result<Tuned, Fail> {
         alloc,
         THREE_UNEQUAL,
         texts,
-        BOTH,
+        TWO_FIGHTS,
         &rules,
         4096,
         &mut report,
@@ -184,35 +185,50 @@ fn refusal(alloc: Global, template: &[u8], schedule: &[u8]) -> Result<Option<Run
     Ok(result.err())
 }
 
-// Templates and schedules, and why a tuning of them is refused.
-const REFUSED: [(&[u8], &[u8], RunFault); 3] = [
-    (
-        b";@tune K 0 3 1 2\nMOV 0, 1\n;assert K > 9",
-        BOTH,
-        RunFault::NoCandidate,
-    ),
-    (
-        b";@tune K 3 2 1 3\nMOV 0, 1",
-        BOTH,
-        RunFault::Template(TemplateFault {
+// A template and a schedule, and why a tuning of them is refused.
+struct RefusedCase {
+    name: &'static str,
+    template: &'static [u8],
+    schedule: &'static [u8],
+    fault: RunFault,
+}
+
+const REFUSED: [RefusedCase; 3] = [
+    RefusedCase {
+        name: "an assertion that fails in each setting",
+        template: b";@tune K 0 3 1 2\nMOV 0, 1\n;assert K > 9",
+        schedule: TWO_FIGHTS,
+        fault: RunFault::NoCandidate,
+    },
+    RefusedCase {
+        name: "a constant without a value",
+        template: b";@tune K 3 2 1 3\nMOV 0, 1",
+        schedule: TWO_FIGHTS,
+        fault: RunFault::Template(TemplateFault {
             line: 1,
             kind: TemplateKind::EmptyRange,
         }),
-    ),
-    (
-        THREE_UNEQUAL,
-        b"opponent,position,first\n0,3,c\n",
-        RunFault::Schedule(ScheduleFault {
+    },
+    RefusedCase {
+        name: "a position nearer than the distance of the rules",
+        template: THREE_UNEQUAL,
+        schedule: b"opponent,position,first\n0,3,c\n",
+        fault: RunFault::Schedule(ScheduleFault {
             row: 1,
             kind: ScheduleFaultKind::BadPosition,
         }),
-    ),
+    },
 ];
 
 #[test]
 fn a_refused_tuning_writes_nothing(rt: HostRuntime) -> Result<(), Fail> {
-    for &(template, schedule, want) in &REFUSED {
-        assert_eq!(rt; refusal(rt.alloc(), template, schedule)?, Some(want));
+    for case in &REFUSED {
+        assert_eq!(rt;
+            refusal(rt.alloc(), case.template, case.schedule)?,
+            Some(case.fault),
+            "{}",
+            case.name
+        );
     }
     Ok(())
 }

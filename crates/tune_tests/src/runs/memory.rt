@@ -9,9 +9,9 @@ ghost use Rattle.std.specs.Prelude.{◌≡◌, ◌≤◌, false, IfOk};
 ghost use Rattle.tune_search.specs.Limits.{MOST_CAPACITY};
 
 use crate::fixtures::{
-    ACCEPTED, BOTH, FIRST_REFUSED, FIRST_REFUSED_CERT, FOUR_EQUAL, FOUR_EQUAL_CASES,
-    FOUR_EQUAL_CERT, ONE_IMP, ONE_IMP_CERT, THREE_UNEQUAL, THREE_UNEQUAL_CERT,
-    THREE_UNEQUAL_REPORT, TWO_IN_TURN, TWO_IN_TURN_CERT, both_opponents, small_rules,
+    ACCEPTED, FIRST_REFUSED, FIRST_REFUSED_CERT, FOUR_EQUAL, FOUR_EQUAL_CASES, FOUR_EQUAL_CERT,
+    ONE_IMP, ONE_IMP_CERT, THREE_UNEQUAL, THREE_UNEQUAL_CERT, THREE_UNEQUAL_REPORT, TWO_FIGHTS,
+    TWO_IN_TURN, TWO_IN_TURN_CERT, both_opponents, small_rules,
 };
 use rc_instr::Outlet;
 use std::alloc::{AllocError, Global};
@@ -207,7 +207,7 @@ fn tune_with(alloc: Global, template: &[u8], capacity: u32) -> Result<Tuned, Fai
         alloc,
         template,
         texts,
-        BOTH,
+        TWO_FIGHTS,
         &rules,
         capacity,
         &mut report,
@@ -300,7 +300,7 @@ fn check_of(alloc: Global, cert: &[u8]) -> Result<Checked, Fail> {
     let opponents = both_opponents(alloc)?;
     let mut out = outlet(alloc)?;
     let texts = opponents.as_slice();
-    let ended = check_run(alloc, FOUR_EQUAL, texts, BOTH, &rules, cert, &mut out);
+    let ended = check_run(alloc, FOUR_EQUAL, texts, TWO_FIGHTS, &rules, cert, &mut out);
     let line = out.into_inner();
     if ended.is_err() && !line.is_empty() {
         return Err(Fail::from("a refused run wrote something"));

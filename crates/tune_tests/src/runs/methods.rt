@@ -10,19 +10,20 @@ use tune_runs::{Method, RunFault, tune_by_run};
 // Two settings with one warrior, an imp, of which the second is the start setting.
 const TWO_EQUAL: &[u8] = b";@tune K 0 1 1 1\nMOV 0, 1";
 
-// The report of a tuning that plays all fights, and the certificate by either method.
-const REPORT: &[u8] =
-    b"vectors 2\ncandidates 2\nbest 0\nconstants K=0\ntotal 4 of 6\nfights 4 of 4\n";
-
+// The certificate by either method.
 const CERT: &[u8] = b"cwcert,1,2\nbest,0,4\ncap,0,0:3 1:1\ncap,1,0:3 1:1\n";
 
-// Each method, and the report of what it finds: the settings may share their fights.
+// Each method, and the report of what it finds: the two settings share their fights, or each plays
+// its own.
 const METHODS: [(Method, &[u8]); 2] = [
     (
         Method::Dropping { capacity: 1 },
         b"vectors 2\ncandidates 2\nbest 0\nconstants K=0\ntotal 4 of 6\nfights 2 of 4\n",
     ),
-    (Method::PlayingAll, REPORT),
+    (
+        Method::PlayingAll,
+        b"vectors 2\ncandidates 2\nbest 0\nconstants K=0\ntotal 4 of 6\nfights 4 of 4\n",
+    ),
 ];
 
 #[test]

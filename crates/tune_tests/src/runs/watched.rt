@@ -11,7 +11,7 @@ use tune_runs::{Demand, Method, RunFault, TuneTexts, check_for_run, check_part_r
 
 // Counts the begins, settings, fights and ends that it is told of, and what it is told after an
 // end.
-#[derive(Drop)]
+#[derive(Clone, Copy, Debug, PartialEq, Eq)]
 struct Told {
     begins: u32,
     settings: u32,
@@ -31,22 +31,23 @@ impl Told {
         }
     }
 
+    // Returns what is told of a run of `settings` settings and `fights` fights: it begins once and
+    // ends once, and nothing comes after its end.
+    fn once(settings: u32, fights: u32) -> Told {
+        Told {
+            begins: 1,
+            settings,
+            fights,
+            ends: 1,
+            late: 0,
+        }
+    }
+
     // Notes what comes after an end.
     fn note(&mut self) {
         if self.ends > 0 {
             self.late = self.late.saturating_add(1);
         }
-    }
-
-    // Returns the begins, the settings, the fights, the ends, and what came after an end.
-    fn numbers(&self) -> (u32, u32, u32, u32, u32) {
-        (
-            self.begins,
-            self.settings,
-            self.fights,
-            self.ends,
-            self.late,
-        )
     }
 }
 
@@ -97,7 +98,7 @@ fn a_tuning_tells_its_watcher_once(rt: HostRuntime) -> Result<(), Fail> {
     let texts = texts_of(THREE_UNEQUAL, opponents.as_slice(), &rules, Part::whole());
     let mut told = Told::nothing();
     tune(rt.alloc(), &texts, DROPPING, &mut told)?;
-    assert_eq!(rt; told.numbers(), (1, 3, 5, 1, 0));
+    assert_eq!(rt; told, Told::once(3, 5));
     Ok(())
 }
 
@@ -108,7 +109,7 @@ fn a_tuning_that_plays_all_tells_its_watcher_once(rt: HostRuntime) -> Result<(),
     let texts = texts_of(THREE_UNEQUAL, opponents.as_slice(), &rules, Part::whole());
     let mut told = Told::nothing();
     tune(rt.alloc(), &texts, Method::PlayingAll, &mut told)?;
-    assert_eq!(rt; told.numbers(), (1, 3, 6, 1, 0));
+    assert_eq!(rt; told, Told::once(3, 6));
     Ok(())
 }
 
@@ -121,7 +122,7 @@ fn a_check_tells_its_watcher_once(rt: HostRuntime) -> Result<(), Fail> {
     let mut line = Outlet::new(Vec::new(rt.alloc()));
     let accepted = check_part_run(rt.alloc(), &texts, &mut told, THREE_UNEQUAL_CERT, &mut line)?;
     assert!(rt; accepted);
-    assert_eq!(rt; told.numbers(), (1, 3, 5, 1, 0));
+    assert_eq!(rt; told, Told::once(3, 5));
     Ok(())
 }
 
@@ -146,7 +147,7 @@ fn a_check_with_a_demand_tells_its_watcher_once(rt: HostRuntime) -> Result<(), F
         &mut lines,
     )?;
     assert!(rt; accepted);
-    assert_eq!(rt; told.numbers(), (1, 3, 5, 1, 0));
+    assert_eq!(rt; told, Told::once(3, 5));
     Ok(())
 }
 
@@ -163,6 +164,6 @@ fn a_refused_tuning_tells_its_watcher_once(rt: HostRuntime) -> Result<(), Fail> 
         Err(other) => return Err(Fail::from(other)),
         Ok(()) => return Err(Fail::from("not refused")),
     }
-    assert_eq!(rt; told.numbers(), (1, 2, 0, 1, 0));
+    assert_eq!(rt; told, Told::once(2, 0));
     Ok(())
 }
