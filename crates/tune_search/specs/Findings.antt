@@ -17,12 +17,12 @@ use Rattle.tune_search.specs.declared.method.Method.{Method}
 
 -- The best setting is the optimum, and its total reaches the floor. If there is none, no candidate
 -- reaches the floor.
-abbrev pub IsBestFrom : Problem → ℕ → Option Best → Type 0
+abbrev pub IsBestFrom : Problem → (floor : ℕ) → Option Best → Type 0
 IsBestFrom p floor None = AllBelow p floor
 IsBestFrom p floor (Some best) = IsOptimum p best.vector × HasTotal p best.vector best.total × (floor ≤ best.total)
 
 -- The rows are a valid certificate of the best setting, or that no candidate reaches the floor.
-abbrev pub IsCertified : Problem → ℕ → ℕ → List Row → Option Best → Type 0
+abbrev pub IsCertified : Problem → (floor version : ℕ) → List Row → Option Best → Type 0
 IsCertified p floor version rows None = IsValidBelow p floor version rows
 IsCertified p floor version rows (Some best) = IsValid p (cert_with version (length rows) rows best)
 

@@ -23,12 +23,12 @@ is_cap (Some (Cap row)) = true
 is_cap _ = false
 
 -- Setting v is the one with the copied row.
-abbrev pub is_copied : Option ℕ → ℕ → Bool
+abbrev pub is_copied : (copied : Option ℕ) → (v : ℕ) → Bool
 is_copied None v = false
 is_copied (Some u) v = u == v
 
 -- Setting v was fought if its row is a cap row, and not a copied one.
-abbrev pub is_fought : List Row → Option ℕ → ℕ → Bool
+abbrev pub is_fought : List Row → (copied : Option ℕ) → (v : ℕ) → Bool
 is_fought rows copied v = is_cap (slice_get rows v) && not (is_copied copied v)
 
 -- Setting v was fought, by the rows of what a search found.
@@ -46,7 +46,7 @@ unfoldable pub fought_count : Found → ℕ
 fought_count f = count_by (was_fought f) (range_with_len 0 (length f.rows))
 
 -- The number of fights that the copied row lists, 0 if there is none.
-abbrev pub copied_fights : List Row → Option ℕ → ℕ
+abbrev pub copied_fights : List Row → (copied : Option ℕ) → ℕ
 copied_fights rows None = 0
 copied_fights rows (Some v) = listed_by (slice_get rows v)
 

@@ -12,9 +12,9 @@ abbrev pub VisitedBy : Problem → (k v : ℕ) → Type 0
 VisitedBy p k v = visits_before p.start v < k
 
 -- A candidate among the first k visited, with its total, which reaches the floor.
-abbrev pub IsRankedBy : Problem → Aim → ℕ → Best → Type 0
+abbrev pub IsRankedBy : Problem → Aim → (k : ℕ) → Best → Type 0
 IsRankedBy p aim k best = IsRanked p aim (VisitedBy p k) best
 
 -- The ranking of the first k settings visited, cut to as many as the aim keeps.
-abbrev pub IsRankingBy : Problem → Aim → ℕ → List Best → Type 0
+abbrev pub IsRankingBy : Problem → Aim → (k : ℕ) → List Best → Type 0
 IsRankingBy p aim k ranking = IsRanking p aim (VisitedBy p k) ranking

@@ -13,18 +13,18 @@ use Rattle.tune_search.specs.declared.method.Method.{Method}
 use Rattle.tune_problem.specs.declared.watcher.Best.{Best}
 
 -- Setting v is the lead.
-abbrev pub leads : ℕ → Option Best → Bool
+abbrev pub leads : (v : ℕ) → (lead : Option Best) → Bool
 leads v None = false
 leads v (Some lead) = lead.vector == v
 
 -- Setting v copies the row of u if u is the start setting and the lead, and v comes before it: then
 -- v is the better one.
-abbrev pub copies : ℕ → ℕ → ℕ → Option Best → Bool
+abbrev pub copies : (start u v : ℕ) → (lead : Option Best) → Bool
 copies start u v lead = (u == start) && leads u lead && nat_lt v u
 
 -- The row of v, which shares the fights of u. If v copies the row of u, `copied` is v, and the rows
 -- are equal. Otherwise `copied` is not v, and the row of v is `Same u`.
-abbrev pub HasRowOf : List Row → Option ℕ → ℕ → ℕ → Bool → Type 0
+abbrev pub HasRowOf : List Row → (copied : Option ℕ) → (u v : ℕ) → (is_copy : Bool) → Type 0
 HasRowOf rows copied u v true = (copied ≡ Some v) × (slice_get rows v ≡ slice_get rows u)
 HasRowOf rows copied u v false = (copied ≢ Some v) × (slice_get rows v ≡ Some (Same u))
 

@@ -58,12 +58,12 @@ abbrev pub by_index : ℕ × ℕ → ℕ × ℕ → Ordering
 by_index x y = ordering_then (nat_cmp x.0 y.0) (nat_cmp x.1 y.1)
 
 -- The lead has a cap row, and that lists every fight.
-abbrev pub IsWhole : Problem → List Row → Option Best → Type 0
+abbrev pub IsWhole : Problem → List Row → (lead : Option Best) → Type 0
 IsWhole p rows None = Unit {0}
 IsWhole p rows (Some lead) = (row : List (ℕ × ℕ)) × (slice_get rows lead.vector ≡ Some (Cap row)) × (length row ≡ p.fights)
 
 -- The setting with the copied row was visited, and the start setting leads no more.
-abbrev pub HasCopied : Problem → ℕ → Option Best → Option ℕ → Type 0
+abbrev pub HasCopied : Problem → (k : ℕ) → (lead : Option Best) → (copied : Option ℕ) → Type 0
 HasCopied p k lead None = Unit {0}
 HasCopied p k lead (Some v) = (v < p.count) × (visits_before p.start v < k) × (leads p.start lead ≡ false)
 

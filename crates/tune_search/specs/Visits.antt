@@ -22,17 +22,17 @@ abbrev pub visits_before : (start v : ℕ) → ℕ
 visits_before start v = if v == start then 0 else if nat_lt v start then v + 1 else v
 
 -- The first of the ranking of the first k settings visited, by their totals.
-unfoldable pub ranking_after : Problem → Aim → ℕ → List Best
+unfoldable pub ranking_after : Problem → Aim → (k : ℕ) → List Best
 ranking_after p aim zero = []
 ranking_after p aim (suc k) = ranking_with p aim (setting_visited p.start k) (p.warrior (setting_visited p.start k)) (ranking_after p aim k)
 
 -- The ranking of the settings that are visited before setting v.
-abbrev pub ranking_before : Problem → Aim → ℕ → List Best
+abbrev pub ranking_before : Problem → Aim → (v : ℕ) → List Best
 ranking_before p aim v = ranking_after p aim (visits_before p.start v)
 
 -- The fights that the visit of setting v plays, if its warrior is w and it shares none: the first
 -- ones of its order, as many as are enough against the ranking before the visit.
-abbrev pub fights_of_visit : Problem → Aim → Method → ℕ → WarriorView → List ℕ
+abbrev pub fights_of_visit : Problem → Aim → Method → (v : ℕ) → WarriorView → List ℕ
 fights_of_visit p aim method v w = enough_fights p method (aim_at p aim v) w (fight_order p v) v (ranking_before p aim v)
 
 -- A cap row lists these fights of a warrior with their points, by rising index.

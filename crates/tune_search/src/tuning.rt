@@ -122,12 +122,7 @@ pub fn search_from<T: Watcher>(
 
 // Returns what a watcher is told after `settings` of `count` settings: the fights that the arena
 // has counted, and the lead.
-pub(crate) fn standing(
-    settings: u32,
-    count: u32,
-    arena: &Arena<PackedCells>,
-    lead: Option<Best>,
-) -> Standing
+fn standing(settings: u32, count: u32, arena: &Arena<PackedCells>, lead: Option<Best>) -> Standing
     ensures { result ≡ record { settings = settings; count = count; fights = arena.now.fights; best = lead } }
 {
     Standing {
