@@ -1,6 +1,6 @@
 -- A text is cut at a byte, part by part.
 use Rattle.std.proofs.Common.{◌≡◌, inl, inr, ℕ, suc, ◌+◌, ◌<◌, ◌≤◌, Bool, true, false, List, [], ◌∷◌, ◌++◌, length, take, drop, refl, sym, ◌∙◌, ap, arith, subst, append-nil, append_assoc, Bor}
-use Rattle.std.specs.Prelude.{◌==◌, nat_lt, Option, Some, None, MatchOption, IfSome, codes}
+use Rattle.std.specs.Prelude.{◌==◌, nat_lt, Option, Some, None, IfSome, codes}
 use Rattle.std.specs.Str.{bytes_eq}
 use Rattle.std.specs.List.{slice_split, join_with_byte, position, position_or_len}
 use Rattle.std.specs.Option.{option_map, option_map_or, option_zip}
@@ -9,6 +9,7 @@ use Rattle.std.proofs.lemmas.List.Splits.{slice_split_first, slice_split_none, j
 use Rattle.std.proofs.lemmas.List.Sums.{fails_before_first}
 use Rattle.std.proofs.lemmas.Option.{cond_some, same_Some}
 use Rattle.tune_cert.specs.Spelling.{decimal_of, points_of, item_of, item_by, items_of, listing_of}
+use Rattle.tune_cert.specs.Steps.{AreParts}
 use Rattle.tune_cert.proofs.FieldTexts.{no_colon}
 
 -- ---- where the byte is
@@ -55,11 +56,6 @@ item_cut text fight points e = ap item_by e ∙ by_parts fight points (slice_spl
 
 no_item : (text fight : List ℕ) → slice_split (λ (b : ℕ). b == 58) text ≡ fight ∷ [] → item_of text ≡ None
 no_item text fight e = ap item_by e
-
--- what a cut at the first such byte says of a text
-abbrev pub AreParts : (byte : ℕ) → (text first : List ℕ) → Option (Bor (List ℕ)) → Type 0
-AreParts byte text first others =
-    MatchOption others (slice_split (λ (b : ℕ). b == byte) text ≡ first ∷ []) (λ rest. slice_split (λ (b : ℕ). b == byte) text ≡ first ∷ slice_split (λ (b : ℕ). b == byte) rest.now)
 
 pub no_points : (text fight : List ℕ) (points : Option (Bor (List ℕ))) → AreParts 58 text fight points → points ≡ None → item_of text ≡ None
 no_points text fight (Some p) parts e = absurd (cc)

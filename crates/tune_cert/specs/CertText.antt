@@ -38,24 +38,24 @@ last_text (Same u) = decimal u
 last_text (Cap fights) = list_text fights
 
 -- The row of setting V: `refused,V,-`, `same,V,U`, or `cap,V,LIST`.
-abbrev pub row_fields : ℕ → Row → Fields
+abbrev pub row_fields : (v : ℕ) → Row → Fields
 row_fields v row = kind_text row ∷ decimal v ∷ last_text row ∷ []
 
 -- The rows of the settings from v on.
-unfoldable pub rows_fields : List Row → ℕ → List Fields
+unfoldable pub rows_fields : List Row → (v : ℕ) → List Fields
 rows_fields [] v = []
 rows_fields (row ∷ rows) v = row_fields v row ∷ rows_fields rows (v + 1)
 
 -- `cwcert,V,N` for version V and N settings.
-abbrev pub count_fields : ℕ → ℕ → Fields
+abbrev pub count_fields : (version count : ℕ) → Fields
 count_fields version count = codes "cwcert" ∷ decimal version ∷ decimal count ∷ []
 
 -- `best,W,T` for the best setting and its total.
-abbrev pub best_fields : ℕ → ℕ → Fields
+abbrev pub best_fields : (best total : ℕ) → Fields
 best_fields best total = codes "best" ∷ decimal best ∷ decimal total ∷ []
 
 -- `none,-,F`: no setting totals F or more.
-abbrev pub none_fields : ℕ → Fields
+abbrev pub none_fields : (floor : ℕ) → Fields
 none_fields floor = codes "none" ∷ codes "-" ∷ decimal floor ∷ []
 
 abbrev pub answer_fields : Answer → Fields

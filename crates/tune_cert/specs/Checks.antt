@@ -37,35 +37,35 @@ first_of (Some failure ∷ checks) = Some failure
 abbrev pub refers : Row → Bool
 refers (Same u) = true
 refers Refused = false
-refers (Cap row) = false
+refers (Cap listed) = false
 
 -- The indices of the fights rise, from a or more, so that none is listed twice.
-abbrev pub rises : ℕ → List (ℕ × ℕ) → Bool
+abbrev pub rises : (a : ℕ) → (listed : List (ℕ × ℕ)) → Bool
 rises a [] = true
-rises a (e ∷ row) = nat_le a e.0 && rises (e.0 + 1) row
+rises a (e ∷ listed) = nat_le a e.0 && rises (e.0 + 1) listed
 
 -- Every listed fight exists.
 abbrev pub are_fights : Problem → List (ℕ × ℕ) → Bool
-are_fights p row = list_all (λ e. nat_lt e.0 p.fights) row
+are_fights p listed = list_all (λ e. nat_lt e.0 p.fights) listed
 
 -- Every listed fight exists, and gives the warrior the listed points.
 abbrev pub have_points : Problem → WarriorView → List (ℕ × ℕ) → Bool
-have_points p w row = list_all (λ e. nat_lt e.0 p.fights && (e.1 == p.points w e.0)) row
+have_points p w listed = list_all (λ e. nat_lt e.0 p.fights && (e.1 == p.points w e.0)) listed
 
 -- A setting assembles, and its warrior has the listed points.
 abbrev pub has_points : Problem → Option WarriorView → List (ℕ × ℕ) → Bool
-has_points p None row = false
-has_points p (Some w) row = have_points p w row
+has_points p None listed = false
+has_points p (Some w) listed = have_points p w listed
 
--- The cap of a row, as one of setting v, does not beat the best setting.
-abbrev pub is_no_better : Problem → Cert → ℕ → List (ℕ × ℕ) → Bool
-is_no_better p c v row = not (beats (listed_cap p row) v c.total c.best)
+-- The cap of a listing, as one of setting v, does not beat the best setting.
+abbrev pub is_no_better : Problem → Cert → (v : ℕ) → (listed : List (ℕ × ℕ)) → Bool
+is_no_better p c v listed = not (beats (listed_cap p listed) v c.total c.best)
 
--- A row, as one of setting v, lists every fight, or its cap does not contend with the ranking that
--- the rows list. Without an aim every row is exact.
-unfoldable pub is_exact : Problem → Option Aim → List Row → ℕ → List (ℕ × ℕ) → Bool
-is_exact p None rows v row = true
-is_exact p (Some aim) rows v row = lists_all p.fights 0 row || not (contends aim (listed_cap p row) v (listed_ranking p aim rows))
+-- A listing, as one of setting v, has every fight, or its cap does not contend with the ranking
+-- that the rows list. Without an aim every listing is exact.
+unfoldable pub is_exact : Problem → Option Aim → List Row → (v : ℕ) → (listed : List (ℕ × ℕ)) → Bool
+is_exact p None rows v listed = true
+is_exact p (Some aim) rows v listed = lists_all p.fights 0 listed || not (contends aim (listed_cap p listed) v (listed_ranking p aim rows))
 
 abbrev pub same_code : List Instruction → List Instruction → Bool
 same_code [] [] = true
@@ -82,96 +82,96 @@ share_warrior (Some w) (Some x) = (w.start == x.start) && same_code w.code x.cod
 -- What is wrong with rows of certificate c, against problem p. With an aim they have to be exact.
 module _ (p : Problem) (c : Cert) (aim : Option Aim) where
   -- What is wrong with the cap row of setting v.
-  unfoldable pub cap_reason : ℕ → List (ℕ × ℕ) → Option Reason
-  cap_reason v row =
+  unfoldable pub cap_reason : (v : ℕ) → (listed : List (ℕ × ℕ)) → Option Reason
+  cap_reason v listed =
       first_of (
-      unless (rises 0 row) RepeatedFight
-      ∷ unless (has_points p (p.warrior v) row) WrongPoints
-      ∷ unless (((v == c.best) || is_no_better p c v row) && is_exact p aim c.rows v row) CapTooHigh
+      unless (rises 0 listed) RepeatedFight
+      ∷ unless (has_points p (p.warrior v) listed) WrongPoints
+      ∷ unless (((v == c.best) || is_no_better p c v listed) && is_exact p aim c.rows v listed) CapTooHigh
       ∷ []
       )
 
-  -- What is wrong with the row of setting v if it refers to setting u, which has this cap row. That
-  -- row is taken as listed: whether it has its points is a check of its own setting.
-  unfoldable pub listed_reason : (v u : ℕ) → List (ℕ × ℕ) → Option Reason
-  listed_reason v u row =
+  -- What is wrong with the row of setting v if it refers to setting u, whose cap row has this
+  -- listing. The points are taken as listed: whether they are right is a check of the row of u.
+  unfoldable pub listed_reason : (v u : ℕ) → (listed : List (ℕ × ℕ)) → Option Reason
+  listed_reason v u listed =
       first_of (
-      unless (not (u == v) && (share_warrior (p.warrior v) (p.warrior u) && (rises 0 row && are_fights p row))) NotSame
-      ∷ unless (is_no_better p c v row && is_exact p aim c.rows v row) CapTooHigh
+      unless (not (u == v) && (share_warrior (p.warrior v) (p.warrior u) && (rises 0 listed && are_fights p listed))) NotSame
+      ∷ unless (is_no_better p c v listed && is_exact p aim c.rows v listed) CapTooHigh
       ∷ []
       )
 
-  -- What is wrong with the row of setting v if it refers to setting u, by the row of that one.
+  -- What is wrong with the row of setting v if it refers to setting u, by the row of u.
   abbrev pub reference_reason : (v u : ℕ) → Option Row → Option Reason
   reference_reason v u None = Some NotSame
   reference_reason v u (Some Refused) = Some NotSame
   reference_reason v u (Some (Same t)) = Some NotSame
-  reference_reason v u (Some (Cap row)) = listed_reason v u row
+  reference_reason v u (Some (Cap listed)) = listed_reason v u listed
 
   -- What is wrong with the row of setting v: the first reason that applies.
-  abbrev pub row_reason : ℕ → Row → Option Reason
+  abbrev pub row_reason : (v : ℕ) → Row → Option Reason
   row_reason v Refused = unless (is_none (p.warrior v)) NotRefused
   row_reason v (Same u) = reference_reason v u (slice_get c.rows u)
-  row_reason v (Cap row) = cap_reason v row
+  row_reason v (Cap listed) = cap_reason v listed
 
   -- What is wrong with the row of v if it refers to no other setting; None if it refers to one.
-  abbrev pub alone_reason : ℕ → Row → Option Reason
+  abbrev pub alone_reason : (v : ℕ) → Row → Option Reason
   alone_reason v row = if refers row then None else row_reason v row
 
   -- What is wrong with the row of v if it refers to another setting; None if it does not.
-  abbrev pub same_reason : ℕ → Row → Option Reason
+  abbrev pub same_reason : (v : ℕ) → Row → Option Reason
   same_reason v row = if refers row then row_reason v row else None
 
 -- ---- the rows of a share
 
 -- The settings from `first` to just before `end`.
-abbrev pub settings_between : ℕ → ℕ → List ℕ
+abbrev pub settings_between : (first end : ℕ) → List ℕ
 settings_between first end = range_with_len first (end - first)
 
 -- The settings of a share, out of `count`.
-abbrev pub share_settings : Part → ℕ → List ℕ
+abbrev pub share_settings : Part → (count : ℕ) → List ℕ
 share_settings share count = settings_between (part_first share count) (part_end share count)
 
 -- A reason, at a record.
-abbrev pub at_record : ℕ → Option Reason → Option (ℕ × Reason)
+abbrev pub at_record : (number : ℕ) → Option Reason → Option (ℕ × Reason)
 at_record number reason = option_map (λ r. (number, r)) reason
 
 -- What a check of rows finds wrong with the row of setting v, if there is one.
-abbrev pub reason_at : (ℕ → Row → Option Reason) → List Row → ℕ → Option Reason
+abbrev pub reason_at : (check : ℕ → Row → Option Reason) → List Row → (v : ℕ) → Option Reason
 reason_at check rows v = option_and_then (check v) (slice_get rows v)
 
 -- The first wrong row of some settings.
-abbrev pub first_wrong : (ℕ → Option Reason) → List ℕ → Option (ℕ × Reason)
+abbrev pub first_wrong : (reason : ℕ → Option Reason) → (settings : List ℕ) → Option (ℕ × Reason)
 first_wrong reason [] = None
 first_wrong reason (v ∷ settings) = first_of (at_record (record_of v) (reason v) ∷ first_wrong reason settings ∷ [])
 
 -- The first wrong rows of certificate c, against problem p. With an aim they have to be exact.
 module _ (p : Problem) (c : Cert) (aim : Option Aim) where
   -- Of some settings, and only of the rows that refer to no other setting.
-  abbrev pub wrong_alone : List ℕ → Option (ℕ × Reason)
+  abbrev pub wrong_alone : (settings : List ℕ) → Option (ℕ × Reason)
   wrong_alone settings = first_wrong (reason_at (alone_reason p c aim) c.rows) settings
 
   -- Of some settings, and only of the rows that refer to another setting.
-  abbrev pub wrong_same : List ℕ → Option (ℕ × Reason)
+  abbrev pub wrong_same : (settings : List ℕ) → Option (ℕ × Reason)
   wrong_same settings = first_wrong (reason_at (same_reason p c aim) c.rows) settings
 
   -- Of some settings. The refused and the cap rows are checked first, in order, and then those that
   -- refer to other settings.
-  abbrev pub rows_failure : List ℕ → Option (ℕ × Reason)
+  abbrev pub rows_failure : (settings : List ℕ) → Option (ℕ × Reason)
   rows_failure settings = first_of (wrong_alone settings ∷ wrong_same settings ∷ [])
 
 -- The number of fights that the rows of some settings list together.
-abbrev pub listed_fights_of : List Row → List ℕ → ℕ
+abbrev pub listed_fights_of : List Row → (settings : List ℕ) → ℕ
 listed_fights_of rows settings = sum_by (λ v. listed_by (slice_get rows v)) settings
 
 -- At most `listed` more fights were played, unless the count of fights would wrap around.
-abbrev pub PlaysAtMost : ArenaView → ArenaView → ℕ → Type 0
+abbrev pub PlaysAtMost : (old new : ArenaView) → (listed : ℕ) → Type 0
 PlaysAtMost old new listed = old.fights + listed < 2 ^ 64 → new.fights ≤ old.fights + listed
 
 -- ---- the certificate
 
 -- Version 1 is for schedules in which every fight counts once.
-abbrev pub is_version_of : Problem → ℕ → Bool
+abbrev pub is_version_of : Problem → (version : ℕ) → Bool
 is_version_of p version = not (version == 1) || list_all (λ k. p.weight k == 1) (all_fights p)
 
 -- The certificate claims the number of settings, and has as many rows.
@@ -179,15 +179,15 @@ abbrev pub has_row_count : Problem → Cert → Bool
 has_row_count p c = (c.count == p.count) && (length c.rows == p.count)
 
 -- The row of the best setting lists every fight in order, and its scores add up to the total.
-abbrev pub is_best_row : Problem → ℕ → Option Row → Bool
+abbrev pub is_best_row : Problem → (total : ℕ) → Option Row → Bool
 is_best_row p total None = false
 is_best_row p total (Some Refused) = false
 is_best_row p total (Some (Same u)) = false
-is_best_row p total (Some (Cap row)) = lists_all p.fights 0 row && (listed_total p row == total)
+is_best_row p total (Some (Cap listed)) = lists_all p.fights 0 listed && (listed_total p listed == total)
 
 -- What is wrong with a certificate, and at which record, as far as a check of a share sees.
 -- `answered` says whether the record of the answer is right. With an aim the rows have to be exact.
-unfoldable pub failure_by : Problem → Part → Bool → Option Aim → Cert → Option (ℕ × Reason)
+unfoldable pub failure_by : Problem → (share : Part) → (answered : Bool) → Option Aim → Cert → Option (ℕ × Reason)
 failure_by p share answered aim c =
     first_of (
     at_record 0 (unless (is_version_of p c.version) Version)

@@ -52,7 +52,7 @@ abbrev pub as_cert : Problem → Statement → Cert
 as_cert p s = cert_with s.version s.count s.rows (best_against p s.answer)
 
 -- A floor is asked for, and it is `floor`.
-abbrev pub is_floor : ℕ → Option ℕ → Bool
+abbrev pub is_floor : (floor : ℕ) → (asked : Option ℕ) → Bool
 is_floor floor None = false
 is_floor floor (Some asked) = floor == asked
 

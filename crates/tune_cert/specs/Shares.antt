@@ -25,7 +25,7 @@ InEachShare shares Holds = (number : ℕ) → 1 ≤ number → number ≤ shares
 -- that refers to u is right if u is another setting with the same warrior and has a cap row, whose
 -- fights rise and exist, and the cap by the points listed there, as one of v, does not beat the
 -- best setting.
-abbrev pub IsRightInShare : Problem → Cert → ℕ → Row → Type 0
+abbrev pub IsRightInShare : Problem → Cert → (v : ℕ) → Row → Type 0
 IsRightInShare p c v Refused = IsRightRow p c v Refused
 IsRightInShare p c v (Cap row) = IsRightRow p c v (Cap row)
 IsRightInShare p c v (Same u) =

@@ -22,16 +22,24 @@ use Rattle.tune_cert.specs.declared.fault.ReadFault.TheVariants.{OutOfMemory}
 
 -- The number whose decimal these bytes are: at most 4294967295, without a leading zero.
 unfoldable pub decimal_of : List ℕ → Option ℕ
-decimal_of bytes = let n = read_on 0 bytes in if nat_lt n (2 ^ 32) && bytes_eq bytes (decimal n) then Some n else None
+decimal_of bytes =
+    let n = read_on 0 bytes in
+    if nat_lt n (2 ^ 32) && bytes_eq bytes (decimal n) then Some n else None
 
 -- A version: 1 or 2.
 abbrev pub version_of : List ℕ → Option ℕ
-version_of bytes = if bytes_eq bytes (codes "1") then Some 1 else if bytes_eq bytes (codes "2") then Some 2 else None
+version_of bytes =
+    if bytes_eq bytes (codes "1") then Some 1
+    else if bytes_eq bytes (codes "2") then Some 2
+    else None
 
 -- The points of a fight: 0, 1 or 3.
 abbrev pub points_of : List ℕ → Option ℕ
 points_of bytes =
-    if bytes_eq bytes (codes "0") then Some 0 else if bytes_eq bytes (codes "1") then Some 1 else if bytes_eq bytes (codes "3") then Some 3 else None
+    if bytes_eq bytes (codes "0") then Some 0
+    else if bytes_eq bytes (codes "1") then Some 1
+    else if bytes_eq bytes (codes "3") then Some 3
+    else None
 
 -- A fight with its points: what is before the colon, and what is after it.
 abbrev pub item_by : List (List ℕ) → Option (ℕ × ℕ)
@@ -53,18 +61,23 @@ listing_of text = if bytes_eq text (codes "-") then Some [] else items_of (slice
 
 -- `cwcert,V,N`: the version and the number of settings.
 abbrev pub count_of : Fields → Option (ℕ × ℕ)
-count_of (name ∷ version ∷ count ∷ []) = if bytes_eq name (codes "cwcert") then option_zip (version_of version) (decimal_of count) else None
+count_of (name ∷ version ∷ count ∷ []) =
+    if bytes_eq name (codes "cwcert") then option_zip (version_of version) (decimal_of count)
+    else None
 count_of _ = None
 
 -- `best,W,T`: the best setting and its total.
 abbrev pub best_of : Fields → Option Answer
 best_of (name ∷ best ∷ total ∷ []) =
-    if bytes_eq name (codes "best") then option_map (λ x. TheBest (record { vector = x.0; total = x.1 })) (option_zip (decimal_of best) (decimal_of total)) else None
+    if bytes_eq name (codes "best") then option_map (λ x. TheBest (record { vector = x.0; total = x.1 })) (option_zip (decimal_of best) (decimal_of total))
+    else None
 best_of _ = None
 
 -- `none,-,F`: no setting totals F or more.
 abbrev pub none_of : Fields → Option Answer
-none_of (name ∷ dash ∷ floor ∷ []) = if bytes_eq name (codes "none") && bytes_eq dash (codes "-") then option_map (λ f. NoneFrom f) (decimal_of floor) else None
+none_of (name ∷ dash ∷ floor ∷ []) =
+    if bytes_eq name (codes "none") && bytes_eq dash (codes "-") then option_map (λ f. NoneFrom f) (decimal_of floor)
+    else None
 none_of _ = None
 
 -- Either answer; without `floors`, only a best setting.
@@ -81,7 +94,8 @@ row_by kind last =
 
 -- The row of setting v: the field between these names it.
 abbrev pub row_of : (v : ℕ) → Fields → Option Row
-row_of v (kind ∷ setting ∷ last ∷ []) = option_and_then (λ u. if u == v then row_by kind last else None) (decimal_of setting)
+row_of v (kind ∷ setting ∷ last ∷ []) =
+    option_and_then (λ u. if u == v then row_by kind last else None) (decimal_of setting)
 row_of v _ = None
 
 -- The record of setting v's row: record 0 is the count, and record 1 the answer.
@@ -168,13 +182,13 @@ pub record Spells (records : List Fields) (c : Cert) : Type 0 where
   pub text : records ≡ cert_fields c
 
 -- The form of each record.
-abbrev pub HasForm : ℕ → Fields → Type 0
+abbrev pub HasForm : (number : ℕ) → Fields → Type 0
 HasForm zero fields = (version : ℕ) × (count : ℕ) × IsVersion version × FitsU32 count × (fields ≡ count_fields version count)
 HasForm (suc zero) fields = (best : ℕ) × (total : ℕ) × FitsU32 best × FitsU32 total × (fields ≡ best_fields best total)
 HasForm (suc (suc v)) fields = (row : Row) × FitsU32 v × IsRow row × (fields ≡ row_fields v row)
 
 -- A record is malformed if it has another form, or if it is missing and is one of the first two.
-abbrev pub IsMalformed : List Fields → ℕ → Type 0
+abbrev pub IsMalformed : (records : List Fields) → (number : ℕ) → Type 0
 IsMalformed records number =
     ((number < 2) × (length records ≤ number)) ⊎ ((fields : Fields) × (slice_get records number ≡ Some fields) × ¬ (HasForm number fields))
 

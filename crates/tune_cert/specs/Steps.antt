@@ -1,9 +1,10 @@
--- Words that only the contracts of private functions use: a claim that is checked, and a
--- certificate that is being written.
-use Rattle.std.specs.Prelude.{◌≡◌, ℕ, ◌*◌, List, length, slice_get, Option, Some, false}
+-- Words that only the contracts of private functions use: a text that is cut into parts, a claim
+-- that is checked, and a certificate that is being written.
+use Rattle.std.specs.Prelude.{◌≡◌, ℕ, ◌*◌, ◌==◌, List, [], ◌∷◌, length, slice_get, Option, Some, false, MatchOption}
+use Rattle.std.specs.Borrow.{Bor}
 use Rattle.std.specs.Global.{Vec}
 use Rattle.std.specs.Io.KnownBytes.{Appends}
-use Rattle.std.specs.List.{sum_by}
+use Rattle.std.specs.List.{slice_split, sum_by}
 use Rattle.rc_instr.specs.Warrior.{WarriorView}
 use Rattle.tune_problem.specs.Problem.{Problem, problem_of}
 use Rattle.tune_problem.specs.declared.aim.Aim.{Aim}
@@ -15,6 +16,13 @@ use Rattle.tune_cert.specs.declared.share.Share.{Share}
 use Rattle.csv.specs.Writing.{default_writer, writer_setup, fields_written, has_written, text_written}
 use Rattle.csv.specs.declared.writer.Writer.{Writer}
 
+-- A text is cut at its first byte of this kind: its parts between such bytes are `first`, and those
+-- of `others`, which is None if it has no such byte.
+abbrev pub AreParts : (byte : ℕ) → (text first : List ℕ) → (others : Option (Bor (List ℕ))) → Type 0
+AreParts byte text first others =
+    let parts = slice_split (λ (b : ℕ). b == byte) in
+    MatchOption others (parts text ≡ first ∷ []) (λ rest. parts text ≡ first ∷ parts rest.now)
+
 -- Applies a rule of `Checks` to the inputs, the certificate and the aim of a claim.
 abbrev pub for_claim : {A : Type 0} → (rule : Problem → Cert → Option Aim → A) → Claim → A
 for_claim rule claim = rule (problem_of claim.inputs.now) claim.cert.now claim.aim
@@ -23,9 +31,9 @@ for_claim rule claim = rule (problem_of claim.inputs.now) claim.cert.now claim.a
 abbrev pub claim_settings : Share → Claim → List ℕ
 claim_settings share claim = share_settings (share_part share) (problem_of claim.inputs.now).count
 
--- The most that the fights of a row can give.
+-- The most that the fights of a listing can give.
 abbrev pub listed_most : Problem → List (ℕ × ℕ) → ℕ
-listed_most p row = sum_by (λ e. 3 * p.weight e.0) row
+listed_most p listed = sum_by (λ e. 3 * p.weight e.0) listed
 
 -- An entry for each setting, at its index: its warrior, or None if that was not needed yet.
 pub record AreAssembled (p : Problem) (warriors : List (Option WarriorView)) : Type 0 where

@@ -59,7 +59,7 @@ pub record IsWrongRow (p : Problem) (c : Cert) (number : ℕ) (reason : Reason) 
   pub wrong : row_reason p c None vector row ≡ Some reason
 
 -- What each reason says of the certificate, at the record that a rejection names.
-abbrev pub IsRejected : Problem → Cert → ℕ → Reason → Type 0
+abbrev pub IsRejected : Problem → Cert → (number : ℕ) → Reason → Type 0
 IsRejected p c number Malformed = ⊥
 IsRejected p c number Version = (number ≡ 0) × (IsVersionOf p c.version → ⊥)
 IsRejected p c number RowCount = (number ≡ 0) × (HasRowCount p c → ⊥)
@@ -75,7 +75,7 @@ IsVerdict p records (Rejected number reason) =
 
 -- The row r of setting u is checked before the row of setting v: all refused and cap rows are
 -- checked first, in order, and then the rows that refer to others.
-abbrev pub IsCheckedBefore : ℕ → Row → ℕ → Row → Type 0
+abbrev pub IsCheckedBefore : (u : ℕ) → Row → (v : ℕ) → Row → Type 0
 IsCheckedBefore u (Same s) v (Same t) = u < v
 IsCheckedBefore u (Same s) v Refused = ⊥
 IsCheckedBefore u (Same s) v (Cap row) = ⊥
@@ -95,7 +95,7 @@ pub record IsFirstRow (p : Problem) (c : Cert) (number : ℕ) : Type 0 where
   pub before : (u : ℕ) (r : Row) → slice_get c.rows u ≡ Some r → IsCheckedBefore u r vector row → row_reason p c None u r ≡ None
 
 -- Everything that is checked before the reason is right. A certificate has no malformed record.
-abbrev pub IsFirstOfCert : Problem → Cert → ℕ → Reason → Type 0
+abbrev pub IsFirstOfCert : Problem → Cert → (number : ℕ) → Reason → Type 0
 IsFirstOfCert p c number Malformed = ⊥
 IsFirstOfCert p c number Version = Unit {0}
 IsFirstOfCert p c number RowCount = IsVersionOf p c.version

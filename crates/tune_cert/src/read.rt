@@ -1,11 +1,12 @@
 //! Reads certificates.
-ghost use Rattle.std.specs.Prelude.{◌≡◌, ℕ, ◌∷◌, ◌==◌, ◌≤◌, ◌<◌, ◌^◌, [], false, length, drop, IfOk, OnOk, IfSome, MatchOption};
-ghost use Rattle.std.specs.List.{slice_split, position};
+ghost use Rattle.std.specs.Prelude.{◌≡◌, ℕ, ◌==◌, ◌≤◌, ◌<◌, ◌^◌, false, length, drop, IfOk, OnOk, IfSome};
+ghost use Rattle.std.specs.List.{position};
 ghost use Rattle.std.specs.Option.{option_map};
 ghost use Rattle.csv.specs.Records.{fields_of};
 ghost use Rattle.rc_instr.specs.Results.{with_fault};
 ghost use Rattle.tables.specs.Records.{records_of};
 ghost use Rattle.tune_cert.specs.Spelling.{decimal_of, version_of, points_of, item_of, listing_of, count_of, best_of, none_of, answer_of, row_by, row_of, record_of, first_as, rows_from, statement_of, cert_by, cert_of_records, Returns};
+ghost use Rattle.tune_cert.specs.Steps.{AreParts};
 ghost use Rattle.tune_cert.specs.declared.fault.ReadFault.TheVariants.{Malformed};
 
 use crate::fault::ReadFault;
@@ -286,8 +287,7 @@ fn number_of(text: &[u8]) -> Option<u32>
 
 // Cuts at the first `byte`: returns what is before it, and what is after it if it is there.
 fn cut(byte: u8, bytes: &[u8]) -> (&[u8], Option<&[u8]>)
-    ensures parts { let split = slice_split (λ b. b == byte) in
-        MatchOption result.1 (split bytes.now ≡ result.0.now ∷ []) (λ rest. split bytes.now ≡ result.0.now ∷ split rest.now) }
+    ensures parts { AreParts byte bytes.now result.0.now result.1 }
     ensures shorter { IfSome result.1 (λ rest. length rest.now < length bytes.now) }
 {
     match index_of(byte, bytes) {

@@ -3,7 +3,7 @@
 ghost use Rattle.std.specs.Prelude.{◌≡◌, ◌≤◌, length, IfOk, IsTrue};
 ghost use Rattle.mars_core.specs.Arena.{IsBlank};
 ghost use Rattle.tune_problem.specs.Problem.{problem_of};
-ghost use Rattle.tune_cert.specs.Checks.{wrong_alone, wrong_same, rows_failure, settings_between, listed_fights_of, PlaysAtMost};
+ghost use Rattle.tune_cert.specs.Checks.{refers, wrong_alone, wrong_same, rows_failure, settings_between, listed_fights_of, PlaysAtMost};
 ghost use Rattle.tune_cert.specs.Steps.{for_claim, claim_settings};
 
 use crate::claim::Claim;
@@ -11,12 +11,12 @@ use crate::fault::CheckFault;
 use crate::read::record_of;
 use crate::row_checks::{check_alone, check_same};
 use crate::share::Share;
-use crate::telling::{before_rows, refers, tell_row};
+use crate::telling::{before_rows, tell_row};
 use crate::verdict::Reason;
 use crate::warriors::no_warriors;
 use mars_core::{Arena, PackedCells};
 use std::alloc::Global;
-use tune_problem::{Best, Standing, Watcher};
+use tune_problem::{Best, Row, Standing, Watcher};
 
 // Checks the rows of a share, in an arena of their own. Returns the first wrong row.
 pub(crate) fn check_claim<T: Watcher>(
@@ -149,4 +149,14 @@ fn check_rows_same<T: Watcher>(
         }
     }
     Ok(None)
+}
+
+// Returns whether a row refers to another setting. Such rows are checked, and told, last.
+fn refers(row: &Row) -> bool
+    ensures { result ≡ refers row.now }
+{
+    match row {
+        Row::Same(_) => true,
+        _ => false,
+    }
 }

@@ -1,7 +1,6 @@
 //! What the checker tells a watcher.
 ghost use Rattle.std.specs.Prelude.{◌≡◌, ◌+◌, ◌%◌, ◌^◌};
 ghost use Rattle.tune_problem.specs.Valid.{listed_in};
-ghost use Rattle.tune_cert.specs.Checks.{refers};
 
 use tune_problem::{Best, Row, Standing, Watcher};
 
@@ -15,16 +14,6 @@ pub(crate) fn before_rows(best: Option<Best>, count: u32) -> Standing
         count,
         fights: 0,
         best,
-    }
-}
-
-// Returns whether a row refers to another setting. Such rows are checked, and told, last.
-pub(crate) fn refers(row: &Row) -> bool
-    ensures { result ≡ refers row.now }
-{
-    match row {
-        Row::Same(_) => true,
-        _ => false,
     }
 }
 

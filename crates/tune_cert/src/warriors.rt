@@ -46,7 +46,7 @@ pub(crate) fn share_warrior(
 }
 
 // Makes the warrior of setting `vector`, unless `warriors` has it already.
-pub(crate) fn assemble_once(
+fn assemble_once(
     alloc: Global,
     inputs: &Inputs,
     warriors: &mut Vec<Option<Warrior>>,
