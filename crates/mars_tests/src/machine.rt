@@ -1,11 +1,11 @@
-//! Tests of `mars_core`: fights worked out by hand from the 1994 draft, each on plain and on packed
-//! cells, and arenas that are reset.
+//! Tests of `mars_core`: arenas that are reset, on plain and on packed cells; and what other tests
+//! play fights with.
 ghost use Rattle.std.specs.Prelude.{◌≡◌, ◌≤◌, ◌<◌, ◌+◌, IfOk};
 ghost use Rattle.rc_instr.specs.Rules.{rules_view};
 ghost use Rattle.rc_instr.specs.Warrior.{Fits};
 ghost use Rattle.mars_core.specs.Arena.{IsBlank};
 
-use crate::warriors::{DAT, IMP};
+use crate::warriors::IMP;
 use mars_core::laws::a_reset_sets_few_cells;
 use mars_core::{Arena, Cells, Outcome, PackedCells, PlainCells, Side};
 use rc_instr::{Rules, RulesError, Warrior, read_loadfile};
@@ -27,8 +27,8 @@ pub(crate) struct Played {
     pub(crate) reset: u32,
 }
 
-// Loads two warriors, plays, and resets the arena.
-fn play<C: Cells>(
+// Loads two warriors, the opponent at address 8, runs a fight, and resets the arena.
+fn play_and_reset<C: Cells>(
     arena: &mut Arena<C>,
     candidate: &Warrior,
     opponent: &Warrior,
@@ -49,8 +49,8 @@ fn play<C: Cells>(
     }
 }
 
-// Plays a fight on plain and then on packed cells, in a core of 16 cells.
-pub(crate) fn plays(
+// Plays a fight on plain and then on packed cells, each in an arena of 16 cells of its own.
+pub(crate) fn play_on_both(
     rt: &HostRuntime,
     candidate: &[u8],
     opponent: &[u8],
@@ -64,122 +64,10 @@ pub(crate) fn plays(
     let mut plain = Arena::<PlainCells>::try_new(rt.alloc(), &rules)?;
     let mut packed = Arena::<PackedCells>::try_new(rt.alloc(), &rules)?;
     Ok((
-        play(&mut plain, &candidate, &opponent, first),
-        play(&mut packed, &candidate, &opponent, first),
+        play_and_reset(&mut plain, &candidate, &opponent, first),
+        play_and_reset(&mut packed, &candidate, &opponent, first),
     ))
 }
-
-const DIVIDES: &[u8] = b"ORG 0\nDIV.F #0, $2\nDAT.F $0, $0\nDAT.F #6, #6\n";
-
-const SPLITS: &[u8] = b"ORG 0\nSPL.B $0, $0\n";
-
-const WAITS: &[u8] = b"ORG 0\nJMP.B $0, $0\n";
-
-// A fight in a core of 16 cells; `memory` plays them. `played` is what it leaves on packed cells,
-// where a reset sets the cells that were written.
-pub(crate) struct Duel {
-    pub(crate) name: &'static str,
-    pub(crate) candidate: &'static [u8],
-    pub(crate) opponent: &'static [u8],
-    pub(crate) cycles: u32,
-    pub(crate) tasks: u32,
-    pub(crate) first: Side,
-    pub(crate) played: Played,
-}
-
-pub(crate) const DUELS: [Duel; 7] = [
-    Duel {
-        name: "two imps tie",
-        candidate: IMP,
-        opponent: IMP,
-        cycles: 20,
-        tasks: 4,
-        first: Side::Candidate,
-        played: Played {
-            points: 1,
-            turns: 40,
-            reset: 16,
-        },
-    },
-    Duel {
-        name: "a candidate that dies loses in the first turn",
-        candidate: DAT,
-        opponent: IMP,
-        cycles: 20,
-        tasks: 4,
-        first: Side::Candidate,
-        played: Played {
-            points: 0,
-            turns: 1,
-            reset: 2,
-        },
-    },
-    Duel {
-        name: "an opponent that moves second dies in the second turn",
-        candidate: IMP,
-        opponent: DAT,
-        cycles: 1,
-        tasks: 4,
-        first: Side::Candidate,
-        played: Played {
-            points: 3,
-            turns: 2,
-            reset: 3,
-        },
-    },
-    Duel {
-        name: "an opponent that moves first dies in the first turn",
-        candidate: IMP,
-        opponent: DAT,
-        cycles: 1,
-        tasks: 4,
-        first: Side::Opponent,
-        played: Played {
-            points: 3,
-            turns: 1,
-            reset: 2,
-        },
-    },
-    Duel {
-        name: "an imp and a jump to itself tie",
-        candidate: IMP,
-        opponent: WAITS,
-        cycles: 20,
-        tasks: 4,
-        first: Side::Candidate,
-        played: Played {
-            points: 1,
-            turns: 40,
-            reset: 16,
-        },
-    },
-    Duel {
-        name: "a division by 0 ends the task",
-        candidate: DIVIDES,
-        opponent: IMP,
-        cycles: 20,
-        tasks: 4,
-        first: Side::Candidate,
-        played: Played {
-            points: 0,
-            turns: 1,
-            reset: 4,
-        },
-    },
-    Duel {
-        name: "with one task allowed SPL adds none",
-        candidate: SPLITS,
-        opponent: IMP,
-        cycles: 20,
-        tasks: 1,
-        first: Side::Candidate,
-        played: Played {
-            points: 0,
-            turns: 3,
-            reset: 3,
-        },
-    },
-];
 
 // How many turns a step made, and how many cells a reset set after a fight and after that step.
 #[derive(Clone, Copy, Debug, PartialEq, Eq)]
@@ -197,7 +85,7 @@ fn reset_twice<C: Cells>(arena: &mut Arena<C>, imp: &Warrior, copier: &Warrior) 
     requires copier { Fits arena.old.rules copier.now }
     requires eight { (arena.old.rules.distance ≤ 8) × (8 + arena.old.rules.distance ≤ arena.old.rules.core) }
 {
-    let played = play(arena, imp, imp, Side::Candidate);
+    let played = play_and_reset(arena, imp, imp, Side::Candidate);
     arena.load(copier, imp, 8);
     arena.step(Side::Candidate);
     Resets {

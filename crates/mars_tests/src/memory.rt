@@ -4,17 +4,130 @@
 //! `make test` also runs each of these tests with its first, second and so on request for memory
 //! refused (gate/refuse/growth.py). It then ends with the same results, or with the error
 //! `OutOfMemory` of the call itself, in no other variant.
-use crate::machine::{DUELS, Played, plays};
+use crate::machine::{Played, play_on_both};
+use crate::warriors::{DAT, IMP};
+use mars_core::Side;
 use mars_fight::{Schedule, ScheduleFaultKind};
 use rc_instr::Rules;
 use std::alloc::Global;
 use std::test::Fail;
 
-// Each fight is played on plain and on packed cells, in an arena of its own.
+const DIVIDES: &[u8] = b"ORG 0\nDIV.F #0, $2\nDAT.F $0, $0\nDAT.F #6, #6\n";
+
+const SPLITS: &[u8] = b"ORG 0\nSPL.B $0, $0\n";
+
+const WAITS: &[u8] = b"ORG 0\nJMP.B $0, $0\n";
+
+// A fight worked out by hand from the 1994 draft. `played` is what it leaves on packed cells, where
+// a reset sets the cells that were written; on plain cells it sets all 16.
+struct Duel {
+    name: &'static str,
+    candidate: &'static [u8],
+    opponent: &'static [u8],
+    cycles: u32,
+    tasks: u32,
+    first: Side,
+    played: Played,
+}
+
+const DUELS: [Duel; 7] = [
+    Duel {
+        name: "two imps tie",
+        candidate: IMP,
+        opponent: IMP,
+        cycles: 20,
+        tasks: 4,
+        first: Side::Candidate,
+        played: Played {
+            points: 1,
+            turns: 40,
+            reset: 16,
+        },
+    },
+    Duel {
+        name: "a candidate that dies loses in the first turn",
+        candidate: DAT,
+        opponent: IMP,
+        cycles: 20,
+        tasks: 4,
+        first: Side::Candidate,
+        played: Played {
+            points: 0,
+            turns: 1,
+            reset: 2,
+        },
+    },
+    Duel {
+        name: "an opponent that moves second dies in the second turn",
+        candidate: IMP,
+        opponent: DAT,
+        cycles: 1,
+        tasks: 4,
+        first: Side::Candidate,
+        played: Played {
+            points: 3,
+            turns: 2,
+            reset: 3,
+        },
+    },
+    Duel {
+        name: "an opponent that moves first dies in the first turn",
+        candidate: IMP,
+        opponent: DAT,
+        cycles: 1,
+        tasks: 4,
+        first: Side::Opponent,
+        played: Played {
+            points: 3,
+            turns: 1,
+            reset: 2,
+        },
+    },
+    Duel {
+        name: "an imp and a jump to itself tie",
+        candidate: IMP,
+        opponent: WAITS,
+        cycles: 20,
+        tasks: 4,
+        first: Side::Candidate,
+        played: Played {
+            points: 1,
+            turns: 40,
+            reset: 16,
+        },
+    },
+    Duel {
+        name: "a division by 0 ends the task",
+        candidate: DIVIDES,
+        opponent: IMP,
+        cycles: 20,
+        tasks: 4,
+        first: Side::Candidate,
+        played: Played {
+            points: 0,
+            turns: 1,
+            reset: 4,
+        },
+    },
+    Duel {
+        name: "with one task allowed SPL adds none",
+        candidate: SPLITS,
+        opponent: IMP,
+        cycles: 20,
+        tasks: 1,
+        first: Side::Candidate,
+        played: Played {
+            points: 0,
+            turns: 3,
+            reset: 3,
+        },
+    },
+];
+
 #[test]
 fn fights_end_as_worked_out(rt: HostRuntime) -> Result<(), Fail> {
     for duel in &DUELS {
-        let (plain, packed) = plays(
+        let (plain, packed) = play_on_both(
             &rt,
             duel.candidate,
             duel.opponent,

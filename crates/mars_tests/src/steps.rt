@@ -11,7 +11,7 @@ use rc_instr::{Instruction, Warrior, read_loadfile};
 use std::test::Fail;
 
 // Reads the first instruction of a load file.
-fn instruction(rt: &HostRuntime, core: u32, text: &[u8]) -> Result<Instruction, Fail> {
+fn first_instruction(rt: &HostRuntime, core: u32, text: &[u8]) -> Result<Instruction, Fail> {
     let rules = rules_of(core, 20, 4)?;
     let warrior = read_loadfile(rt.alloc(), text, &rules)?;
     Ok(warrior.code()[0])
@@ -27,7 +27,7 @@ struct Step {
 
 // Loads two warriors, makes one step of the candidate, and resets the arena. Returns what the step
 // left, with the cell at `at`.
-fn one_step<C: Cells>(
+fn step_and_reset<C: Cells>(
     arena: &mut Arena<C>,
     candidate: &Warrior,
     opponent: &Warrior,
@@ -56,7 +56,7 @@ fn one_step<C: Cells>(
 
 // Makes one step of the candidate, on plain and then on packed cells. The opponent is an empty cell
 // at 8.
-fn steps(rt: &HostRuntime, core: u32, code: &[u8], at: u32) -> Result<(Step, Step), Fail>
+fn step_on_both(rt: &HostRuntime, core: u32, code: &[u8], at: u32) -> Result<(Step, Step), Fail>
     requires core { 16 ≤ core }
     requires at { at < core }
 {
@@ -66,8 +66,8 @@ fn steps(rt: &HostRuntime, core: u32, code: &[u8], at: u32) -> Result<(Step, Ste
     let mut plain = Arena::<PlainCells>::try_new(rt.alloc(), &rules)?;
     let mut packed = Arena::<PackedCells>::try_new(rt.alloc(), &rules)?;
     Ok((
-        one_step(&mut plain, &candidate, &opponent, at),
-        one_step(&mut packed, &candidate, &opponent, at),
+        step_and_reset(&mut plain, &candidate, &opponent, at),
+        step_and_reset(&mut packed, &candidate, &opponent, at),
     ))
 }
 
@@ -187,8 +187,8 @@ fn one_step_changes_a_cell(rt: HostRuntime) -> Result<(), Fail> {
         if case.at >= 16 {
             return Err(Fail::from("no such cell"));
         }
-        let (plain, packed) = steps(&rt, 16, case.code, case.at)?;
-        let cell = instruction(&rt, 16, case.cell)?;
+        let (plain, packed) = step_on_both(&rt, 16, case.code, case.at)?;
+        let cell = first_instruction(&rt, 16, case.cell)?;
         let want = (cell, case.task);
         assert_eq!(rt; (plain.cell, plain.task), want, "{}", case.name);
         assert_eq!(rt; (packed.cell, packed.task), want, "{}", case.name);
@@ -196,8 +196,8 @@ fn one_step_changes_a_cell(rt: HostRuntime) -> Result<(), Fail> {
     }
     // the greatest product: 65534 * 65534 is 1 modulo 65535
     let code = b"ORG 0\nMUL.AB #-1, $1\nDAT.F $0, $-1\n";
-    let (plain, packed) = steps(&rt, 65535, code, 1)?;
-    let one = instruction(&rt, 65535, b"ORG 0\nDAT.F $0, $1\n")?;
+    let (plain, packed) = step_on_both(&rt, 65535, code, 1)?;
+    let one = first_instruction(&rt, 65535, b"ORG 0\nDAT.F $0, $1\n")?;
     assert_eq!(rt; (plain.cell, packed.cell), (one, one));
     Ok(())
 }
@@ -270,7 +270,7 @@ const QUEUED: [Queued; 11] = [
 #[test]
 fn one_step_queues_an_address(rt: HostRuntime) -> Result<(), Fail> {
     for case in &QUEUED {
-        let (plain, packed) = steps(&rt, 16, case.code, 0)?;
+        let (plain, packed) = step_on_both(&rt, 16, case.code, 0)?;
         assert_eq!(rt;
             [plain.task, packed.task],
             [Some(case.task), Some(case.task)],
