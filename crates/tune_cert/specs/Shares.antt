@@ -1,7 +1,7 @@
 -- The part of the settings that a share looks at, and certificates that are valid in a share.
 use Rattle.std.specs.Prelude.{◌≡◌, ◌≢◌, ℕ, ◌<◌, ◌≤◌, true, List, length, slice_get, Some}
 use Rattle.rc_instr.specs.Warrior.{WarriorView}
-use Rattle.tune_problem.specs.Parts.{part, part_first, part_end}
+use Rattle.tune_problem.specs.Parts.{part, part_first, part_end, ForEach}
 use Rattle.tune_problem.specs.Problem.{Problem}
 use Rattle.tune_problem.specs.Optimum.{all_fights}
 use Rattle.tune_problem.specs.Valid.{listed_indices, listed_total, IsVersionOf, IsRightRow, IsNoBetter}
@@ -19,7 +19,7 @@ share_part share = part share.number share.shares
 
 -- This holds of each share, if the rows are split into `shares`.
 abbrev pub InEachShare : (shares : ℕ) → (Part → Type 0) → Type 0
-InEachShare shares Holds = (number : ℕ) → 1 ≤ number → number ≤ shares → Holds (part number shares)
+InEachShare shares Holds = ForEach shares (λ number. Holds (part number shares))
 
 -- A refused or a cap row is right in a share if it is a right row of the certificate. A row of v
 -- that refers to u is right if u is another setting with the same warrior and has a cap row, whose

@@ -1,7 +1,7 @@
 -- Tunings of parts, and what they say of the whole.
 use Rattle.std.specs.Prelude.{◌≡◌, ℕ, ◌+◌, ◌<◌, ◌≤◌}
 use Rattle.tune_template.specs.Instances.{setting_count}
-use Rattle.tune_problem.specs.Parts.{part, part_first}
+use Rattle.tune_problem.specs.Parts.{part, part_first, ForEach}
 use Rattle.tune_problem.specs.Inputs.{InputsView, with_part}
 use Rattle.tune_problem.specs.Problem.{Problem, problem_of}
 use Rattle.tune_problem.specs.Optimum.{IsOptimum, HasTotal}
@@ -40,7 +40,7 @@ IsOutcome p (NoneFrom floor) = AllBelow p floor
 pub record AreTuned (i : InputsView) (parts : ℕ) (outcome : ℕ → Answer) : Type 0 where
   pub some : 1 ≤ parts
   pub few : parts ≤ setting_count i.template
-  pub right : (number : ℕ) → 1 ≤ number → number ≤ parts → IsOutcome (problem_of (in_part i number parts)) (outcome number)
+  pub right : ForEach parts (λ n. IsOutcome (problem_of (in_part i n parts)) (outcome n))
 
 -- With this outcome no candidate reaches the floor.
 abbrev pub StaysBelow : ℕ → Answer → Type 0
@@ -49,7 +49,7 @@ StaysBelow floor (NoneFrom other) = other ≤ floor
 
 -- No part has a candidate that reaches the floor.
 abbrev pub AllStayBelow : ℕ → ℕ → (ℕ → Answer) → Type 0
-AllStayBelow floor parts outcome = (number : ℕ) → 1 ≤ number → number ≤ parts → StaysBelow floor (outcome number)
+AllStayBelow floor parts outcome = ForEach parts (λ n. StaysBelow floor (outcome n))
 
 -- The first of the parts with the greatest total: the parts before it stay below this total, and
 -- the parts after it have no greater one.

@@ -16,6 +16,10 @@ pub record IsPart (p : Part) (count : ℕ) : Type 0 where
   pub within : p.number ≤ p.parts
   pub few : p.parts ≤ count
 
+-- P holds of each number from 1 to `count`.
+abbrev pub ForEach : (count : ℕ) → (ℕ → Type 0) → Type 0
+ForEach count P = (n : ℕ) → 1 ≤ n → n ≤ count → P n
+
 -- Part I of K of N settings begins with setting (I - 1) * N / K, by whole division.
 abbrev pub part_first : Part → ℕ → ℕ
 part_first p count = (p.number - 1) * count / p.parts

@@ -4,7 +4,7 @@ use Rattle.tables.specs.Records.{Fields, records_of}
 use Rattle.tune_problem.specs.Below.{AllBelow}
 use Rattle.tune_problem.specs.BestPart.{in_whole, IsBest, AllStayBelow, IsBestPart}
 use Rattle.tune_problem.specs.Inputs.{InputsView}
-use Rattle.tune_problem.specs.Parts.{part}
+use Rattle.tune_problem.specs.Parts.{part, ForEach}
 use Rattle.tune_problem.specs.Problem.{problem_of}
 use Rattle.tune_problem.specs.Valid.{cert_of}
 use Rattle.tune_problem.specs.declared.cert.Found.{Found}
@@ -89,10 +89,6 @@ pub record NamesAnswer (t : Texts) (demand : Demand) (bytes : List ℕ) (out : W
   pub lines : Gets out (codes "accepted" ++ answer_text answer ++ rest)
 
 -- ---- parts
-
--- P holds of each number from 1 to `count`.
-abbrev pub ForEach : (count : ℕ) → (ℕ → Type 0) → Type 0
-ForEach count P = (n : ℕ) → 1 ≤ n → n ≤ count → P n
 
 -- For each part, a check accepts these bytes with its outcome, or the part has no candidate.
 abbrev pub AreShown : Texts → (parts : ℕ) → (cert : ℕ → List ℕ) → (outcome : ℕ → Answer) → Type 0

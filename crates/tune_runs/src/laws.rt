@@ -2,6 +2,7 @@
 //! what is proved.
 ghost use Rattle.std.specs.Prelude.{◌≡◌, ◌≤◌, ◌⊎◌, ℕ, Bool, List, None, true, Err, IsTrue};
 ghost use Rattle.tune_problem.specs.Inputs.{InputsView};
+ghost use Rattle.tune_problem.specs.Parts.{ForEach};
 ghost use Rattle.tune_problem.specs.Problem.{problem_of};
 ghost use Rattle.tune_problem.specs.Ranking.{best_alone};
 ghost use Rattle.tune_problem.specs.Valid.{cert_of};
@@ -12,7 +13,7 @@ ghost use Rattle.tune_cert.specs.Verdict.{IsRightVerdict};
 ghost use Rattle.tune_runs.specs.TuneRun.{Texts, of_part, meaning_of, is_text_fault, Means, HasNoCandidate, WritesTuning, WritesTuningFrom};
 ghost use Rattle.tune_runs.specs.Runs.{Writer, Gets};
 ghost use Rattle.tune_runs.specs.CheckRun.{Accepts, verdict_line};
-ghost use Rattle.tune_runs.specs.Agreement.{filled, TuningBytes, GivesBytes, MayFind, written, Checks, ChecksCert, IsRightLine, Agree, ChecksFor, NamesAnswer, ForEach, IsBestShown, IsBestOfAll, AreShownBelow, AreAllBelow, ChecksShare, AllAccept, AllName, AcceptsAsWhole};
+ghost use Rattle.tune_runs.specs.Agreement.{filled, TuningBytes, GivesBytes, MayFind, written, Checks, ChecksCert, IsRightLine, Agree, ChecksFor, NamesAnswer, IsBestShown, IsBestOfAll, AreShownBelow, AreAllBelow, ChecksShare, AllAccept, AllName, AcceptsAsWhole};
 ghost use Rattle.tune_runs.specs.AimedRuns.{Asked, IsAsked, TunesAsked, ChecksAsked, AgreeAsked};
 
 use crate::fault::RunFault;
