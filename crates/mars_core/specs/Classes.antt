@@ -114,8 +114,8 @@ class_of i = class_of_key (key_of i)
 abbrev pub modes_class_of : Instruction → ℕ
 modes_class_of i = first_of_modes + mode_number i.a_mode + 8 * mode_number i.b_mode
 
--- What a class says of an instruction is true. One below `first_of_modes` is the instruction's own;
--- one of the others gives its modes, and need not be its own.
+-- What a class says of an instruction is true. One below `first_of_modes` is that of `class_of`;
+-- any other is that of the instruction's modes, even if the instruction is a frequent one.
 pub record IsClassOf (i : Instruction) (class : ℕ) : Type 0 where
   pub own : class < first_of_modes → class ≡ class_of i
   pub modes : first_of_modes ≤ class → class ≡ modes_class_of i

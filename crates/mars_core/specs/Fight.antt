@@ -25,8 +25,8 @@ points_in s = if length s.opponent == 0 then 3 else if length s.candidate == 0 t
 unfoldable pub turns_of : ℕ → State → Side → ℕ → ℕ
 turns_of limit start first cycles = least (λ k. is_over (play_of limit start first k)) (2 * cycles)
 
--- The number of turns within the cycles, from a core and the queues of the side that moves first,
--- `mine`, and of the other one, whichever these sides are. Both queues have the same capacity.
+-- The number of turns within the cycles, of a fight in which the side with the queue `mine` moves
+-- first, whichever side that is. Both queues have the same capacity.
 abbrev pub AreTurns : List Instruction → (mine theirs : Queue) → (cycles turns : ℕ) → Type 0
 AreTurns core mine theirs cycles turns = (first : Side) → turns ≡ turns_of mine.capacity (seen_from first core mine.items theirs.items) first cycles
 

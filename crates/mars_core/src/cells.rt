@@ -13,7 +13,8 @@ use rc_instr::{Instruction, OutOfMemory};
 use std::alloc::Global;
 use std::mem;
 
-/// Keeps the cells of a core, marks those that it takes to empty it again, and counts these.
+/// Keeps the cells of a core, marks those that have to be set to empty it again, and counts the
+/// marks.
 ///
 /// Contracts see a list of instructions, a list that says of each cell whether it is marked, and a
 /// number, the marks. Addresses count from 0.
@@ -80,7 +81,7 @@ pub trait Cells {
     /// Moves the store out. Nothing is promised of what is left, which only `put_back` makes whole.
     ///
     /// A loop keeps the store in a variable of its own meanwhile, so that the compiler holds the
-    /// addresses of the cells in registers.
+    /// pointers to the cells in registers.
     fn take(&mut self) -> Self
         ensures items { items result ≡ items self.old }
         ensures marked { marked result ≡ marked self.old }

@@ -33,7 +33,7 @@ pub(crate) enum Queued {
     Split,
 }
 
-// Runs an opcode on its evaluated operands, for the task at `pc`. Returns what the task queues.
+// Executes an opcode on its evaluated operands, for the task at `pc`. Returns what the task queues.
 #[tactic(auto, unfolding(crate::specs::Step::effect_of, crate::specs::Pairs::computed))]
 #[inline(always)]
 pub(crate) fn act<C: Cells>(
@@ -63,7 +63,7 @@ pub(crate) fn act<C: Cells>(
         Opcode::Jmp => Jump,
         Opcode::Jmz => choose(all_tested_are(modifier, 0, y), Jump, Next),
         Opcode::Jmn => choose(all_tested_are(modifier, 0, y), Next, Jump),
-        // `b` was copied before the numbers are lowered, so 1 is 0 afterwards.
+        // `b` is the copy from before: a number that is 1 in it is 0 in the cell now.
         Opcode::Djn => {
             apply_count_down(cells, size, modifier, b.address);
             choose(all_tested_are(modifier, 1, y), Next, Jump)

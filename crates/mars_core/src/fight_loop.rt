@@ -14,8 +14,8 @@ const STRETCH: u32 = 2000;
 // Alternates turns, `mine` first, until a queue is empty or `cycles` are over.
 // Returns the number of turns.
 //
-// Moves the cells to `take_turns`, which owns them: behind a reference, each write to a cell might
-// be one to their addresses, so the compiler would load these again.
+// Moves the cells to `take_turns`, which owns them. Through a reference the compiler has to assume
+// that a write to a cell changes the pointer to the cells, and would load it again.
 #[inline(never)]
 fn alternate<C: Cells>(
     cells: &mut C,

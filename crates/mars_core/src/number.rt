@@ -123,8 +123,8 @@ pub(crate) fn raised<N: Number, K: Cell>(size: u32, cell: K) -> K
     N::raise(cell, size)
 }
 
-// Adds modulo `size`. Both terms are below it, so one subtraction replaces the division. Tests its
-// sign, since the compiler makes a conditional move of that, but a branch of `z < size`.
+// Adds modulo `size`. Both terms are below it, so one subtraction replaces the division. Tests the
+// sign of the difference, which compiles to a conditional move, while `z < size` makes a branch.
 #[tactic(auto, unfolding(crate::specs::Numbers::sum_of))]
 #[inline]
 pub(crate) fn sum(size: u32, x: u32, y: u32) -> u32

@@ -21,8 +21,8 @@ pub(crate) struct Evaluated<K> {
 // Both operands of an instruction.
 pub(crate) type Operands<K> = (Evaluated<K>, Evaluated<K>);
 
-// Evaluates an operand of the task at `pc`. Lowers the number that it goes through before its use
-// with a predecrement mode, and raises it after the copy is taken with a postincrement mode.
+// Evaluates an operand of the task at `pc`. A predecrement mode lowers the number that it goes
+// through before it is used; a postincrement mode raises it after the copy is taken.
 #[tactic(auto, using(crate::proofs::Sums::sums), unfolding(crate::specs::Operand::operand_of))]
 #[inline(always)]
 pub(crate) fn evaluate<C: Cells>(

@@ -9,8 +9,8 @@ use rc_instr::OutOfMemory;
 use std::alloc::Global;
 use std::marker::Model;
 
-// The most tasks of a side in a state that is kept. A warrior with more seldom comes back, and its
-// queue takes long to compare.
+// The most tasks of a side in a state that is kept. With more tasks a state seldom comes back, and
+// the queue takes long to compare.
 const FEW: usize = 8;
 
 // The state of a fight after some of its cycles.
@@ -65,8 +65,8 @@ impl<C: Cells> Snapshot<C> {
         self.due = 0;
     }
 
-    // Returns how many cycles ago the state was the same, if it is the one that was taken. Each
-    // cell has to be kept as it was, so a mark that is new hides a return for one period.
+    // If the state is the one that was taken, returns how many cycles ago that was. Each cell has
+    // to be kept as it was, so a mark that is new hides a return for one period.
     pub(crate) fn period(
         &mut self,
         cells: &C,
@@ -93,8 +93,8 @@ impl<C: Cells> Snapshot<C> {
     }
 
     // Takes the state after `cycles` cycles, in place of the one taken before, if that is due and
-    // both sides have few tasks. Each is kept until four times its cycles were made, so a period of
-    // any length is found; with four times and not twice there are fewer states to copy.
+    // both sides have few tasks. A state taken after n cycles is kept up to cycle 4n, so that
+    // longer and longer periods are found; up to 2n would mean more states to copy.
     pub(crate) fn renew(&mut self, cells: &C, mine: &C::Queue, theirs: &C::Queue, cycles: u32)
         requires size { length (C.items cells.now) ≡ length self.old.core }
         requires cycles { cycles ≤ 1000000 }

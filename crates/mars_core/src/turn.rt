@@ -44,8 +44,8 @@ pub(crate) fn take_turn<C: Cells>(cells: &mut C, tasks: &mut C::Queue, size: u32
 // Takes one turn of a side whose first task is `pc`. Returns the task that is first afterwards, so
 // that a loop need not read it from the queue.
 //
-// Each call has a `PLACE` of its own, which makes copies of the large functions below with one call
-// each: only then does the compiler inline them (docs/HOT_LOOP.md).
+// Each call has a `PLACE` of its own, so that each has its own copies of the large functions below,
+// with one caller: only then does the compiler inline them (docs/HOT_LOOP.md).
 #[tactic(auto, using(crate::proofs::Queues::queues), unfolding(crate::specs::State::core_after, crate::specs::State::tasks_after))]
 #[inline(always)]
 pub(crate) fn next_turn<C: Cells, const PLACE: u64>(

@@ -1,4 +1,4 @@
--- The form of a line of code: an opcode, a modifier after a dot, and operands parted by a comma
+-- The form of a line of code: an opcode, a modifier after a dot, and operands separated by a comma
 -- (1994 draft).
 use Rattle.std.specs.Prelude.{ℕ, List, [], ◌∷◌, Option, Some, None, if◌then◌else◌, Result, Err}
 use Rattle.std.specs.Option.{ok_or}

@@ -23,7 +23,7 @@ use std::alloc::Global;
 ///
 /// The text is expanded first (`rc_expand::expand`). Then each line of code is an instruction: an
 /// opcode, a modifier after a dot or the default one (`rc_instr::default_modifier`), and operands
-/// parted by a comma. DAT and NOP may have no operand; a single operand is the B-operand of DAT,
+/// separated by a comma. DAT and NOP may have no operand; a single operand is the B-operand of DAT,
 /// and the A-operand of JMP, SPL and NOP; a missing operand is `$0`. An operand is a mode (`$` if
 /// none is written) and an expression, whose value modulo the core size is the number.
 ///
@@ -36,7 +36,7 @@ use std::alloc::Global;
 ///
 /// # Errors
 ///
-/// Passes run in this order, and each reports its first line:
+/// The first of these that applies; among lines, that of the first line:
 ///
 /// - `TextTooLong`, at line 0: more than 65536 bytes.
 /// - `Expand`: the text has no expansion.
@@ -66,8 +66,8 @@ pub fn assemble(
     }
 }
 
-// Assembles the expanded lines. A line that is malformed has no value, so their forms are checked
-// only if that fails: the form of a line is parsed once.
+// Assembles the expanded lines. A malformed line has no value. So forms are checked only after a
+// fault, and each line of a good text is parsed once.
 fn assemble_lines(
     alloc: Global,
     source: &[u8],

@@ -14,7 +14,7 @@ pub fn one_warrior()
     ensures { (source : List ℕ) (constants : Table) (rules : RulesView) (w v : WarriorView) → Assembles source constants rules w → Assembles source constants rules v → w ≡ v }
 {}
 
-/// A text assembles to exactly the warrior that the specification computes.
+/// A text assembles to exactly the warrior that `text_warrior` computes.
 pub fn assembly_is_computed()
     ensures { (source : List ℕ) (constants : Table) (rules : RulesView) (w : WarriorView) → Assembles source constants rules w ↔ (text_warrior source constants rules ≡ Some w) }
 {}

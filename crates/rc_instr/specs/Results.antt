@@ -1,5 +1,4 @@
--- How definitions go on from one result to the next; and what a call says that returns the result
--- of a definition.
+-- Results chained as by `?`; and `Returns`: a call returns what a definition gives.
 use Rattle.std.specs.Prelude.{◌≡◌, Bool, Result, Ok, Err, if◌then◌else◌}
 
 -- Changes the value and keeps the fault.

@@ -86,8 +86,7 @@ impl<X: Write> Outlet<X> {
         Ok(())
     }
 
-    /// Flushes the writer. After `Ok` it has passed on all that was written, as long as nothing
-    /// more is written.
+    /// Flushes the writer. After `Ok` it has passed on all that was written before this call.
     ///
     /// After `WriteFailed` it has failed for good, and what was written stays.
     pub fn finish(&mut self) -> Result<(), WriteFailed>

@@ -1,5 +1,5 @@
-//! Tests of `rc_expand` and `rc_asm`: texts, and their lines, load files or faults. What a run of
-//! `cwtune asm` shows of them is a case in `gate/cases/asm.toml`.
+//! Tests of `rc_expand`: texts, and their lines or faults; and what tests of `rc_asm` share, which
+//! are in `memory`. What a run of `cwtune asm` shows of both is a case in `gate/cases/asm.toml`.
 ghost use Rattle.rc_instr.specs.Warrior.{Fits};
 
 pub(crate) mod expansion;

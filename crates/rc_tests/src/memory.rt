@@ -1,5 +1,5 @@
-//! One test for each call that allocates: rows of results worked out by hand, and `OutOfMemory`
-//! passed on as the test's error.
+//! Tests of calls that allocate: rows of results worked out by hand, and `OutOfMemory` passed on as
+//! the test's error.
 //!
 //! `make test` also runs each of these tests with its first, second and so on request for memory
 //! refused (gate/refuse/growth.py). It then ends with the same results, or with the error

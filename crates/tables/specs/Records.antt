@@ -1,5 +1,5 @@
--- The records of a text of comma-separated values, as the crate `csv` reads them: parted by commas
--- and by LF, CR or CR LF, with double quotes.
+-- The records of a text of comma-separated values, as the crate `csv` reads them: separated by
+-- commas and by LF, CR or CR LF, with double quotes.
 use Rattle.std.specs.Prelude.{◌≡◌, ◌+◌, ℕ, List, [], length, Option, Some, None, true, false}
 use Rattle.csv.specs.Reading.{Ready, default_config, has_failed, is_flexible, reader_config, reader_trim, records, records_from, strip_bom}
 use Rattle.csv.specs.declared.parser.State.{State}
@@ -14,7 +14,8 @@ Fields = List (List ℕ)
 unfoldable pub records_of : List ℕ → List Fields
 records_of text = records default_config (strip_bom text)
 
--- The records that a reader has left: none if that is not known, which is only so after a failure.
+-- The records that a reader has left. After a failure the rest is not known: none. A record takes a
+-- byte or more, so one step more than there are bytes is enough.
 unfoldable pub records_left : State → Option (List ℕ) → List Fields
 records_left s None = []
 records_left s (Some text) = records_from default_config (length text + 1) s text

@@ -11,9 +11,9 @@ use std::marker::Model;
 
 /// The records of a text that are still to be read. Contracts see a list of lists of fields.
 ///
-/// The crate `csv` reads them: fields are parted by commas, records by LF, CR or CR LF, and a field
-/// may be in double quotes, in which two of them are one. Empty lines are skipped, and so is a byte
-/// order mark at the very front.
+/// The crate `csv` reads them: fields are separated by commas, records by LF, CR or CR LF, and a
+/// field may be in double quotes, in which two of them are one. Empty lines are skipped, and so is
+/// a byte order mark at the very front.
 #[derive(Drop)]
 pub struct Records<'a> {
     reader: Reader<&'a [u8]>,
@@ -51,8 +51,8 @@ impl<'a> Records<'a> {
 
     /// Reads the next record into `fields`. Returns `false` if there is none.
     ///
-    /// After `false` or `OutOfMemory` `fields` may hold anything, and no more records come. Nothing
-    /// else can fail: the bytes are at hand, and a record may have any number of fields.
+    /// If there is none, or memory runs out, `fields` is unspecified, and no more records come.
+    /// Nothing else can fail: the bytes are at hand, and a record may have any number of fields.
     pub fn read(&mut self, fields: &mut ByteRecord) -> Result<bool, OutOfMemory>
         ensures read { IfOk result (λ found. MatchBool found (self.old ≡ fields_of fields.new ∷ self.new) ((self.old ≡ []) × (self.new ≡ []))) }
         ensures refused { OnErr result (self.new ≡ []) }
@@ -73,7 +73,7 @@ impl<'a> Records<'a> {
         }
     }
 
-    // Does not ask the reader again.
+    // Marks the text as ended, so that the reader is not called again.
     fn end(&mut self)
         ensures { self.new ≡ [] }
     {

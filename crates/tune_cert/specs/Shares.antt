@@ -22,9 +22,10 @@ abbrev pub InEachShare : (shares : ℕ) → (Part → Type 0) → Type 0
 InEachShare shares Holds = ForEach shares (λ number. Holds (part number shares))
 
 -- A refused or a cap row is right in a share if it is a right row of the certificate. A row of v
--- that refers to u is right if u is another setting with the same warrior and has a cap row, whose
--- fights rise and exist, and the cap by the points listed there, as one of v, does not beat the
--- best setting.
+-- that refers to u is right if
+-- - u is another setting with the same warrior;
+-- - u has a cap row, whose fights rise and exist;
+-- - the cap by the points listed there, as one of v, does not beat the best setting.
 abbrev pub IsRightInShare : Problem → Cert → (v : ℕ) → Row → Type 0
 IsRightInShare p c v Refused = IsRightRow p c v Refused
 IsRightInShare p c v (Cap row) = IsRightRow p c v (Cap row)

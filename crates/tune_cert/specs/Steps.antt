@@ -16,8 +16,8 @@ use Rattle.tune_cert.specs.declared.share.Share.{Share}
 use Rattle.csv.specs.Writing.{default_writer, writer_setup, fields_written, has_written, text_written}
 use Rattle.csv.specs.declared.writer.Writer.{Writer}
 
--- A text is cut at its first byte of this kind: its parts between such bytes are `first`, and those
--- of `others`, which is None if it has no such byte.
+-- The text is cut at its first `byte`: its parts are `first`, and then the parts of `others`, which
+-- is None if there is no such byte.
 abbrev pub AreParts : (byte : ℕ) → (text first : List ℕ) → (others : Option (Bor (List ℕ))) → Type 0
 AreParts byte text first others =
     let parts = slice_split (λ (b : ℕ). b == byte) in

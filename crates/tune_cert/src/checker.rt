@@ -90,7 +90,7 @@ pub fn check_share<T: Watcher>(
 /// that is checked before it. All shares accept a certificate exactly if the whole does, each with
 /// the same answer and ranking.
 ///
-/// Without a demand this is `check_share`. Reserves no more than that and the ranking.
+/// Without a demand this is `check_share`. Takes no more memory than `check_share` and the ranking.
 ///
 /// # Errors
 ///

@@ -24,7 +24,7 @@ pub enum Reason {
     /// reach, or some fights are not listed and the cap contends for a place in the ranking.
     CapTooHigh,
     /// A row refers to itself, to a setting that does not exist, to a row that is not a cap row of
-    /// rising fights that exist, or to a setting with another warrior.
+    /// rising fights that exist; or the two settings do not assemble to equal warriors.
     NotSame,
     /// The row says refused, but the setting assembles.
     NotRefused,

@@ -30,8 +30,9 @@ in_whole i number parts best = record { vector = first_setting i number parts + 
 abbrev pub IsBest : Problem → Best → Type 0
 IsBest p best = IsOptimum p best.vector × HasTotal p best.vector best.total
 
--- How a tuning ends: this setting is the best, or no candidate reaches the floor. Without a
--- candidate it ends with `NoneFrom 0`, since every candidate reaches the floor 0.
+-- What is known of a part that was tuned: this setting is the best, or no candidate reaches the
+-- floor. A part without a candidate counts as `NoneFrom 0`, since every candidate reaches the floor
+-- 0.
 abbrev pub IsOutcome : Problem → Answer → Type 0
 IsOutcome p (TheBest best) = IsBest p best
 IsOutcome p (NoneFrom floor) = AllBelow p floor

@@ -36,7 +36,7 @@ pub record AreInputs (i : InputsView) : Type 0 where
 unfoldable pub settings_of : InputsView → List (List ℤ)
 settings_of i = part_of i.part (vectors_of i.template.ranges.spans)
 
--- v - first, or 0 unless v is one of the `count` numbers from `first` on.
+-- v - first if v is one of the `count` numbers from `first` on, else 0.
 abbrev pub index_among : (first count v : ℕ) → ℕ
 index_among first count v = if nat_le first v && nat_lt v (first + count) then v - first else 0
 

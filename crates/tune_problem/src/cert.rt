@@ -29,7 +29,8 @@ pub enum Row {
     /// It makes the same warrior as another setting, at this index from 0, whose row is a `Cap`.
     Same(u32),
     /// It assembles and makes these points in these fights: every fight if it is the best setting,
-    /// else enough that its cap does not beat that setting.
+    /// else enough that its cap does not beat that setting; if none is said to reach a floor,
+    /// enough that its cap is below the floor.
     Cap(Listing),
 }
 
@@ -144,8 +145,8 @@ impl Rows {
     }
 }
 
-/// The answer of a search: the optimum, and the rows of a certificate for it. It is defined below
-/// the search, so that `tune_cert::write_cert` can take it.
+/// What a search finds: the optimum, and the rows of its certificate. It is in this crate so that
+/// `tune_cert::write_cert` can take it.
 #[derive(Debug, Drop)]
 pub struct Found {
     /// The version of its certificate: 1 if every fight has the weight 1, and otherwise 2.

@@ -162,7 +162,7 @@ impl Inputs {
     }
 }
 
-// Returns `index - first`, or 0 unless `index` is one of the `count` numbers from `first` on.
+// Returns `index - first` if `index` is one of the `count` numbers from `first` on, else 0.
 fn index_among(first: u32, count: u32, index: u32) -> u32
     requires { 0 < count }
     ensures index { result ≡ index_among first count index }

@@ -131,8 +131,8 @@ pub fn start_setting(inputs: &Inputs) -> u32
     inputs.start_number()
 }
 
-/// Checks whether cap `cap` of setting `vector` beats `best`: it is greater than the total of that,
-/// or equal to it and `vector` is the smaller index.
+/// Checks whether cap `cap` of setting `vector` beats `best`: it is greater than the total of
+/// `best`, or equal and `vector` is the smaller index.
 pub fn beats(cap: u32, vector: u32, best: Best) -> bool
     ensures { result ≡ beats cap vector best.total best.vector }
 {

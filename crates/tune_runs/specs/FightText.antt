@@ -1,5 +1,6 @@
 -- A fight text: the lines `rules M C P L D`, `fight POSITION FIRST` and `candidate`, a load file,
--- the line `opponent`, a load file. Words are parted by one space, and lines end with a line feed.
+-- the line `opponent`, a load file. Words are separated by one space, and a line ends with a line
+-- feed.
 use Rattle.std.specs.Prelude.{ℕ, ◌+◌, true, ◌==◌, List, codes, count_by, Result, Ok}
 use Rattle.std.specs.Option.{ok_or}
 use Rattle.std.specs.Str.{byte}

@@ -62,7 +62,7 @@ abbrev pub Returns : {A B : Type 0} → (view : A → B) → (result : Result A 
 Returns view (Ok x) definition = definition ≡ Ok (view x)
 Returns view (Err e) definition = (e ≢ Write) × ((¬ IsOutOfMemory e) → definition ≡ Err e)
 
--- A writer over a run: the bytes that it holds before and after it, if they are known.
+-- What a writer holds before and after a run, if it is known.
 pub record Writer : Type 0 where
   pub old : Option (List ℕ)
   pub new : Option (List ℕ)

@@ -73,8 +73,8 @@ meaning_of t = do
   _ ← check (is_part t.part (setting_count template)) BadPart
   Ok (record { template = template; opponents = opponents; schedule = schedule; rules = t.rules; part = t.part })
 
--- The faults of texts, except `BadPart`. No text is out of memory, but the type of `template_fault`
--- allows it.
+-- The faults of texts, except `BadPart`. `OutOfMemory` is among them because `template_fault` can
+-- return it; no text has it.
 abbrev pub is_text_fault : RunFault → Bool
 is_text_fault TooManyOpponents = true
 is_text_fault (Template fault) = true

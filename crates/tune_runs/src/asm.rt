@@ -59,7 +59,7 @@ pub fn warrior_of(alloc: Global, source: &[u8], rules: &Rules) -> Result<Warrior
     Ok(assembled(alloc, source, rules)?)
 }
 
-// Assembles a text that has no open constants.
+// Does what `warrior_of` does, and returns the assembler's own fault.
 pub(crate) fn assembled(alloc: Global, source: &[u8], rules: &Rules) -> Result<Warrior, AsmFault>
     ensures warrior { Assembled (λ w. w) result (outcome_of source.now [] rules.now) }
     ensures fits { IfOk result (Fits rules.now) }

@@ -72,17 +72,16 @@ pub fn a_tuning_with_an_aim_is_accepted_by_its_check()
 
 /// States the certified optimum: if a tuning wrote its certificate and its report, and a check of
 /// any bytes for the same texts accepts them, then the check's line names the best setting and the
-/// total of that report. The bytes of the certificate that was written are those of what the
-/// report tells.
+/// total of that report. The certificate that was written is of the same finding as the report.
 pub fn an_accepted_certificate_names_the_optimum()
     ensures { (t : Texts) (method : Method) (bytes : List ℕ) (report cert out : Writer)
         → WritesTuning t method report cert → Checks t bytes true out → Agree t method report cert out }
 {}
 
-/// States that accepted certificates of parts name the optimum of the whole: whoever has a line of
-/// acceptance for each part, or knows that none of its settings assembles, knows that of the parts
-/// with the greatest total, the first one's best setting is the optimum of all settings, with this
-/// total. Its index in the whole is counted on from where its part begins.
+/// States that accepted certificates of parts name the optimum of the whole. Suppose that each part
+/// has a line of acceptance, or no candidate. Then the best setting of the first part with the
+/// greatest total is the optimum of all settings, with this total. Its index in the whole is
+/// counted on from where its part begins.
 ///
 /// A part in which no setting reaches a floor counts as one without a best setting, if the floor is
 /// at most the greatest total, or one more in a later part. If no part has a setting that reaches a

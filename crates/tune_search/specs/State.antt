@@ -32,7 +32,7 @@ use Rattle.tune_search.specs.declared.method.Method.{Method}
 use Rattle.tune_search.specs.declared.state.State.{State}
 use Rattle.tune_problem.specs.Ranking.{first_of, IsAim}
 
--- A candidate: setting v with its warrior, and the load file of that.
+-- A candidate: setting v with its warrior, and the warrior's load file.
 pub record IsCandidateAt (i : InputsView) (v : ℕ) (c : Candidate) : Type 0 where
   pub vector_is : c.vector ≡ v
   pub rules_hold : IsRules i.rules

@@ -7,7 +7,7 @@ use rc_instr::{OutOfMemory, Warrior, write_loadfile};
 use std::alloc::Global;
 use tune_problem::{Inputs, setting_warrior};
 
-// A setting that assembles, its warrior, and the load file of that.
+// A setting that assembles, its warrior, and the warrior's load file.
 #[derive(Drop)]
 pub(crate) struct Candidate {
     pub(crate) vector: u32,

@@ -78,11 +78,11 @@ pub fn search_by<T: Watcher>(
 /// or more. The ranking has the greatest total first, then the smaller index.
 ///
 /// `Method::Dropping` drops a setting once its cap is below the floor, or does not beat the
-/// `keep`-th in the ranking of those visited before it, if it has that many. The start setting
-/// plays all its fights, since the others learn their order from them. A setting that shares the
-/// fights of another is ranked with the total of the other. A floor drops settings before the
-/// ranking does, and so saves fights. Tells `watcher` what `search_by` tells it, which is this
-/// search with keep 1 and the floor 0.
+/// `keep`-th setting of the ranking so far, if that many are ranked. The start setting plays all
+/// its fights, since the others learn their order from them. A setting that shares the fights of
+/// another is ranked with the total of the other. A floor drops settings before the ranking does,
+/// and so saves fights. `search_by` is this search with keep 1 and the floor 0, and tells `watcher`
+/// the same.
 ///
 /// # Errors
 ///

@@ -22,7 +22,7 @@ abbrev pub words_from : List ℕ → List ℕ → List (List ℕ)
 words_from front [] = with_word front []
 words_from front (b ∷ rest) = if is_blank b then with_word front (words_from [] rest) else words_from (front ++ (b ∷ [])) rest
 
--- The words of a line, parted by blanks.
+-- The words of a line, separated by blanks.
 abbrev pub words_of : List ℕ → List (List ℕ)
 words_of line = words_from [] line
 

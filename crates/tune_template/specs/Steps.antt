@@ -14,7 +14,8 @@ pub record HasValues (s : Span) : Type 0 where
   pub some : 0 < s.count
   pub start : s.start < s.count
 
--- As many names as spans, at most `MOST_CONSTANTS`, and `count` settings, at most `MOST_SETTINGS`.
+-- As many names as spans, at most `MOST_CONSTANTS`, and `count` settings, at most `MOST_SETTINGS`;
+-- and each span has its values.
 pub record AreCounted (r : Ranges) (count : ℕ) : Type 0 where
   pub equal : length r.names ≡ length r.spans
   pub few : length r.names ≤ MOST_CONSTANTS

@@ -69,7 +69,7 @@ impl Reading {
         Ok(())
     }
 
-    // Reads the constant of a range line and its span, which are the next ones.
+    // Reads the next constant and its span from a range line.
     #[tactic(auto, unfolding(crate::specs::Ranges::range_of_words))]
     pub(crate) fn next_range<'a>(&self, line: &'a [u8]) -> Result<(&'a [u8], Span), TemplateKind>
         requires line { 6 ≤ length line.now }

@@ -6,8 +6,8 @@ ghost use Rattle.tune_template.specs.Steps.{HasValues};
 
 use crate::fault::TemplateKind;
 
-/// The values of a constant: `low`, `low + step`, .., `count` of them. The ranges are those of a
-/// template.
+/// The values of a constant: `low`, `low + step`, .., `count` of them. A template makes only spans
+/// within the ranges below.
 #[derive(Clone, Copy, Debug)]
 pub struct Span {
     /// The least value, -65535 to 65535.

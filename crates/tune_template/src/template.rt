@@ -49,7 +49,7 @@ impl Template {
     /// Parses a template.
     ///
     /// A line `;@tune NAME LOW HIGH STEP START` is a range, wherever it is in the text. Its five
-    /// words are parted by blanks; a blank or the end of the line follows `;@tune`. The constant
+    /// words are separated by blanks; a blank or the end of the line follows `;@tune`. The constant
     /// NAME has the values LOW, LOW + STEP, .. up to HIGH, and a search begins with START, which is
     /// one of them. NAME is a letter or `_`, then letters, digits and `_`. LOW, HIGH and START are
     /// -65535 to 65535, written as an optional minus and 1 to 5 digits; STEP is 1 to 65535. The

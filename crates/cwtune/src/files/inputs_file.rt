@@ -175,7 +175,7 @@ fn add_files(alloc: Global, text: &mut Vec<u8>, tuning: &Tuning<'_>) -> io::Resu
     Ok(())
 }
 
-// Returns the five rules, parted by blanks.
+// Returns the five rules, separated by blanks.
 pub(crate) fn rules_word(alloc: Global, words: &TuneWords<'_>) -> Result<String, AllocError> {
     let rules = words.rules;
     format!(in alloc;

@@ -1,5 +1,5 @@
 //! Replaces a file whole or not at all: a new text goes to a file beside it, piece by piece; at the
-//! end that is flushed to the disk and takes the name.
+//! end this file is flushed to the disk and renamed.
 
 use std::alloc::Global;
 use std::fs::{OpenFile, OpenOptions, Permissions};

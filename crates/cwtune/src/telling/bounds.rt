@@ -110,7 +110,7 @@ fn tell_settings<V: Write>(err: &mut Outlet<V>, settings: u64) {
 }
 
 // Counts the settings of the range lines up to a line. The last of them is the first with which
-// there are more than 1000000, so the number is small.
+// there are more than 1000000, so the product cannot overflow.
 fn settings_up_to(alloc: Global, text: &[u8], last: u64) -> u64 {
     let mut product: u64 = 1;
     for line in text.split(|byte| *byte == b'\n').take(last as usize) {

@@ -17,8 +17,8 @@ use std::time::{Duration, Instant};
 use tune_cert::{Standing, Watcher};
 use tune_runs::{Inputs, RunFault, TuneTexts};
 
-// After how many fights of a setting the clock is read again: a reading takes as long as a few
-// turns, and sixteen of the longest fights take less than a second.
+// The clock is read after each setting, and after every 16th fight of the run: a reading takes as
+// long as a few turns, and sixteen of the longest fights take less than a second.
 const FIGHTS_PER_READING: u64 = 16;
 
 // Why a certificate may be rejected though it is right.

@@ -24,8 +24,8 @@ const VALUED: [(&str, &str); 11] = [
     ("check", "--floor"),
 ];
 
-// Returns whether a word asks for help or for the version. Without such a word no run that only
-// prints what `clap` says is a success.
+// Returns whether a word asks for help or for the version. A run that only prints the text of
+// `clap` succeeds only if there is such a word.
 #[tactic(auto, using(crate::proofs::CommandWords::asks_for_help))]
 pub(crate) fn mentions_help(words: &[String]) -> bool
     ensures { IsTrue result → AsksForHelp (map string_bytes words.now) }

@@ -23,7 +23,8 @@ lines_of NoLine = []
 lines_of (OneLine raw rest) = raw ∷ lines_of rest
 lines_of (Block opens inside closes rest) = opens ∷ (lines_of inside ++ (closes ∷ lines_of rest))
 
--- A number for each line: for a FOR the distance to its ROF, 1 if that comes next, and else 0.
+-- A number for each line: the distance from a FOR to its ROF, 1 if they are neighbours, and 0 for
+-- any other line.
 abbrev pub distances : BlockTree → List ℕ
 distances NoLine = []
 distances (OneLine raw rest) = 0 ∷ distances rest
@@ -49,7 +50,7 @@ line_before raw (suc n) p = record { inside = OneLine raw p.inside; closes = p.c
 abbrev pub rof_before : RawLine → (n : ℕ) → Parts n → Parts (suc n)
 rof_before r n p = record { inside = NoLine; closes = r; after = p }
 
--- Puts a FOR before the parts, which makes a block of the first.
+-- Puts a FOR before the parts: with it, the innermost open part becomes a block.
 abbrev pub for_before : RawLine → (n : ℕ) → Parts (suc n) → Parts n
 for_before f zero p = Block f p.inside p.closes p.after
 for_before f (suc n) p = record { inside = Block f p.inside p.closes p.after.inside; closes = p.after.closes; after = p.after.after }

@@ -10,8 +10,8 @@ use crate::read::raw_line::{RawLine, RawWord};
 use std::alloc::Global;
 use std::collections::VecDeque;
 
-// The lines of a text, and a number for each: for a FOR the distance to its ROF, 1 if that comes
-// next, and else 0.
+// The lines of a text, and a number for each: the distance from a FOR to its ROF, 1 if they are
+// neighbours, and 0 for any other line.
 #[derive(Drop)]
 pub(crate) struct Blocks {
     pub(crate) lines: Vec<RawLine>,
@@ -91,8 +91,8 @@ impl<'a> BlockSlice<'a> {
     }
 }
 
-// Returns a number for each line: for a FOR the distance to its ROF, 1 if that comes next, and else
-// 0. Refuses what `find` does.
+// Returns a number for each line: the distance from a FOR to its ROF, 1 if they are neighbours, and
+// 0 for any other line. Refuses what `find` does.
 fn check_blocks(alloc: Global, lines: &[RawLine]) -> Result<Vec<usize>, ExpandFault>
     ensures { Returns (λ v. v.items) result (mapped distances (blocks_of lines.now)) }
 {

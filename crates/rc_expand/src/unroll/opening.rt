@@ -71,8 +71,8 @@ fn counter_fault(line: u64, label: &[Token]) -> ExpandFault
 }
 
 // Checks for a label that was the name of an enclosing block's counter, written without `&`:
-// copying has put a number in its place. A number that replaced a joined name still has counters,
-// and does not count.
+// copying has put a number in its place. A number with joined counters was a joined name, and so
+// is not such a label.
 fn is_enclosing_counter(label: &[Token]) -> bool
     ensures { result ≡ is_enclosing_counter label.now }
 {

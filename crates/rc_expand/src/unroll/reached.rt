@@ -103,8 +103,9 @@ fn earlier_line(alloc: Global, raw: &RawLine) -> Result<RawLine, AllocError>
     Ok(RawLine::bare(alloc, raw.number, labels))
 }
 
-// Makes a line as it is in `copies`, the outermost first. The first copy with a counter is made of
-// the text's line itself, which is not cloned; each further one of the copy before.
+// Makes a line as it is in `copies`, the outermost first: of `raw` for the first copy with a
+// counter, and of the line made before for each further one. So `raw` is cloned only if no copy has
+// a counter.
 pub(crate) fn line_in(
     alloc: Global,
     source: &[u8],
@@ -187,8 +188,8 @@ pub(crate) fn have_no_counter(copies: &[BlockCopy]) -> bool
     copies.iter().all(|copy| copy.counter.is_none())
 }
 
-// Checks for a line that is too short for a ninth counter to be joined to a name of it, in however
-// many copies.
+// Checks whether a line has too few tokens to join nine counters to one name, in however many
+// copies.
 pub(crate) fn is_short_line(raw: &RawLine) -> bool
     ensures { result ≡ is_short_line raw.now }
 {

@@ -75,8 +75,7 @@ pub(crate) fn lines_of(alloc: Global, source: &[u8]) -> Result<Vec<u8>, Fail> {
     }
 }
 
-// Texts, and their lines: EQU names and blocks first, then labels, joined names, dropped lines, and
-// names that EQU does not replace.
+// Texts, and their lines.
 const LINES: [Case; 28] = [
     Case {
         name: "an empty text has no lines",
