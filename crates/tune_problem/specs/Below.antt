@@ -1,15 +1,12 @@
--- Certificates that no candidate reaches a floor, and what a certificate says with either answer.
+-- Certificates that no candidate reaches a floor.
 use Rattle.std.specs.Prelude.{◌≡◌, ◌≢◌, ℕ, ◌<◌, List, length, slice_get, Some, None}
 use Rattle.rc_instr.specs.Warrior.{WarriorView}
 use Rattle.tune_problem.specs.Problem.{Problem}
 use Rattle.tune_problem.specs.Optimum.{cap_of, total_of}
-use Rattle.tune_problem.specs.Valid.{IsCapRow, IsValid, IsVersionOf, listed_indices}
+use Rattle.tune_problem.specs.Valid.{IsCapRow, IsVersionOf, listed_indices}
 use Rattle.tune_problem.specs.declared.cert.Cert.{Cert}
 use Rattle.tune_problem.specs.declared.cert.Row.{Row}
 use Rattle.tune_problem.specs.declared.cert.Row.TheVariants.{Refused, Same, Cap}
-use Rattle.tune_problem.specs.declared.statement.Answer.{Answer}
-use Rattle.tune_problem.specs.declared.statement.Answer.TheVariants.{Best as TheBest, NoneFrom}
-use Rattle.tune_problem.specs.declared.statement.Statement.{Statement}
 use Rattle.tune_problem.specs.declared.watcher.Best.{Best}
 
 -- The row of setting v shows that v does not reach the floor, in one of three cases. Refused: v
@@ -37,12 +34,3 @@ AllBelow p floor = (v : ℕ) (w : WarriorView) → v < p.count → p.warrior v �
 -- The certificate of these rows, with this best setting.
 abbrev pub cert_with : (version count : ℕ) → List Row → Best → Cert
 cert_with version count rows best = record { version = version; count = count; best = best.vector; total = best.total; rows = rows }
-
--- A statement is valid if it is a valid certificate of its best setting, or one that no candidate
--- reaches the floor, with the right count.
-abbrev pub IsValidStatement : Problem → Statement → Type 0
-IsValidStatement p s = by_answer s.answer
-  where
-    by_answer : Answer → Type 0
-    by_answer (TheBest best) = IsValid p (cert_with s.version s.count s.rows best)
-    by_answer (NoneFrom floor) = (s.count ≡ p.count) × IsValidBelow p floor s.version s.rows

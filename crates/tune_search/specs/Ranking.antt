@@ -2,7 +2,7 @@
 -- index.
 use Rattle.std.specs.Prelude.{ℕ, ◌<◌, List}
 use Rattle.tune_problem.specs.Problem.{Problem}
-use Rattle.tune_problem.specs.Ranking.{IsRanked, IsRanking}
+use Rattle.tune_problem.specs.Ranking.{IsRanking}
 use Rattle.tune_problem.specs.declared.aim.Aim.{Aim}
 use Rattle.tune_problem.specs.declared.watcher.Best.{Best}
 use Rattle.tune_search.specs.Visits.{visits_before}
@@ -10,10 +10,6 @@ use Rattle.tune_search.specs.Visits.{visits_before}
 -- Setting v is among the first k visited.
 abbrev pub VisitedBy : Problem → (k v : ℕ) → Type 0
 VisitedBy p k v = visits_before p.start v < k
-
--- A candidate among the first k visited, with its total, which reaches the floor.
-abbrev pub IsRankedBy : Problem → Aim → (k : ℕ) → Best → Type 0
-IsRankedBy p aim k best = IsRanked p aim (VisitedBy p k) best
 
 -- The ranking of the first k settings visited, cut to as many as the aim keeps.
 abbrev pub IsRankingBy : Problem → Aim → (k : ℕ) → List Best → Type 0
