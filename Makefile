@@ -10,23 +10,23 @@ help:
 	@awk '/^# /{s = s substr($$0, 2)} /^[a-z]+:/{sub(/:.*/, ""); sub(/\. .*/, ".", s); \
 	    printf "%-10s%s\n", $$0, s} !/^#/{s = ""}' Makefile
 
-# Tunes the example template with a quick build that is not proved: a first look, within two
-# minutes.
+# Tunes the example template within two minutes. A first look, with a quick build that is not
+# proved.
 look:
 	@sh examples/look.sh
 
-# Runs the whole gate on a copy of the tree: every proof, every test, every edit that must be
-# refused, and all that tries the program, with one last line `N passed, N failed`.
+# Runs the whole gate. On a copy of the tree that is every proof, every test, every edit that must
+# be refused, and all that tries the program, with one last line `N passed, N failed`.
 test:
 	@$(PYTHON) gate.gate
 
-# Proves and builds the program, and plays the cases of input and output, the pipes, the terminals
-# and the cuts, without the rest of the gate.
+# Proves and builds the program, and plays the cases. Then come the pipes, the terminals and the
+# cuts, without the rest of the gate.
 cases: build
 	@for one in play_cases pipes terminals cuts; do $(PYTHON) gate.$$one $(PROGRAM) || exit 1; done
 
-# Proves the crates one by one, with a line for each, if the program is not built yet; otherwise
-# `build` proves what has changed.
+# Proves the crates one by one, with a line for each. Does nothing if the program is built: `build`
+# then proves what has changed.
 prove:
 	@[ -x $(PROGRAM) ] || sh gate/prove.sh
 
@@ -34,8 +34,7 @@ prove:
 build: prove
 	@cd crates/cwtune && rt run < stdin > /dev/null
 
-# Plays the example fights, assembles the example warriors, tunes the example template and checks
-# certificates of it. Fails if a result is not the expected one.
+# Plays, assembles, tunes and checks the examples. Fails if a result is not the expected one.
 demo: build
 	@for one in play assemble tune check; do sh examples/$$one.sh $(PROGRAM) || exit 1; done
 
@@ -49,24 +48,25 @@ bench: build
 memory: build
 	@$(PYTHON) gate.refuse.memory $(PROGRAM)
 
-# Proves and builds the program, runs the commands for authors (docs/TOOLS.md) on the examples, and
-# compares with the stored results. Needs matplotlib for the pictures, and says which Debian package
-# has it.
+# Runs the commands for authors on the examples. Proves and builds the program first, and compares
+# with the stored results (docs/TOOLS.md has the commands). Needs matplotlib for the pictures, and
+# says which Debian package has it.
 tools: build
 	@$(PYTHON) author.tests.run
 
-# Plays a thousand fights and assembles texts by pMARS too, and fails if something differs that is
-# not known to. PMARS=PATH is a server build; without it one is built. SEED=N repeats a comparison,
+# Plays a thousand fights and assembles texts by pMARS too. Fails if something differs that is not
+# known to. PMARS=PATH is a server build; without it one is built. SEED=N repeats a comparison,
 # and FIGHTS=N and TEXTS=N say how much is compared.
 compare: build
 	@$(PYTHON) pmars.compare $(SEED:%=--seed %) $(FIGHTS:%=--fights %) $(TEXTS:%=--texts %) \
 	    $(or $(PMARS),"$$(sh pmars/pmars.sh)")
 
-# Builds pMARS 0.9.2 without a display from Debian's sources, and prints the path of the program.
+# Builds pMARS 0.9.2 without a display. Takes Debian's sources, and prints the path of the program.
 pmars:
 	@sh pmars/pmars.sh
 
-# Packs the proved program, with its manual pages, the commands, examples and documents, into dist/.
+# Packs the release into dist/. It has the proved program with its manual pages, the commands,
+# examples and documents.
 dist: build
 	@$(PYTHON) release.dist tar dist
 
