@@ -120,7 +120,7 @@ NOT_DRAWN = [
 
 
 def trials(python, draws):
-    """Gives the commands what they have to refuse; if `python` draws, pictures too."""
+    """Gives the commands what they have to refuse. `draws` says whether `python` has matplotlib."""
     with tempfile.TemporaryDirectory() as folder:
         for path in TUNING.iterdir():
             pathlib.Path(folder, path.name).write_bytes(path.read_bytes())
