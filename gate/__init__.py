@@ -1,7 +1,8 @@
 """What `make test` runs beside `rt ci`. At the top: `python3 -m gate.NAME`, with `--help` for more.
 
 Each module prints what failed, and as its last line `N passed, N failed`. Its exit status is 1 if
-something failed, or if nothing was tried.
+something failed, or if nothing was tried. One is an exception: without the kit that the hot loop
+was placed for, `loop_place` judges no place, and its status is 0.
 
 gate             runs all of it, on a copy of the tree
 edits            wrong bodies (crates/*/must-fail/) that the prover has to refuse, and for each

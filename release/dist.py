@@ -18,8 +18,8 @@ INSTALLED = SHARE / "installed.txt"
 PLACES = ["share/man/man1/{}.1", "share/bash-completion/completions/{}", "share/zsh/{zsh}/_{}",
           "share/fish/vendor_completions.d/{}.fish"]
 ZSH, DEBIAN_ZSH = "site-functions", "vendor-completions"
-# The rooms that are shipped. Their tests and look.sh need the sources.
-ROOMS = ["author", "examples"]
+# The folders that are shipped. Their tests and look.sh need the sources.
+SHIPPED = ["author", "examples"]
 LEFT_OUT = shutil.ignore_patterns("tests", "look.sh", "__pycache__")
 TAR_README = """cwtune tunes Core War warriors. Begin with share/doc/cwtune/README.md.
 
@@ -109,8 +109,8 @@ def stage(tree, zsh=ZSH):
         for name, place in manual_files(zsh):
             (tree / place).parent.mkdir(parents=True, exist_ok=True)
             shutil.copy(pathlib.Path(made, name), tree / place)
-    for room in ROOMS:
-        shutil.copytree(ROOT / room, tree / SHARE / room, ignore=LEFT_OUT)
+    for folder in SHIPPED:
+        shutil.copytree(ROOT / folder, tree / SHARE / folder, ignore=LEFT_OUT)
     for name in manual.COMMANDS:
         (tree / "bin" / name).symlink_to(pathlib.Path("..", SHARE, "author", name))
     shutil.copytree(ROOT / "docs", tree / DOC / "docs")
@@ -202,7 +202,8 @@ def install(prefix):
 
 
 def uninstall(prefix):
-    """Removes what `install` put below the folder, its list last, and then its empty folders."""
+    """Removes what `install` put below the folder, the list of the files last, and then the folders
+    that are empty."""
     try:
         placed = (prefix / INSTALLED).read_text().splitlines()
     except FileNotFoundError:

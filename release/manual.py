@@ -123,6 +123,8 @@ class AuthorCommand:
         self.name, self.about = name, " ".join(about.split())
         self.rest = "\n\n".join(filter(None, [rest, parser.epilog]))
         self.usage = " ".join(parser.format_usage().split()).removeprefix("usage: ")
+        # argparse has no public calls for the arguments of a parser, nor for the term and the text
+        # with which its help shows one: hence the private names here and in `item_of_action`.
         items = [(action, item_of_action(parser, action)) for action in parser._actions]
         self.words = [item for action, item in items if not action.option_strings]
         self.options = [item for action, item in items if action.option_strings]

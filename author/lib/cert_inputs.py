@@ -50,11 +50,14 @@ def listed(text):
     return Listed(f"{size} {digest}", name)
 
 
+def sha256_of(path):
+    with open(path, "rb") as file:
+        return hashlib.file_digest(file, "sha256").hexdigest()
+
+
 def digest_of(path):
     """Returns the size and the digest of a file as CERT.inputs has them."""
-    with open(path, "rb") as file:
-        digest = hashlib.file_digest(file, "sha256").hexdigest()
-        return f"{file.tell()} {digest}"
+    return f"{os.path.getsize(path)} {sha256_of(path)}"
 
 
 def name_of(cert):

@@ -7,13 +7,16 @@ BLANKS = b" \t\r"
 
 
 class Grid:
-    """The constants of a template, in order, with their values and those of START."""
+    """The constants of a template, in order, with their values and those of START.
+
+    `line_indices` has the index of each constant's range line.
+    """
 
     def __init__(self, path):
         self.lines = self.read(path).split(b"\n")
         ranges = [(k, *read_range(path, k + 1, line)) for k, line in enumerate(self.lines)
                   if is_range_line(line)]
-        self.places, self.names, self.values, start = (
+        self.line_indices, self.names, self.values, start = (
             [it[field] for it in ranges] for field in range(4))
         self.start_values = tuple(start)
         if len(set(self.names)) < len(self.names):
@@ -40,7 +43,7 @@ class Grid:
     def text(self, values, start):
         """Returns the template with other values of its constants, and another START."""
         lines = list(self.lines)
-        for k, name, some, at in zip(self.places, self.names, values, start):
+        for k, name, some, at in zip(self.line_indices, self.names, values, start):
             end = "\r" if lines[k].endswith(b"\r") else ""
             line = f";@tune {name} {some[0]} {some[-1]} {some.step} {at}{end}"
             lines[k] = line.encode("latin-1")

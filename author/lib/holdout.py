@@ -4,12 +4,12 @@ A tuning picks the setting that was best in a few fights, and part of that is lu
 the K best settings among those that played all fights of the tuning play R fights against each
 opponent, at random positions, moving first in every other fight; positions and first movers are the
 same for all settings. For each setting a line says its total in the tuning and in the fresh fights,
-the points as a part of the greatest total, in percent, and the standard error of that; then how
-much more than START the best one makes, or with --against than another warrior, as the text that
-the template was made of. A setting has a rank if the certificate shows it: that of `cwtune tune
---keep K` shows the first K. Each opponent counts in the fresh fights as much as in the tuning.
-Rules, schedule and opponents are those of the tuning, as CERT.inputs names them; without that file
-give them.
+the points as a part of the greatest total, in percent, and the standard error of that. A line after
+these compares the best one with START, or with the warrior of --against, such as the text that the
+template was made of. A setting has a rank if the certificate shows it: that of `cwtune tune --keep
+K` shows the first K. Each opponent counts in the fresh fights as much as in the tuning. Rules,
+schedule and opponents are those of the tuning, as CERT.inputs names them; without that file give
+them.
 
 Example: cwtune-holdout my.red my.cert
 """
@@ -18,6 +18,7 @@ from typing import NamedTuple
 
 from . import cert_inputs, tuning_files
 from .endings import Fault, counted, fault_of, number_from
+from .mean_error import error_of_mean
 from .program import (EXPLAIN, add_opponents_of_tuning, add_program, add_rules, add_words,
                       command_parser, rules_of, run_program)
 from .series import refuse_distance, refuse_fights
@@ -27,34 +28,31 @@ class Fresh(NamedTuple):
     """The points of fresh fights, a list for each opponent, and how much each opponent counts."""
 
     points: list
-    shares: list
+    opponent_weights: list
 
     def mean(self):
         """Returns the points as a part of the greatest total, in percent."""
         means = (sum(own) / (3 * len(own)) for own in self.points)
-        return 100 * sum(map(math.prod, zip(means, self.shares))) / sum(self.shares)
+        weights = self.opponent_weights
+        return 100 * sum(map(math.prod, zip(means, weights))) / sum(weights)
 
     def error(self):
         """Returns the standard error of the mean, in percent."""
-        variances = (variance(own) / len(own) for own in self.points)
-        squares = (share ** 2 for share in self.shares)
-        return 100 / 3 * math.sqrt(sum(map(math.prod, zip(variances, squares)))) / sum(self.shares)
+        weights = self.opponent_weights
+        errors = map(math.prod, zip(map(error_of_mean, self.points), weights))
+        return 100 / 3 * math.hypot(*errors) / sum(weights)
 
     def minus(self, other):
         """Returns the differences of the points, fight by fight."""
         pairs = zip(self.points, other.points)
-        return Fresh([[a - b for a, b in zip(*both)] for both in pairs], self.shares)
+        return Fresh([[a - b for a, b in zip(*both)] for both in pairs], self.opponent_weights)
 
     def __str__(self):
-        """The points and their percentage, or the percentage alone if the shares differ."""
+        """The points and their percentage, or the percentage alone if the weights differ."""
         flat = [it for own in self.points for it in own]
         said = f"{self.mean():.1f}% +- {self.error():.1f}"
-        return f"{sum(flat)} of {3 * len(flat)} ({said})" if len(set(self.shares)) == 1 else said
-
-
-def variance(points):
-    mean = sum(points) / len(points)
-    return sum((it - mean) ** 2 for it in points) / max(1, len(points) - 1)
+        alike = len(set(self.opponent_weights)) == 1
+        return f"{sum(flat)} of {3 * len(flat)} ({said})" if alike else said
 
 
 def schedule_of(asked):
@@ -65,7 +63,7 @@ def schedule_of(asked):
         for k in range(len(asked.opponents)) for i in range(asked.rounds))
 
 
-def shares_of(asked, fights):
+def opponent_weights_of(asked, fights):
     """Returns how much each opponent counts: by its fights' weights; without a schedule alike."""
     if not asked.schedule:
         return [1] * len(asked.opponents)
@@ -83,7 +81,7 @@ def run(*words):
     return done.stdout
 
 
-def play(asked, rules, shares, folder, *text):
+def play(asked, rules, opponent_weights, folder, *text):
     """Returns what a warrior makes in the fresh fights. `text` are words of `cwtune asm`."""
     load = run(asked.program, "asm", *EXPLAIN, *rules, *text)
     template, schedule, cert = (pathlib.Path(folder, name) for name in ("t.red", "s.csv", "cert"))
@@ -92,7 +90,8 @@ def play(asked, rules, shares, folder, *text):
     run(asked.program, "tune", *EXPLAIN, *rules, template, schedule, cert, *asked.opponents)
     made = tuning_files.Certificate(cert).points(0)
     rounds = range(asked.rounds)
-    return Fresh([[made[k * asked.rounds + i] for i in rounds] for k in range(len(shares))], shares)
+    points = [[made[k * asked.rounds + i] for i in rounds] for k in range(len(asked.opponents))]
+    return Fresh(points, opponent_weights)
 
 
 def print_line(name, total, greatest, fresh, constants):
@@ -151,17 +150,17 @@ def main():
     found = tuning_files.Certificate(asked.cert)
     template = tuning_files.Template(asked.template).of(found)
     fights = found.fights(asked.schedule)
-    rules, shares = rules_of(asked).words(), shares_of(asked, fights)
+    rules, weights = rules_of(asked).words(), opponent_weights_of(asked, fights)
     full, dropped, exact = found.ranked(fights)
     with tempfile.TemporaryDirectory() as folder:
         made = {}
         for rank, (total, v) in enumerate(full[:asked.top], 1):
-            made[v] = play(asked, rules, shares, folder, "--setting", str(v), asked.template)
+            made[v] = play(asked, rules, weights, folder, "--setting", str(v), asked.template)
             name = f"setting {v}, rank {rank}" if rank <= exact else f"setting {v}"
             print_line(name, total, fights.greatest, made[v], template.constants(v))
         best = made[found.best]
         if asked.against:
-            other = play(asked, rules, shares, folder, "--", asked.against)
+            other = play(asked, rules, weights, folder, "--", asked.against)
             print(f"{asked.against}: fresh {other}")
             print_gain(asked.against, found.best, best.minus(other))
         elif found.points(start := template.start) is None:
@@ -169,7 +168,7 @@ def main():
         elif start == found.best:
             print(f"setting {start} is START: the tuning found nothing better")
         else:
-            other = made.get(start) or play(asked, rules, shares, folder, "--setting", str(start),
+            other = made.get(start) or play(asked, rules, weights, folder, "--setting", str(start),
                                             asked.template)
             print_line(f"START, setting {start}", found.total_of(start, fights), fights.greatest,
                        other, template.constants(start))
@@ -178,5 +177,5 @@ def main():
         verb = "was" if dropped == 1 else "were"
         so = ", so" if exact < asked.top else ";"
         print(f"{counted(dropped, 'setting')} {verb} dropped{so} "
-              f"{tuning_files.said_of_places(exact, asked.top)}")
+              f"{tuning_files.said_of_ranks(exact, asked.top)}")
     cert_inputs.print_note(unknown)

@@ -13,6 +13,7 @@ import itertools, math, sys
 
 from . import cert_inputs, tuning_files
 from .endings import Fault, whole_file
+from .mean_error import error_of_mean
 from .program import add_words, command_parser
 
 MOST_MAPS = 36
@@ -103,9 +104,9 @@ def squares(table, x, y):
 
 
 def ticks(set_ticks, values):
-    """Labels at most eight places of an axis with their values."""
-    places = range(0, len(values), -(-len(values) // 8))
-    set_ticks(list(places), [str(values[place]) for place in places])
+    """Labels an axis with at most eight of its values."""
+    indices = range(0, len(values), -(-len(values) // 8))
+    set_ticks(list(indices), [str(values[k]) for k in indices])
 
 
 def grid_of(plot, count):
@@ -148,16 +149,16 @@ def draw_maps(plot, table, x, y):
     return figure
 
 
-def effect_of(template, totals, place):
-    """Returns the values of a constant that assemble, their mean totals, and the standard errors
+def effect_of(template, totals, k):
+    """Returns the values of constant k that assemble, their mean totals, and the standard errors
     of these."""
-    groups = {value: [] for value in template.values[place]}
+    groups = {value: [] for value in template.values[k]}
     for total, setting in zip(totals, template.settings):
         if not math.isnan(total):
-            groups[setting[place]].append(total)
+            groups[setting[k]].append(total)
     groups = {value: own for value, own in groups.items() if own}
     means = [sum(own) / len(own) for own in groups.values()]
-    return list(groups), means, [error_of(*both) for both in zip(groups.values(), means)]
+    return list(groups), means, list(map(error_of_mean, groups.values()))
 
 
 def draw_effects(plot, table):
@@ -166,18 +167,11 @@ def draw_effects(plot, table):
         raise Fault("settings were dropped: the means need a certificate of `cwtune tune --all`")
     template = table.template
     figure, grid, _ = grid_of(plot, len(template.names))
-    for place, (axes, name) in enumerate(zip(grid, template.names)):
-        axes.errorbar(*effect_of(template, table.totals, place), marker="o", linewidth=1,
-                      capsize=2)
+    for k, (axes, name) in enumerate(zip(grid, template.names)):
+        axes.errorbar(*effect_of(template, table.totals, k), marker="o", linewidth=1, capsize=2)
         axes.set_xlabel(name)
         axes.set_ylabel("mean total")
     return figure
-
-
-def error_of(totals, mean):
-    """Returns the standard error of a mean."""
-    squares = sum((total - mean) ** 2 for total in totals)
-    return math.sqrt(squares / max(1, len(totals) - 1) / len(totals))
 
 
 def axes_of(parser, asked, names):
@@ -239,14 +233,14 @@ def main():
         parser.error("the template has no constants to draw")
     fights = found.fights(asked.schedule)
     refuse_opponent(parser, asked, fights)
-    places = axes_of(parser, asked, template.names)
+    axes = axes_of(parser, asked, template.names)
     table, plot = Table(template, found, fights, asked.opponent), load_pyplot()
     title = (f"best {found.best}: {template.constants(found.best)}, total {found.total} of "
              f"{fights.greatest}")
     if asked.opponent is not None:
         title += f"\nthe fights against opponent {asked.opponent}"
     alone = len(template.names) == 1
-    save(draw_line(plot, table) if alone else draw_maps(plot, table, *places), title, asked.picture)
+    save(draw_line(plot, table) if alone else draw_maps(plot, table, *axes), title, asked.picture)
     if asked.effects:
         save(draw_effects(plot, table), title, asked.effects)
     cert_inputs.print_note(unknown)

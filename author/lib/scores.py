@@ -9,7 +9,7 @@ import concurrent.futures, os
 
 from . import cert_inputs, tuning_files
 from .endings import Fault, counted, number_from, say
-from .program import (WORDS, add_program, add_rules, add_words, command_parser, load_of, rules_of)
+from .program import add_program, add_rules, add_words, command_parser, load_of, rules_of
 
 # With more settings than this none is assembled, to save time.
 MOST_ASSEMBLED = 2000
@@ -47,7 +47,7 @@ def print_best(found, fights, template, most):
           f"{'was' if dropped == 1 else 'were'} dropped" if dropped
           else f"best of {counted(len(full), 'setting')}")
     if dropped:
-        print(f"    {tuning_files.said_of_places(exact, most)}")
+        print(f"    {tuning_files.said_of_ranks(exact, most)}")
     for total, v in full[:min(most, exact)]:
         constants = f" {template.constants(v)}" if template else ""
         print(f"    setting {v}: total {total}{constants}")
@@ -83,13 +83,13 @@ def print_idle(template, warriors):
     """Prints for each constant in how many choices of the others all its values make one
     warrior."""
     print("for how many choices of the other constants all values of one make the same warrior")
-    for place, name in enumerate(template.names):
+    for k, name in enumerate(template.names):
         groups = {}
         for v, values in enumerate(template.settings):
-            groups.setdefault(values[:place] + values[place + 1:], []).append(v)
+            groups.setdefault(values[:k] + values[k + 1:], []).append(v)
         alike = [warriors.are_one(group) for group in groups.values()]
         said = f"{alike.count(True)} of {len(groups)}"
-        if len(template.values[place]) == 1:
+        if len(template.values[k]) == 1:
             said = "only one value"
         elif None in alike:
             said += f", {alike.count(None)} not known"
@@ -102,9 +102,9 @@ def make_parser():
     parser = command_parser(__doc__)
     add_words(parser, "cert")
     parser.add_argument("schedule", metavar="SCHEDULE", nargs="?",
-                        help=f"{WORDS['schedule']} [default: that of the tuning]")
-    parser.add_argument("--template", metavar="FILE", help="names constants, and shows START too "
-                        "[default: that of the tuning]")
+                        help="the schedule [default: that of the tuning]")
+    parser.add_argument("--template", metavar="FILE", help="the template, for the constants' names "
+                        "and for START [default: that of the tuning]")
     parser.add_argument("--top", type=number_from(1), default=10, metavar="K",
                         help="how many of the best settings [default: 10]")
     add_program(parser)

@@ -20,9 +20,8 @@ from .program import (NO_CANDIDATE, add_program, add_rules, add_words, command_p
                       run_program)
 from .tuning_files import MOST_SETTINGS
 
-
-# What the lines of START and of what was found begin with, as `cwtune-study` reads them: the total
-# of START, if it assembles, and the number of fights.
+# How `cwtune-study` reads this command's lines: START's total, if it assembles, and the number of
+# fights.
 START_LINE = re.compile(r"^start: total (\d+) of", re.M)
 FOUND_LINE = re.compile(r"^found: total .*, (\d+) fights in", re.M)
 

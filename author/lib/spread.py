@@ -2,21 +2,13 @@
 
 The settings are split into parts, and each part is tuned by `cwtune tune --part`. Then the report
 of the whole template is printed as `tune` prints it, and CERT is written, the certificate of the
-whole template. This command need not be trusted: `cwtune check` checks CERT. With --check that is
-done before CERT is written, in shares by `cwtune check --share`, on the same processors or hosts.
-With --check-only a CERT that is there already, from wherever, is checked that way, and nothing is
-tuned.
-A job of a check holds the whole certificate in memory, 1 GiB of it at most.
+whole template. Which fights its rows list depends on which part ends when; the best setting, the
+ranking and the totals do not. `docs/TOOLS.md` says which floors parts get.
 
-START is played first, for its total, and then its part begins before the others. Each part begins
-with its setting that is the fewest steps from START, from which the others learn the order of their
-fights. Its floor (`cwtune tune --floor`) is the best total that is known when it begins, or one
-more if that setting comes before the part, so it drops what cannot be the best of all. With --keep
-K the first K of the ranking are found, and printed after the report. START is then not played
-first, and the floor is the K-th best total, once K are known. Rows and fights depend on which part
-ends when; the best setting, the ranking and the totals do not. With --hosts all parts have the
-floor that is known when GNU parallel is started: START's total, or if the command is repeated the
-best total of the parts that are done. With --all there are no floors.
+This command need not be trusted: `cwtune check` checks CERT. With --check that is done before CERT
+is written, in shares by `cwtune check --share`, on the same processors or hosts. With --check-only
+nothing is tuned, and a CERT that is there already, from wherever, is checked that way. A job of a
+check holds the whole certificate in memory, 1 GiB of it at most.
 
 What is done stays in the folders CERT.parts and CERT.shares until all is done. After Ctrl-C or a
 crash repeat the command to run the rest, with any --jobs. --anew throws it away. A folder made of
@@ -171,7 +163,7 @@ def check(args, count, notes, cert):
     if line := rejected_for_all(args, cert, notes):
         return line, 1
     merges = args.check_only and args.merge
-    shares = (spread_shares.Jobs(args, count) if merges
+    shares = (spread_shares.ClusterShares(args, count) if merges
               else spread_shares.Shares(args, count, cert))
     progress = SharesProgress(shares, args.progress)
     with stopping(shares, progress):
@@ -318,7 +310,7 @@ def print_start(args, whole):
 
 def tune(args, count, notes):
     """Tunes the template in parts, or puts together what the jobs of a cluster wrote."""
-    folder = (spread_parts.Jobs(args, count) if args.merge
+    folder = (spread_parts.ClusterParts(args, count) if args.merge
               else spread_parts.Parts(args, count, options_of(args)))
     progress = PartsProgress(folder, args.progress)
     for number in range(1, (args.merge or 0) + 1):

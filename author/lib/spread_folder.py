@@ -9,9 +9,10 @@
 A piece is a part of a tuning or a share of a check. It is done when `I.done` is there, which is
 written once the piece has a result, so neither a kill nor a crash leaves half of one.
 """
-import hashlib, json, os, re, shutil
+import json, os, re, shutil
 from typing import NamedTuple
 
+from .cert_inputs import sha256_of
 from .endings import whole_file
 from .own_folder import OwnFolder
 
@@ -29,11 +30,6 @@ def copies_of(args, *more):
     return [Copy("program", "cwtune", args.program), Copy("template", "t.red", args.template),
             Copy("schedule", "s.csv", args.schedule), *more,
             *(Copy("opponents", f"o{k}.red", path) for k, path in enumerate(args.opponent))]
-
-
-def hash_of(path):
-    with open(path, "rb") as file:
-        return hashlib.file_digest(file, "sha256").hexdigest()
 
 
 class Folder(OwnFolder):
@@ -70,10 +66,10 @@ class Folder(OwnFolder):
 
     def fingerprint(self, paths):
         """Returns a value for each thing that the pieces depend on."""
-        hashes = {}
+        digests = {}
         for copy, path in zip(self.copies, paths):
-            hashes.setdefault(copy.kind, []).append(hash_of(path))
-        return hashes | self.settled
+            digests.setdefault(copy.kind, []).append(sha256_of(path))
+        return digests | self.settled
 
     def fill(self, pieces, count):
         """Copies the inputs, and then writes the mark with their fingerprint."""

@@ -3,6 +3,8 @@ import contextlib, ctypes, pathlib, shutil, signal, subprocess
 
 from .endings import Fault
 
+# What a host runs for a piece. A status of `cwtune`, 0 to 3, is a result; any other has GNU
+# parallel try the job again.
 JOB = "{words} >{piece}.report 2>{piece}.fault; s=$?; {after}echo $s >{piece}.status; [ $s -le 3 ]"
 PR_SET_PDEATHSIG = 1
 

@@ -1,7 +1,7 @@
 """The parts of a tuning by `cwtune-spread`, in the folder CERT.parts or beside CERT.
 
-In the folder `I.cert` is the certificate of part I, and `I.done` has its report and the hash of the
-certificate: the part is done if the certificate has this hash.
+In the folder `I.cert` is the certificate of part I, and `I.done` has its report and the digest of
+the certificate: the part is done if the certificate has this digest.
 
 START of a part is the setting in it that is the fewest steps from START of the template.
 
@@ -12,9 +12,10 @@ settings reaches its floor, its report and its certificate say so.
 import contextlib, pathlib, re, subprocess
 from typing import NamedTuple
 
+from .cert_inputs import sha256_of
 from .endings import Fault
 from .program import NO_CANDIDATE, rules_of
-from .spread_folder import Folder, copies_of, hash_of
+from .spread_folder import Folder, copies_of
 from .spread_jobs import end_with_parent
 from .tuning_files import MOST_BYTES, Template
 
@@ -81,7 +82,7 @@ def part_with(start, parts, count):
                 if start in settings_of(number, parts, count))
 
 
-class Jobs:
+class ClusterParts:
     """The parts that the jobs of a cluster have written beside CERT.
 
     Job I writes the certificate of its part as CERT.I, and what `tune` prints as CERT.I.report and
@@ -205,7 +206,7 @@ class Parts(Folder):
                 report = report_in(self.file(number, "report"))
             except ValueError:
                 return "failed: its report is cut, or not a report\n"
-            cert = hash_of(self.file(number, "cert"))
+            cert = sha256_of(self.file(number, "cert"))
             self.file(number, "cert.inputs").unlink(missing_ok=True)
             self.file(number, "cert").replace(self.cert(number))
         elif (status, fault) != (1, NO_CANDIDATE):
@@ -221,7 +222,7 @@ class Parts(Folder):
         """Returns what came of a part, or None if it is not done. Notes its totals."""
         done = self.read_done(number)
         try:
-            if not done or done["cert"] and hash_of(self.cert(number)) != done["cert"]:
+            if not done or done["cert"] and sha256_of(self.cert(number)) != done["cert"]:
                 return None
         except FileNotFoundError:
             return None

@@ -4,8 +4,9 @@ Share I of K of a check looks at all of the certificate's form and, of the rows,
 its own settings. A certificate is accepted exactly if all shares of one K accept it. `I.done` has
 the line that the check of share I printed.
 """
-import csv, hashlib, pathlib, re
+import csv, pathlib, re
 
+from .cert_inputs import sha256_of
 from .endings import Fault
 from .program import rules_of
 from .spread_folder import Copy, Folder, copies_of
@@ -57,7 +58,7 @@ def same_rows(cert):
         return {index for index, record in enumerate(records) if record[0] == "same"}
 
 
-class Jobs:
+class ClusterShares:
     """The shares that the jobs of a cluster have written beside CERT.
 
     Job I writes CERT.I.check: the SHA-256 digest of CERT, what the check prints, and the digest
@@ -69,8 +70,7 @@ class Jobs:
     def __init__(self, args, count):
         self.given, self.count, self.pieces = args.cert, count, args.merge
         self.wanted = args.keep
-        with open(args.cert, "rb") as file:
-            self.digest = hashlib.file_digest(file, "sha256").hexdigest()
+        self.digest = sha256_of(args.cert)
 
     def piece(self, number):
         """Returns what a share printed, or None if its job left nothing for this certificate."""

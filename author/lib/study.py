@@ -1,4 +1,4 @@
-"""Makes a better warrior of a warrior: schedule, tuning, fresh fights and report, in one folder.
+"""Improves a warrior: schedule, tuning, fresh fights and report, in one folder.
 
 WARRIOR is a template, or an ordinary text with words NAME=LOW:HIGH:STEP, as cwtune-vary takes them.
 An opponent is a file, or a folder whose files *.red are taken by their names. If the template has

@@ -6,6 +6,7 @@ beside it has the same numbers.
 import math
 from typing import NamedTuple
 
+from .mean_error import error_of_mean
 from .study_page import decimal, text
 
 WIDTH = 360
@@ -73,13 +74,8 @@ def shortened(said, most):
 
 def error_of(row):
     """Returns the standard error of an opponent's percent, from its wins, ties and losses."""
-    counts = {3: row["wins"], 1: row["ties"], 0: row["losses"]}
-    fights = sum(counts.values())
-    if fights == 0:
-        return 0.0
-    mean = sum(points * many for points, many in counts.items()) / fights
-    squares = sum((points - mean) ** 2 * many for points, many in counts.items())
-    return 100 / 3 * math.sqrt(squares / max(1, fights - 1) / fights)
+    points = [3] * row["wins"] + [1] * row["ties"] + [0] * row["losses"]
+    return 100 / 3 * error_of_mean(points) if points else 0.0
 
 
 def bar(scale, row, y, kind):
@@ -187,9 +183,9 @@ def effect(number, name, effect, up, best):
     values, means, errors = (effect[name] for name in ("values", "means", "errors"))
     across = Scale(min(values), max(values), LEFT + 10, RIGHT - 10)
     points = placed(across, up, values, means)
-    place = values.index(best) if best in values else None
+    index = values.index(best) if best in values else None
     parts = [*frame(across, up, name, values), curve(points), whiskers(up, points, means, errors),
-             *dots(points), *marks_on(points, None, place)]
+             *dots(points), *marks_on(points, None, index)]
     return svg(f"effect{number}", f"Mean tuned totals of the values of {name}", 182, parts)
 
 

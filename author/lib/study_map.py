@@ -2,7 +2,8 @@
 
 The totals are a list for each value of the first constant, with a total for each value of the
 second: the second constant goes from left to right and the first one upwards, as in
-`cwtune-landscape`. A setting that does not assemble has no total, None.
+`cwtune-landscape`. Of one constant they are a list with one list. A setting that does not assemble
+has no total, None.
 """
 from typing import NamedTuple
 
@@ -19,7 +20,7 @@ FIRST_DARK = 4
 
 
 class Field(NamedTuple):
-    """Totals over one or two constants. Over one, they are a single list."""
+    """Totals over one or two constants. Over one they are a list with one list."""
 
     axes: list
     values: list
@@ -28,10 +29,10 @@ class Field(NamedTuple):
     def at(self, setting):
         """Returns where a setting is: row and column. None if it is not here."""
         try:
-            places = [own.index(setting[name]) for name, own in zip(self.axes, self.values)]
+            indices = [own.index(setting[name]) for name, own in zip(self.axes, self.values)]
         except ValueError:
             return None
-        return (0, *places)[-2:]
+        return (0, *indices)[-2:]
 
     def known(self):
         """Returns the totals that are there."""
@@ -52,7 +53,8 @@ class Field(NamedTuple):
 
 
 def field_of(landscape):
-    """Reads the landscape of a report. The totals of one constant may be a list of lists."""
+    """Reads the landscape of a report. Of one constant the totals are a list with one list there; a
+    plain list, and a list for each value, are taken too."""
     axes, values, totals = (landscape[name] for name in ("axes", "values", "totals"))
     if len(axes) == 1:
         totals = [[it for row in totals for it in (row if isinstance(row, list) else [row])]]

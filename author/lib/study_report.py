@@ -49,25 +49,25 @@ def opening(report):
 
 
 def exactness(report):
-    """Returns what is exact and what was only sought."""
+    """Returns what is exact, what is not, and what is an estimate."""
     settings, schedule = report["settings"], report["schedule"]
     exact = (f"<strong>Exact:</strong> the ranking of the box. Of its {count(settings['box'])} "
              f"settings, each that assembles played all {count(schedule['fights'])} fights of the "
              f"schedule, and the certificate was checked: <code>{text(report['check'])}</code>.")
     if settings["sought"]:
-        place = (f"<strong>Only sought:</strong> the place of the box. A climb from START, in "
-                 f"{count(settings['seek_fights'])} fights, chose these {count(settings['box'])} "
-                 f"of the template's {count(settings['template'])} settings. A better one may lie "
-                 "outside the box.")
+        box = ("<strong>Not exact:</strong> where the box is. A climb from START, in "
+               f"{count(settings['seek_fights'])} fights, chose these {count(settings['box'])} of "
+               f"the template's {count(settings['template'])} settings. A better one may lie "
+               "outside the box.")
     else:
-        place = ("<strong>Exact, too:</strong> the first of all. The box is the whole template of "
-                 f"{count(settings['template'])} settings, so none has a greater tuned total than "
-                 "the first of the ranking.")
+        box = ("<strong>Exact, too:</strong> the best setting. The box is the whole template of "
+               f"{count(settings['template'])} settings, so none has a greater tuned total than "
+               "the first of the ranking.")
     fresh = ("<strong>An estimate:</strong> the percent in fresh fights. The winner did best in "
              "the fresh fights of the ranking below; then it and START played others, which alone "
              "count here.")
     return section("What is exact", "<ul>" + "".join(
-        f"<li>{said}</li>" for said in (exact, place, fresh)) + "</ul>")
+        f"<li>{said}</li>" for said in (exact, box, fresh)) + "</ul>")
 
 
 def tuned_rows(both, greatest):

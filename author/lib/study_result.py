@@ -29,7 +29,8 @@ class Box:
 
     def landscape(self, winner):
         """Returns the totals over the first two constants, with the others as the winner has them:
-        for each value of the first a list of those of the second. One constant is one list."""
+        for each value of the first a list of those of the second. Of one constant they are a list
+        with one list."""
         axes, own = self.template.names[:2], self.template.settings[winner]
         totals = [None if math.isnan(total) else total
                   for setting, total in zip(self.template.settings, self.totals())

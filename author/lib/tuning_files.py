@@ -227,7 +227,7 @@ def cap(points, fights):
     return fights.greatest - sum((3 - made) * fights[i].weight for i, made in points.items())
 
 
-def said_of_places(exact, wanted):
+def said_of_ranks(exact, wanted):
     """Says how many of the first of a ranking are exact, though settings were dropped."""
     said = "the first of the ranking is exact" if exact == 1 else (
         f"the first {exact} of the ranking are exact")

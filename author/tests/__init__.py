@@ -1,1 +1,21 @@
-"""Tries the commands for authors on the examples: `python3 -m author.tests.run`."""
+"""Tries the commands for authors on the examples: `python3 -m author.tests.run`, or `make tools`.
+
+run              the stored results (expected/), helps, closed streams, Ctrl-C; and all below
+refusals         files and words that the commands refuse
+warriors         `cwtune-warrior` and `cwtune-holdout`
+varying          `cwtune-vary` and `cwtune-seek`
+origins          certificates with their CERT.inputs, and inputs of another tuning
+studying         `cwtune-study`
+study_refused    what it refuses, for `studying`
+spreading        `cwtune-spread`
+merging          `cwtune-spread` with GNU parallel, and with what the jobs of a cluster leave
+sharing          the checks of `cwtune-spread`
+reporting        the page of a study
+
+Each of them but `run` and `study_refused` has a function `trials`. It yields the names of what was
+tried, and for each a list of what was wrong, which `run` counts. What a module tries in a folder of
+its own is named after its title and its function, as `cwtune-spread, folders: two at once`.
+
+Their libraries: `commands` runs a command, `spread_place` and `study_place` make the folders of two
+commands, and `report_samples` has the reports of `reporting`.
+"""

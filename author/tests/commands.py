@@ -1,6 +1,8 @@
 """Runs the commands for authors, as the trials do."""
 import pathlib, re, subprocess, sys, tempfile
 
+from author.lib.endings import Fault
+
 AUTHOR = pathlib.Path(__file__).resolve().parents[1]
 EXAMPLES = AUTHOR.parent / "examples"
 TUNING = EXAMPLES / "tuning"
@@ -37,5 +39,6 @@ def played(title, place_in, trials):
             try:
                 for part, wrong in plays(place_in(folder)):
                     yield f"{name}: {part}", wrong
-            except (OSError, ValueError, LookupError, subprocess.TimeoutExpired) as fault:
+            except (Fault, OSError, ValueError, LookupError,
+                    subprocess.TimeoutExpired) as fault:
                 yield name, [repr(fault)]

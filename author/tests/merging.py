@@ -1,7 +1,4 @@
-"""Plays `cwtune-spread` with GNU parallel, and with what the jobs of a cluster leave.
-
-`run.py` counts what `trials` yields, as that of `spreading.py`.
-"""
+"""Plays `cwtune-spread` with GNU parallel, and with what the jobs of a cluster leave."""
 import argparse, os, subprocess
 from unittest import mock
 
@@ -10,7 +7,7 @@ from gate.inputs import RULES
 from gate.tally import compare
 
 from .commands import EXAMPLES, played
-from .spreading import DECOY, RANKED, Place, write_ranked
+from .spread_place import DECOY, RANKED, Place, write_ranked
 
 
 class Folder:

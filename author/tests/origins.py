@@ -1,15 +1,12 @@
-"""Gives the commands certificates with their CERT.inputs, and files and rules of another tuning.
-
-`run.py` counts what `trials` yields: names, and for each a list of what was wrong.
-"""
-import os, pathlib, tempfile
+"""Gives the commands certificates with their CERT.inputs, and files and rules of another tuning."""
+import os
 
 from author.lib.program import run_program
 from gate import cert_inputs
 from gate.play import Place
 from gate.tally import compare
 
-from .commands import run
+from .commands import played, run
 
 FILES = {
     "t.red": ";@tune K 0 1 1 0\nJMP 1-K\n",
@@ -46,51 +43,49 @@ def note(why):
     return f"note: {why}, so files and rules cannot be compared with the tuning's\n"
 
 
-def command(program, words, folder):
-    """Runs a command, with the program if it takes one."""
+def command(place, words, below="."):
+    """Runs a command in the place, or in a folder below it, with the program if it takes one."""
     name, *rest = words.split()
-    own = [] if name == "cwtune-landscape" else ["--program", program]
-    return run(name, *own, *rest, folder=folder)
+    own = [] if name == "cwtune-landscape" else ["--program", place.program]
+    return run(name, *own, *rest, folder=place.folder / below)
 
 
-def readers(program, folder):
+def readers(place):
     """Runs commands whose words leave out what CERT.inputs says."""
-    place = Place(program, folder, FILES)
     place.run(["tune", "--all", *TUNE], keep=True)
-    yield compare("cwtune-holdout by CERT.inputs", (0, GAIN, ""), command(program, HOLDOUT, folder))
-    status, out, err = command(program, "cwtune-scores cert", folder)
+    yield compare("cwtune-holdout by CERT.inputs", (0, GAIN, ""), command(place, HOLDOUT))
+    status, out, err = command(place, "cwtune-scores cert")
     yield compare("cwtune-scores by CERT.inputs", (0, True, ""),
                   (status, "START, setting 0, total 15, 1 less than the best K=0\n" in out, err))
-    status, out, err = command(program, "cwtune-warrior t.red cert", folder)
+    status, out, err = command(place, "cwtune-warrior t.red cert")
     line = ";strategy cwtune: setting 1 of 2, total 16; total of START 15\n"
     yield compare("cwtune-warrior by CERT.inputs", (0, True, ""), (status, line in out, err))
-    (folder / "below").mkdir()
-    status, out, err = command(program, "cwtune-scores ../cert", folder / "below")
+    (place.folder / "below").mkdir()
+    status, out, err = command(place, "cwtune-scores ../cert", "below")
     yield compare("in another folder", (0, ""), (status, err))
     for words, line in OTHERS:
-        yield compare(words, (2, "", f"error: {line}\n"), command(program, words, folder))
-    (folder / "s.csv").rename(folder / "moved.csv")
+        yield compare(words, (2, "", f"error: {line}\n"), command(place, words))
+    (place.folder / "s.csv").rename(place.folder / "moved.csv")
     yield compare("a schedule that has moved", (2, "", "cwtune-scores: error: give SCHEDULE: the "
                   "schedule of the tuning is not there\n"),
-                  command(program, "cwtune-scores cert", folder))
+                  command(place, "cwtune-scores cert"))
     place.write("t.red", FILES["other.red"])
     yield compare("a template that was changed", (2, "", "error: t.red is not the template of the "
-                  "tuning\n"), command(program, HOLDOUT, folder))
+                  "tuning\n"), command(place, HOLDOUT))
 
 
-def names(program, folder):
+def names(place):
     """Tunes against a warrior whose name has what other readers take for a line end."""
     odd = "a\rb\x0cc\x85d\u2028.red"
-    place = Place(program, folder, FILES | {odd: FILES["imp.red"]})
+    place.write(odd, FILES["imp.red"])
     end = place.run(["tune", "--all", *TUNE[:-1], odd], keep=True)
     yield compare("the gate knows its CERT.inputs", ["cert"], sorted(end.files))
     yield compare("a name with line ends of others", (0, GAIN, ""),
-                  command(program, HOLDOUT, folder))
+                  command(place, HOLDOUT))
 
 
-def unknown(program, folder):
+def unknown(place):
     """Runs commands without a CERT.inputs that can be believed."""
-    place = Place(program, folder, FILES)
     place.run(["tune", "--all", *TUNE], keep=True)
     own = place.read("cert.inputs")
     given = f"{HOLDOUT} --core=800 --schedule s.csv dat.red imp.red"
@@ -100,36 +95,38 @@ def unknown(program, folder):
         ("another certificate's", own.replace(b"\ncert ", b"\ncert 1"),
          "is of another certificate"),
     ]:
-        (folder / "cert.inputs").unlink(missing_ok=True)
+        (place.folder / "cert.inputs").unlink(missing_ok=True)
         if text:
             place.write("cert.inputs", text)
         said = note(f"cert.inputs {why}")
-        yield compare(f"CERT.inputs: {name}", (0, GAIN, said), command(program, given, folder))
+        yield compare(f"CERT.inputs: {name}", (0, GAIN, said), command(place, given))
         for words, missing in [(HOLDOUT, "OPPONENT.."), ("cwtune-scores cert", "SCHEDULE")]:
             line = f"{words.split()[0]}: error: give {missing}: cert.inputs {why}\n"
             yield compare(f"CERT.inputs: {name}, no {missing}", (2, "", line),
-                          command(program, words, folder))
+                          command(place, words))
 
 
-def writers(program, folder):
+def spread(place, *words):
+    return run("cwtune-spread", "--program", place.program, *words, folder=place.folder)
+
+
+def writers(place):
     """Has `cwtune-spread` write what `tune` writes."""
-    place = Place(program, folder, FILES)
-    version = run_program(program, "--version").stdout.decode().removeprefix("cwtune ").strip()
+    said = run_program(place.program, "--version").stdout.decode()
+    version = said.removeprefix("cwtune ").strip()
     for words in [["--all", *TUNE], TUNE]:
-        status = run("cwtune-spread", "--program", program, "--jobs=2", *words, folder=folder)[0]
-        wanted = cert_inputs.text_of(["tune", *words], folder, version)
+        status = spread(place, "--jobs=2", *words)[0]
+        wanted = cert_inputs.text_of(["tune", *words], place.folder, version)
         yield compare(f"cwtune-spread {words[0]}", (0, wanted),
                       (status, place.read("cert.inputs")))
     yield compare("cwtune-spread leaves nothing else", sorted([*FILES, "cert", "cert.inputs"]),
-                  sorted(os.listdir(folder)))
+                  sorted(os.listdir(place.folder)))
     place.write("cert.inputs", "a text\n")
-    status, out, err = run("cwtune-spread", "--program", program, *TUNE, folder=folder)
     yield compare("cwtune-spread keeps another text",
                   (2, "", "error: CERT.inputs is a text of another kind, and is not overwritten: "
-                   "cert.inputs\n"), (status, out, err))
+                   "cert.inputs\n"), spread(place, *TUNE))
 
 
 def trials(program):
-    for plays in [readers, names, unknown, writers]:
-        with tempfile.TemporaryDirectory() as folder:
-            yield from plays(program, pathlib.Path(folder))
+    return played("CERT.inputs", lambda folder: Place(program, folder, FILES), [
+        readers, names, unknown, writers])

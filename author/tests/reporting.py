@@ -1,7 +1,4 @@
-"""Makes pages of reports, and reads them as a browser would.
-
-`run.py` counts what `trials` yields: names, and for each a list of what was wrong.
-"""
+"""Makes pages of reports, and reads them as a browser would."""
 import copy, html.parser, re
 from xml.etree import ElementTree
 

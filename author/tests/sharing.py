@@ -1,16 +1,13 @@
 """Plays the checks of `cwtune-spread`, in shares: kills them and starts them again, damages what
 they check, and gives them what they have to refuse.
-
-`run.py` counts what `trials` yields, as that of `spreading.py`.
 """
 import os, random, re, signal, subprocess
 
 from gate import inputs
-from gate.inputs import RULES
 from gate.tally import compare
 
 from .commands import EXAMPLES, SECONDS, played
-from .spreading import DECOY, Place
+from .spread_place import DECOY, SMALL, Place
 
 ONLY = ["--check-only", *DECOY]
 
@@ -160,8 +157,7 @@ def with_a_tuning(place):
 def liars(place):
     """Runs stand-ins for `cwtune` whose shares differ in what they name, or have no verdict."""
     place.write("x.red", inputs.FILES["imps.red"])
-    words = [*RULES, "x.red", "both.csv", "CERT", "dat.red", "imp.red"]
-    place.tune(*words)
+    place.tune(*SMALL)
     other = f"""case "$*" in *share=2/3*) {place.program} "$@" | sed 's/total 4/total 5/';;
 *) {place.program} "$@";; esac\n"""
     fails = f"""case "$*" in *share=2/3*) echo "failed: OutOfMemory" >&2; exit 3;;
@@ -178,7 +174,7 @@ def liars(place):
         place.write("liar", b"#!/bin/bash\n" + text.encode())
         (place.folder / "liar").chmod(0o755)
         yield compare(name, (3, "", said), place.spread("--program=./liar", "--anew", "--shares=3",
-                                                        "--check-only", *words))
+                                                        "--check-only", *SMALL))
 
 
 def run_jobs(place, *words):

@@ -1,7 +1,4 @@
-"""Gives `cwtune-study` what it has to refuse: other inputs, other folders, wrong words.
-
-`studying.py` yields what these trials find.
-"""
+"""Gives `cwtune-study` what it has to refuse: other inputs, other folders, wrong words."""
 import fcntl, os, time
 
 from gate.tally import compare

@@ -1,7 +1,5 @@
 """Plays `cwtune-study`: compares its report with the other commands, kills it and starts it again,
 and gives it what it has to refuse.
-
-`run.py` counts what `trials` yields: names, and for each a list of what was wrong.
 """
 import os, random, shutil, signal, subprocess, time
 

@@ -1,8 +1,5 @@
-"""Plays `cwtune-vary` and `cwtune-seek` with the program.
-
-`run.py` counts what `trials` yields: names, and for each a list of what was wrong.
-"""
-import os, pathlib, signal, subprocess, time
+"""Plays `cwtune-vary` and `cwtune-seek` with the program."""
+import os, signal, subprocess, time
 
 from author.lib import grid
 from gate.play import Place
@@ -62,13 +59,9 @@ def templates(place):
 
 def run_bytes(place, name, *words):
     """Returns the status and the output of `cwtune-vary`, line ends as they are."""
-    done = subprocess.run([*play_words(place), name, *words], cwd=place.folder, capture_output=True)
+    done = subprocess.run(command("cwtune-vary", "--program", place.program, name, *words),
+                          cwd=place.folder, capture_output=True)
     return done.returncode, done.stdout.decode()
-
-
-def play_words(place):
-    return ["python3", str(pathlib.Path(grid.__file__).parents[1] / "cwtune-vary"), "--program",
-            place.program]
 
 
 def refusals(place):

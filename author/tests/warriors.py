@@ -1,16 +1,11 @@
-"""Plays `cwtune-warrior` and `cwtune-holdout` with the program.
-
-`run.py` counts what `trials` yields: names, and for each a list of what was wrong.
-"""
-import pathlib, tempfile
-
+"""Plays `cwtune-warrior` and `cwtune-holdout` with the program."""
 from author.lib import tuning_files, warrior
 from author.lib.program import load_of
 from gate.play import Place
 from gate.tally import compare
 
 from . import origins
-from .commands import TUNING, run
+from .commands import TUNING, played, run
 
 FIGHT = "opponent,position,first\n0,4000,c\n"
 # Templates with range lines at unusual places, and how many settings they have.
@@ -28,28 +23,28 @@ CHAIN = b";@tune K 3 4 1 3\n" + b"".join(b"e%d EQU e%d\n" % (n, n + 1) for n in 
     b"e16 EQU K\nDAT e1\n")
 
 
-def other_settings(program, text, count, folder):
+def other_settings(place, text, count):
     """Returns the settings of a template of which `text_of` makes another warrior."""
-    path, made = folder / "t.red", folder / "made.red"
+    path, made = place.folder / "t.red", place.folder / "made.red"
     path.write_bytes(text)
     template, wrong = tuning_files.Template(path), []
     for setting in range(len(template.settings)):
         made.write_bytes(warrior.text_of(text, template, setting))
-        wanted = load_of(program, "--setting", str(setting), str(path))
-        came = load_of(program, str(made))
+        wanted = load_of(place.program, "--setting", str(setting), str(path))
+        came = load_of(place.program, str(made))
         if came != wanted or not wanted[0]:
             wrong.append(f"setting {setting}: expected {wanted}, came {came}")
     return wrong + [f"{len(template.settings)} settings"] * (len(template.settings) != count)
 
 
-def warriors(program, folder):
+def warriors(place):
     """Makes the text of every setting of the examples, and of those of `PLACES`."""
     for name, count in [("step", 21), ("decoy", 126), ("stone", 273)]:
         text = (TUNING / f"{name}.red").read_bytes()
-        yield f"warriors of {name}", other_settings(program, text, count, folder)
+        yield f"warriors of {name}", other_settings(place, text, count)
     for name, (text, count) in PLACES.items():
-        yield f"ranges: {name}", other_settings(program, text, count, folder)
-    came = run("cwtune-warrior", "--program", program, "step.red", "step.cert")
+        yield f"ranges: {name}", other_settings(place, text, count)
+    came = run("cwtune-warrior", "--program", place.program, "step.red", "step.cert")
     found = tuning_files.Certificate(TUNING / "step.cert")
     start = found.total_of(tuning_files.Template(TUNING / "step.red").start, found.fights(None))
     line = (f";strategy cwtune: setting {found.best} of 21, total {found.total}; "
@@ -62,8 +57,9 @@ def warriors(program, folder):
          "Asm line "),
         ("refused.red", b"DAT 1/0\n", "refused: setting 0 does not assemble: Asm line 1 "),
     ]:
-        (folder / name).write_bytes(text)
-        came = run("cwtune-warrior", "--program", program, name, "--setting", "0", folder=folder)
+        place.write(name, text)
+        came = run("cwtune-warrior", "--program", place.program, name, "--setting", "0",
+                   folder=place.folder)
         yield f"{name} is refused", [] if (came[:2] == (1, "") and came[2].startswith(said)
                                            ) else [repr(came)]
     for words, said in [
@@ -76,12 +72,12 @@ def warriors(program, folder):
            f"argument --setting: {word} is neither an index from 0 nor `start`")
           for word in ["x", "-1"]),
     ]:
-        came = run("cwtune-warrior", "--program", program, *words)
+        came = run("cwtune-warrior", "--program", place.program, *words)
         yield f"cwtune-warrior {' '.join(words)}", [] if (
             came[:2] == (2, "") and came[2].endswith(f"error: {said}\n")) else [repr(came)]
 
 
-def foreign(program, folder):
+def foreign(place):
     """Makes texts with lines that pMARS does not take."""
     for name, text, said in [
         ("nop.red", b"DAT 0\nx: nop\n", "note: pMARS refuses line 3: NOP without an operand\n"),
@@ -89,17 +85,18 @@ def foreign(program, folder):
         ("wide.red", b"DAT 0\nDAT 1" + b" " * 251 + b"\n",
          "note: pMARS cuts line 3 at 255 bytes\n"),
     ]:
-        (folder / name).write_bytes(text)
-        came = run("cwtune-warrior", "--program", program, name, "--setting", "0", folder=folder)
+        place.write(name, text)
+        came = run("cwtune-warrior", "--program", place.program, name, "--setting", "0",
+                   folder=place.folder)
         yield compare(name, (0, said), (came[0], came[2]))
 
 
-def gains(program, folder):
+def gains(place):
     """Plays fresh fights of a setting that lives, and of START, which dies against an imp."""
     for name, text in [("t.red", ";@tune K 0 1 1 0\nJMP 1-K\n"), ("dat.red", "DAT 0\n"),
                        ("imp.red", "MOV 0, 1\n"), ("one.csv", FIGHT),
                        ("two.csv", "opponent,position,first,weight\n0,4000,c,5\n1,4000,c,1\n")]:
-        (folder / name).write_text(text)
+        place.write(name, text)
     for schedule, opponents, expected in [
         ("one.csv", ["imp.red"],
          "setting 1, rank 1: tuning 1 of 3 (33.3%), fresh 20 of 60 (33.3% +- 0.0) K=1\n"
@@ -112,14 +109,13 @@ def gains(program, folder):
          "START, setting 0: tuning 15 of 18 (83.3%), fresh 83.3% +- 0.0 K=0\n"
          "over START, setting 1: +5.6% +- 0.0, a gain\n"),
     ]:
-        Place(program, folder, {}).run(["tune", "--all", "t.red", schedule, "cert", *opponents],
-                                       keep=True)
+        place.run(["tune", "--all", "t.red", schedule, "cert", *opponents], keep=True)
         words = ["--schedule", schedule, "--rounds", "20", "t.red", "cert", *opponents]
-        came = run("cwtune-holdout", "--program", program, *words, folder=folder)
+        came = run("cwtune-holdout", "--program", place.program, *words, folder=place.folder)
         yield compare(f"a gain by {schedule}", (0, expected, ""), came)
 
 
-def faults(program, folder):
+def faults(place):
     """Runs commands with stand-ins for `cwtune` that note something, and that are killed."""
     words = ["cwtune-warrior", str(TUNING / "step.red"), "--setting=3"]
     for name, text, end in [
@@ -127,65 +123,61 @@ def faults(program, folder):
          (2, "", "error: a fault\n  a note\n")),
         ("dies", "kill -9 $$", (3, "", "failed: ./dies ended with status -9\n")),
     ]:
-        (folder / name).write_text(f"#!/bin/sh\n{text}\n")
-        (folder / name).chmod(0o755)
+        place.write(name, f"#!/bin/sh\n{text}\n")
+        (place.folder / name).chmod(0o755)
         yield compare(f"a program that {name}", end,
-                      run(*words, f"--program=./{name}", folder=folder))
+                      run(*words, f"--program=./{name}", folder=place.folder))
 
 
-def holdouts(program, folder):
+def holdouts(place):
     """Plays fresh fights of two warriors that win them all, since the other one dies at once."""
-    (folder / "t.red").write_text(";@tune K 1 2 1 1\nMOV 0, K\n")
-    (folder / "s.csv").write_text(FIGHT)
-    (folder / "dat.red").write_text("DAT 0\n")
-    Place(program, folder, {}).run(["tune", "--all", "t.red", "s.csv", "cert", "dat.red"],
-                                   keep=True)
-    words = ["--program", program, "--rounds", "20", "t.red", "cert", "dat.red"]
+    place.write("t.red", ";@tune K 1 2 1 1\nMOV 0, K\n")
+    place.write("s.csv", FIGHT)
+    place.write("dat.red", "DAT 0\n")
+    place.run(["tune", "--all", "t.red", "s.csv", "cert", "dat.red"], keep=True)
+    words = ["--program", place.program, "--rounds", "20", "t.red", "cert", "dat.red"]
     expected = "".join(f"setting {v}, rank {v + 1}: tuning 3 of 3 (100.0%), fresh 60 of 60 "
                        f"(100.0% +- 0.0) K={v + 1}\n" for v in (0, 1))
     yield compare("cwtune-holdout", (
         0, f"{expected}setting 0 is START: the tuning found nothing better\n", ""),
-        run("cwtune-holdout", *words, folder=folder))
-    came = run("cwtune-holdout", "--against", "dat.red", *words, folder=folder)
+        run("cwtune-holdout", *words, folder=place.folder))
+    came = run("cwtune-holdout", "--against", "dat.red", *words, folder=place.folder)
     # Of two warriors that die at once the one that moves second wins: ten of twenty fights.
     yield compare("cwtune-holdout --against a warrior", (
         0, f"{expected}dat.red: fresh 30 of 60 (50.0% +- 11.5)\n"
         "over dat.red, setting 0: +50.0% +- 11.5, a gain\n", ""), came)
-    came = run("cwtune-holdout", *words[:-1], "none.red", folder=folder)
+    came = run("cwtune-holdout", *words[:-1], "none.red", folder=place.folder)
     yield "cwtune-holdout with no opponent", [] if (
         came[:2] == (3, "") and came[2].startswith("failed: none.red: ")) else [repr(came)]
 
 
-def places(program, folder):
-    """Plays fresh fights of a setting whose place is exact, and of one that a dropped setting may
+def ranks(place):
+    """Plays fresh fights of a setting whose rank is exact, and of one that a dropped setting may
     come before."""
     for name, text in [("t.red", ";@tune K 0 2 1 1\nJMP 1-K\n"), ("imp.red", "MOV 0, 1\n"),
                        ("s.csv", FIGHT + "0,4100,c\n0,4200,o\n")]:
-        (folder / name).write_text(text)
-    words = ["--program", program, "--rounds", "20", "--schedule", "s.csv", "t.red", "cert",
+        place.write(name, text)
+    words = ["--program", place.program, "--rounds", "20", "--schedule", "s.csv", "t.red", "cert",
              "imp.red"]
-    for options, ranks, said in [
+    for options, ranked, said in [
         ([], ["setting 1, rank 1", "setting 0"],
          "1 setting was dropped, so only the first of the ranking is exact; cwtune tune --keep 5 "
          "makes the first 5 exact"),
         (["--keep=3"], ["setting 1, rank 1", "setting 0, rank 2", "setting 2, rank 3"],
          "setting 1 is START: the tuning found nothing better"),
     ]:
-        Place(program, folder, {}).run(["tune", *options, "t.red", "s.csv", "cert", "imp.red"],
-                                       keep=True)
-        status, out, _ = run("cwtune-holdout", *words, folder=folder)
+        place.run(["tune", *options, "t.red", "s.csv", "cert", "imp.red"], keep=True)
+        status, out, _ = run("cwtune-holdout", *words, folder=place.folder)
         lines = out.splitlines()
-        yield compare(f"places in a certificate of tune {options}", (0, ranks, said), (
+        yield compare(f"ranks in a certificate of tune {options}", (0, ranked, said), (
             status, [line.partition(":")[0] for line in lines if ": tuning " in line], lines[-1]))
-    (folder / "cert").write_text("cwcert,1,3\nnone,-,9\n" + "".join(
-        f"cap,{v},0:0\n" for v in range(3)))
+    place.write("cert", "cwcert,1,3\nnone,-,9\n" + "".join(f"cap,{v},0:0\n" for v in range(3)))
     for words in [["cwtune-holdout", *words], ["cwtune-warrior", "t.red", "cert"]]:
         yield compare(f"{words[0]} of a certificate without a best setting", (
             1, "", "refused: cert: it names no best setting, since none reaches the floor 9\n"),
-            run(*words, folder=folder))
+            run(*words, folder=place.folder))
 
 
 def trials(program):
-    for plays in [warriors, foreign, faults, holdouts, gains, places]:
-        with tempfile.TemporaryDirectory() as folder:
-            yield from plays(program, pathlib.Path(folder))
+    return played("cwtune-warrior and cwtune-holdout", lambda folder: Place(program, folder, {}), [
+        warriors, foreign, faults, holdouts, gains, ranks])

@@ -6,12 +6,15 @@ reads schedules with and without weights and certificates of both versions itsel
 program is a server build of pMARS, which assembles and fights in place of cwtune.
 
 It prints a certificate on standard output. Its own search goes from the last setting to the first,
-in each from the last fight to the first, and gives a setting up as soon as its cap no longer beats
-the best so far. With --like-tune it searches in the order of `cwtune tune` (docs/SEARCH.md), so
-that the report and the certificate have to be the same bytes. With --check it prints the line of
-`cwtune check` on a certificate.
+in each from the last fight to the first, and drops a setting as soon as its cap no longer beats the
+lead. With --like-tune it searches in the order of `cwtune tune` (docs/SEARCH.md), so that the
+report and the certificate have to be the same bytes. With --check it prints the line of `cwtune
+check` on a certificate.
 
 Nothing here has to be trusted: `cwtune check` says whether what it writes is right.
+
+It is one file on purpose: it shares no code with the commands of `author/`, and runs wherever
+Python does. So `RULES` and `MEANING` are copies of what `author/lib/program.py` has.
 """
 import argparse, collections, csv, io, itertools, pathlib, re, subprocess, sys, tempfile
 
@@ -185,7 +188,7 @@ def ask(words, text="", refusal=None):
 
 
 class Tuning:
-    """A template, the fights that each of its settings plays, and the best setting so far."""
+    """A template, the fights that each of its settings plays, and the lead, `best`."""
 
     def __init__(self, asked):
         self.machine = (Pmars if asked.pmars else Cwtune)(asked.program, asked)
@@ -239,14 +242,14 @@ class Tuning:
         return self.best is None or (cap, -v) > (self.total, -self.best)
 
     def play(self, v, order):
-        """Plays the fights of setting v in an order until its cap no longer beats the best."""
+        """Plays the fights of setting v in an order until its cap no longer beats the lead."""
         items = []
         for i in order:
             if self.beats(self.cap(items), v):
                 items.append((i, self.fight(v, i)))
         self.played += len(items)
         self.rows[v], self.caps[v] = ("cap", sorted(items)), self.cap(items)
-        # A cap that still beats the best counts all fights: it is the total.
+        # A cap that still beats the lead counts all fights: it is the total.
         if self.beats(self.caps[v], v):
             self.best, self.total = v, self.caps[v]
 

@@ -64,7 +64,7 @@ def refuse_each(library, program, test):
         if came != PASSED and came not in REFUSED:
             wrong.append(f"request {number} refused: came {came}")
     if ended == 0:
-        wrong.append("no refused request was told")
+        wrong.append("no run ended out of memory")
     return requests, wrong
 
 

@@ -41,7 +41,7 @@ def main():
             came = list(pool.map(lambda one: refuse_each(program, library, *one[1:]), runs))
         again = list(once_each.trials(program, library))
     total = sum(requests for requests, _, _ in came)
-    trials = [(name, wrong + ["no refused request was told"] * (refused == 0))
+    trials = [(name, wrong + ["no run ended out of memory"] * (refused == 0))
               for (name, *_), (_, refused, wrong) in zip(runs, came)]
     return tally([*trials, *again], f"{total} requests refused: ")
 
