@@ -27,8 +27,8 @@ abbrev pub all_of : {A B : Type 0} → (A → Option B) → List A → Option (L
 all_of f [] = Some []
 all_of f (x ∷ xs) = option_and_then (λ y. option_map (λ ys. y ∷ ys) (all_of f xs)) (f x)
 
--- If a ninth counter would be joined to a name, the line is spoiled: its labels and what comes after
--- them are dropped.
+-- If a ninth counter would be joined to a name, the line is spoiled: its labels and what comes
+-- after them are dropped.
 abbrev pub or_spoiled : RawLine → Option (List (List Token)) → Option (List Token) → RawLine
 or_spoiled raw (Some labels) (Some rest) = record raw { labels = labels; rest = rest }
 or_spoiled raw _ _ = record raw { labels = []; rest = []; spoiled = true }
