@@ -1,6 +1,6 @@
 //! Tests of `rc_instr` (`instructions`), `rc_text` (`tokens`), and `rc_expand` and `rc_asm`
-//! (`assembly`); `fault_texts` has what the faults of all four print, and `memory` the calls that
-//! allocate.
+//! (`assembly`); `fault_texts` has what the faults of all four print, `memory` the calls that
+//! allocate, and `fixtures` what these share.
 //!
 //! They show that each public call can succeed, and what neither a clause says nor a run of the
 //! program shows, such as the texts of faults. What a run shows is a case in `gate/cases/`. They
@@ -12,6 +12,8 @@
 mod assembly;
 #[cfg(test)]
 mod fault_texts;
+#[cfg(test)]
+mod fixtures;
 #[cfg(test)]
 mod instructions;
 #[cfg(test)]

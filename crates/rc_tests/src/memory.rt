@@ -4,8 +4,10 @@
 //! `make test` also runs each of these tests with its first, second and so on request for memory
 //! refused (gate/refuse/growth.py). It then ends with the same results, or with the error
 //! `OutOfMemory` of the call itself, in no other variant.
-use crate::assembly::expansion::lines_of;
-use crate::assembly::{Case, assembled};
+use crate::assembly::lines::lines_of;
+use crate::fixtures::{Case, constant_name, load_of};
+use rc_asm::{AsmFault, AsmKind, assemble};
+use rc_expand::Constants;
 use rc_instr::{LoadFault, Rules, WarriorError, read_loadfile, write_loadfile};
 use std::alloc::Global;
 use std::test::Fail;
@@ -195,6 +197,29 @@ fn expand_gives_the_lines(rt: HostRuntime) -> Result<(), Fail> {
         );
     }
     Ok(())
+}
+
+// Returns the text of a fault. Out of memory is an error.
+fn fault_text(alloc: Global, fault: AsmFault) -> Result<Vec<u8>, Fail> {
+    if fault.kind == AsmKind::OutOfMemory {
+        return Err(Fail::from(fault));
+    }
+    Ok(format!(in alloc; "{fault}")?.into_bytes())
+}
+
+// Assembles `source` under the standard rules with the constant K = 7. Returns the load file of its
+// warrior, or the text of its fault.
+fn assembled(alloc: Global, source: &[u8]) -> Result<Vec<u8>, Fail> {
+    let names = constant_name(alloc)?;
+    let constants = Constants {
+        names: &names,
+        values: &[7],
+    };
+    let rules = Rules::standard();
+    match assemble(alloc, source, &constants, &rules) {
+        Ok(warrior) => load_of(alloc, &warrior, &rules),
+        Err(fault) => fault_text(alloc, fault),
+    }
 }
 
 #[test]

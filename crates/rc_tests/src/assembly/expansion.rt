@@ -1,82 +1,10 @@
 //! Texts, and the lines that they expand to or their faults.
-
-use crate::assembly::{Case, one_name, push_times};
-use rc_expand::{Constants, ExpandKind, Line, LineWord, expand, name_of};
-use rc_instr::Rules;
-use rc_text::{Kind, Token};
-use std::alloc::Global;
+use crate::assembly::lines::lines_of;
+use crate::fixtures::{Case, push_times};
 use std::test::Fail;
 
-// Appends each token after a blank: a decimal as its value, a name with its counters.
-fn push_tokens(
-    alloc: Global,
-    out: &mut Vec<u8>,
-    source: &[u8],
-    tokens: &[Token],
-) -> Result<(), Fail> {
-    for token in tokens {
-        out.push(b' ')?;
-        match token.kind {
-            Kind::Number(value) => {
-                out.extend_from_slice(format!(in alloc; "{}", value)?.as_bytes())?;
-            }
-            _ => out.extend_from_slice(&name_of(alloc, source, token)?)?,
-        }
-    }
-    Ok(())
-}
-
-// Returns the text that a line of such a word prints: a minus for code.
-fn word_text(word: LineWord) -> &'static [u8] {
-    match word {
-        LineWord::Bare => b"",
-        LineWord::Code => b" -",
-        LineWord::Org => b" ORG",
-        LineWord::End => b" END",
-        LineWord::Assert => b" ;assert",
-    }
-}
-
-// Appends a line: its number, its labels, a colon, its word, and its tokens.
-fn push_line(alloc: Global, out: &mut Vec<u8>, source: &[u8], line: &Line) -> Result<(), Fail> {
-    out.extend_from_slice(format!(in alloc; "{}", line.number)?.as_bytes())?;
-    push_tokens(alloc, out, source, line.labels.as_slice())?;
-    out.push(b':')?;
-    out.extend_from_slice(word_text(line.word))?;
-    push_tokens(alloc, out, source, line.tokens.as_slice())?;
-    out.push(b'\n')?;
-    Ok(())
-}
-
-fn lines_text(alloc: Global, source: &[u8], lines: &[Line]) -> Result<Vec<u8>, Fail> {
-    let mut out = Vec::new(alloc);
-    for line in lines {
-        push_line(alloc, &mut out, source, line)?;
-    }
-    Ok(out)
-}
-
-// Expands `source` under the standard rules with the constant K = 7. Returns its lines as text, or
-// the text of its fault. Out of memory is an error.
-pub(crate) fn lines_of(alloc: Global, source: &[u8]) -> Result<Vec<u8>, Fail> {
-    let names = one_name(alloc)?;
-    let constants = Constants {
-        names: &names,
-        values: &[7],
-    };
-    match expand(alloc, source, &constants, &Rules::standard()) {
-        Ok(expanded) => lines_text(alloc, source, expanded.lines.as_slice()),
-        Err(fault) => {
-            if fault.kind == ExpandKind::OutOfMemory {
-                return Err(Fail::from(fault));
-            }
-            Ok(format!(in alloc; "{fault}")?.into_bytes())
-        }
-    }
-}
-
-// Texts, and their lines.
-const LINES: [Case; 28] = [
+// Lines with labels, and names that no line defines.
+const LABELS: [Case; 5] = [
     Case {
         name: "an empty text has no lines",
         text: b"",
@@ -88,44 +16,9 @@ const LINES: [Case; 28] = [
         want: b"1 a b: - DAT a , b\n2 c:\n",
     },
     Case {
-        name: "an EQU name gives its tokens",
-        text: b"s EQU 2+3\nDAT #0, #s*2",
-        want: b"2: - DAT # 0 , # 2 + 3 * 2\n",
-    },
-    Case {
-        name: "a counter joined to a name has two digits",
-        text: b"i FOR 2\nx&i DAT #i\nROF\nJMP x01",
-        want: b"2 x01: - DAT # 1\n2 x02: - DAT # 2\n4: - JMP x01\n",
-    },
-    Case {
-        name: "each copy of a block has copies of the block in it",
-        text: b"i FOR 2\nj FOR 2\nDAT i, j\nROF\nROF",
-        want: b"3: - DAT 1 , 1\n3: - DAT 1 , 2\n3: - DAT 2 , 1\n3: - DAT 2 , 2\n",
-    },
-    Case {
-        name: "a counter is the count of the block in it",
-        text: b"i FOR 2\nFOR i\nDAT i\nROF\nROF",
-        want: b"3: - DAT 1\n3: - DAT 2\n3: - DAT 2\n",
-    },
-    Case {
-        name: "a block with no copies may have any text",
-        text: b"FOR 0\none two 9\nROF\nDAT 1",
-        want: b"4: - DAT 1\n",
-    },
-    Case {
         name: "predefined names stay",
         text: b"NOP\nDAT CURLINE, CORESIZE-1",
         want: b"1: - NOP\n2: - DAT CURLINE , CORESIZE - 1\n",
-    },
-    Case {
-        name: "the tokens of an EQU name have EQU names in them, defined later",
-        text: b"DAT x\nx EQU y\ny EQU 3",
-        want: b"1: - DAT 3\n",
-    },
-    Case {
-        name: "a text as it was posted",
-        text: b"From: x\n;redcode-94\n;name Dwarf\n;assert CORESIZE % 4 == 0\nstep EQU 4\n  ORG start\nbomb DAT #0, #0\nstart ADD #step, bomb\n  JMP start\n  END\n?",
-        want: b"4: ;assert CORESIZE % 4 == 0\n6: ORG start\n7 bomb: - DAT # 0 , # 0\n8 start: - ADD # 4 , bomb\n9: - JMP start\n10: END\n",
     },
     Case {
         name: "an ampersand before what is not a counter stays",
@@ -133,39 +26,36 @@ const LINES: [Case; 28] = [
         want: b"1 x: - & NOP 1\n",
     },
     Case {
-        name: "an opcode that a counter is joined to is another name",
-        text: b"i FOR 1\nmov&i 0\nROF",
-        want: b"2: - mov01 0\n",
+        name: "a text as it was posted",
+        text: b"From: x\n;redcode-94\n;name Dwarf\n;assert CORESIZE % 4 == 0\nstep EQU 4\n  ORG start\nbomb DAT #0, #0\nstart ADD #step, bomb\n  JMP start\n  END\n?",
+        want: b"4: ;assert CORESIZE % 4 == 0\n6: ORG start\n7 bomb: - DAT # 0 , # 0\n8 start: - ADD # 4 , bomb\n9: - JMP start\n10: END\n",
+    },
+];
+
+#[test]
+fn labels_and_unknown_names_stay(rt: HostRuntime) -> Result<(), Fail> {
+    for case in &LABELS {
+        assert_eq!(rt;
+            lines_of(rt.alloc(), case.text)?.as_slice(),
+            case.want,
+            "{}",
+            case.name
+        );
+    }
+    Ok(())
+}
+
+// Lines with EQU names.
+const EQU_NAMES: [Case; 5] = [
+    Case {
+        name: "the tokens of an EQU name have EQU names in them, defined later",
+        text: b"DAT x\nx EQU y\ny EQU 3",
+        want: b"1: - DAT 3\n",
     },
     Case {
-        name: "a counter joined to its own name",
-        text: b"i FOR 1\ni&i NOP\nROF",
-        want: b"2 i01: - NOP\n",
-    },
-    Case {
-        name: "a counter may have a colon",
-        text: b"i: FOR 1\nDAT i\nROF",
-        want: b"2: - DAT 1\n",
-    },
-    Case {
-        name: "a name with a counter joined to it is a counter itself",
-        text: b"i FOR 1\nx01 FOR 3\nDAT x&i\nROF\nROF",
-        want: b"3: - DAT 1\n3: - DAT 2\n3: - DAT 3\n",
-    },
-    Case {
-        name: "counters are joined from the outer block inwards",
-        text: b"i FOR 1\nj FOR 1\nx&i&j y&j&i NOP\nROF\nROF",
-        want: b"3 x0101: - y & j01 NOP\n",
-    },
-    Case {
-        name: "a counter among labels is replaced",
-        text: b"i FOR 1\na i b NOP\nROF",
-        want: b"2 a: - 1 b NOP\n",
-    },
-    Case {
-        name: "a counter from 1 to 12",
-        text: b"i FOR 12\nx&i\nROF\nEND",
-        want: b"2 x01:\n2 x02:\n2 x03:\n2 x04:\n2 x05:\n2 x06:\n2 x07:\n2 x08:\n2 x09:\n2 x10:\n2 x11:\n2 x12:\n4: END\n",
+        name: "an EQU name may have no tokens",
+        text: b"s EQU\nEND s",
+        want: b"2: END\n",
     },
     Case {
         name: "an EQU name may stand for a modifier with its dot",
@@ -178,29 +68,36 @@ const LINES: [Case; 28] = [
         want: b"3: - MOV . A 1 , 1\n",
     },
     Case {
-        name: "an EQU name may have no tokens",
-        text: b"s EQU\nEND s",
-        want: b"2: END\n",
-    },
-    Case {
-        name: "a label before a block with no copies stays",
-        text: b"a b FOR 0\nROF\nDAT 1",
-        want: b"1 a:\n3: - DAT 1\n",
-    },
-    Case {
         name: "an EQU line in a block with no copies defines nothing",
         text: b"FOR 0\ns EQU 1\nROF\nDAT s",
         want: b"4: - DAT s\n",
     },
+];
+
+#[test]
+fn equ_names_are_replaced(rt: HostRuntime) -> Result<(), Fail> {
+    for case in &EQU_NAMES {
+        assert_eq!(rt;
+            lines_of(rt.alloc(), case.text)?.as_slice(),
+            case.want,
+            "{}",
+            case.name
+        );
+    }
+    Ok(())
+}
+
+// Blocks, and how many copies of them there are.
+const BLOCKS: [Case; 8] = [
     Case {
-        name: "a block in a block with no copies may have a count without a value",
-        text: b"FOR 0\nFOR x\na ROF 1\nROF\nNOP",
-        want: b"5: - NOP\n",
+        name: "each copy of a block has copies of the block in it",
+        text: b"i FOR 2\nj FOR 2\nDAT i, j\nROF\nROF",
+        want: b"3: - DAT 1 , 1\n3: - DAT 1 , 2\n3: - DAT 2 , 1\n3: - DAT 2 , 2\n",
     },
     Case {
-        name: "two blocks, one after the other, may have one counter",
-        text: b"i FOR 1\nDAT i\nROF\ni FOR 1\nNOP\nROF",
-        want: b"2: - DAT 1\n5: - NOP\n",
+        name: "a counter is the count of the block in it",
+        text: b"i FOR 2\nFOR i\nDAT i\nROF\nROF",
+        want: b"3: - DAT 1\n3: - DAT 2\n3: - DAT 2\n",
     },
     Case {
         name: "a count of a constant and an EQU name",
@@ -213,6 +110,78 @@ const LINES: [Case; 28] = [
         want: b"",
     },
     Case {
+        name: "a block with no copies may have any text",
+        text: b"FOR 0\none two 9\nROF\nDAT 1",
+        want: b"4: - DAT 1\n",
+    },
+    Case {
+        name: "a block in a block with no copies may have a count without a value",
+        text: b"FOR 0\nFOR x\na ROF 1\nROF\nNOP",
+        want: b"5: - NOP\n",
+    },
+    Case {
+        name: "a label before a block with no copies stays",
+        text: b"a b FOR 0\nROF\nDAT 1",
+        want: b"1 a:\n3: - DAT 1\n",
+    },
+    Case {
+        name: "two blocks, one after the other, may have one counter",
+        text: b"i FOR 1\nDAT i\nROF\ni FOR 1\nNOP\nROF",
+        want: b"2: - DAT 1\n5: - NOP\n",
+    },
+];
+
+#[test]
+fn blocks_are_copied(rt: HostRuntime) -> Result<(), Fail> {
+    for case in &BLOCKS {
+        assert_eq!(rt;
+            lines_of(rt.alloc(), case.text)?.as_slice(),
+            case.want,
+            "{}",
+            case.name
+        );
+    }
+    Ok(())
+}
+
+// Counters, alone and joined to a name.
+const COUNTERS: [Case; 8] = [
+    Case {
+        name: "a counter may have a colon",
+        text: b"i: FOR 1\nDAT i\nROF",
+        want: b"2: - DAT 1\n",
+    },
+    Case {
+        name: "a counter among labels is replaced",
+        text: b"i FOR 1\na i b NOP\nROF",
+        want: b"2 a: - 1 b NOP\n",
+    },
+    Case {
+        name: "a counter from 1 to 12",
+        text: b"i FOR 12\nx&i\nROF\nEND",
+        want: b"2 x01:\n2 x02:\n2 x03:\n2 x04:\n2 x05:\n2 x06:\n2 x07:\n2 x08:\n2 x09:\n2 x10:\n2 x11:\n2 x12:\n4: END\n",
+    },
+    Case {
+        name: "a counter joined to its own name",
+        text: b"i FOR 1\ni&i NOP\nROF",
+        want: b"2 i01: - NOP\n",
+    },
+    Case {
+        name: "an opcode that a counter is joined to is another name",
+        text: b"i FOR 1\nmov&i 0\nROF",
+        want: b"2: - mov01 0\n",
+    },
+    Case {
+        name: "a name with a counter joined to it is a counter itself",
+        text: b"i FOR 1\nx01 FOR 3\nDAT x&i\nROF\nROF",
+        want: b"3: - DAT 1\n3: - DAT 2\n3: - DAT 3\n",
+    },
+    Case {
+        name: "counters are joined from the outer block inwards",
+        text: b"i FOR 1\nj FOR 1\nx&i&j y&j&i NOP\nROF\nROF",
+        want: b"3 x0101: - y & j01 NOP\n",
+    },
+    Case {
         name: "a name that is dropped may have more than eight counters",
         text: b"i FOR 1\nFOR 0\nx&i&i&i&i&i&i&i&i&i NOP\nROF\nROF",
         want: b"",
@@ -220,8 +189,8 @@ const LINES: [Case; 28] = [
 ];
 
 #[test]
-fn texts_have_lines(rt: HostRuntime) -> Result<(), Fail> {
-    for case in &LINES {
+fn counters_are_replaced(rt: HostRuntime) -> Result<(), Fail> {
+    for case in &COUNTERS {
         assert_eq!(rt;
             lines_of(rt.alloc(), case.text)?.as_slice(),
             case.want,

@@ -1,5 +1,5 @@
 //! Load files read and written back.
-use crate::assembly::load_of;
+use crate::fixtures::load_of;
 use rc_instr::Mode::{
     AIndirect, APostincrement, APredecrement, BIndirect, BPostincrement, BPredecrement, Direct,
     Immediate,

@@ -1,7 +1,7 @@
 //! Outlets over writers that work, take a few bytes, take none, or fail.
 ghost use Rattle.std.specs.Prelude.{◌≡◌, false};
 
-use crate::assembly::push_times;
+use crate::fixtures::push_times;
 use rc_instr::{Outlet, WriteFailed};
 use std::alloc::Global;
 use std::io;
