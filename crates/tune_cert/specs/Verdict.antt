@@ -2,7 +2,7 @@
 use Rattle.std.specs.Prelude.{◌≡◌, ◌⊎◌, ℕ, ◌<◌, List, length, slice_get, Option, Some, None, Result, Ok, Err}
 use Rattle.tables.specs.Records.{Fields}
 use Rattle.tune_problem.specs.Problem.{Problem}
-use Rattle.tune_problem.specs.Optimum.{all_fights, IsOptimum, HasTotal}
+use Rattle.tune_problem.specs.Optimum.{all_fights, IsBest}
 use Rattle.tune_problem.specs.Valid.{listed_indices, listed_total, IsVersionOf, IsValid}
 use Rattle.tune_problem.specs.declared.cert.Cert.{Cert}
 use Rattle.tune_problem.specs.declared.cert.Row.{Row}
@@ -111,7 +111,7 @@ IsFirst p records (Rejected number reason) = (c : Cert) × Spells records c × I
 
 -- An accepted certificate names the optimum and its total.
 abbrev pub IsOptimal : Problem → Verdict → Type 0
-IsOptimal p (Accepted best total) = IsOptimum p best × HasTotal p best total
+IsOptimal p (Accepted best total) = IsBest p (record { vector = best; total = total })
 IsOptimal p (Rejected number reason) = Unit {0}
 
 -- All that is promised of a verdict on records, whoever made them.

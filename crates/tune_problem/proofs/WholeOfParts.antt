@@ -10,10 +10,10 @@ use Rattle.tune_problem.specs.Parts.{part, IsPart, part_end}
 use Rattle.tune_problem.specs.Inputs.{InputsView, settings_of, warrior_of}
 use Rattle.tune_problem.proofs.PartSteps.{part_inside, part_len, part_get, whole_list}
 use Rattle.tune_problem.specs.Problem.{Problem, problem_of}
-use Rattle.tune_problem.specs.Optimum.{total_of}
+use Rattle.tune_problem.specs.Optimum.{total_of, IsBest}
 use Rattle.tune_template.specs.Instances.{setting_count}
 use Rattle.tune_problem.specs.Below.{AllBelow}
-use Rattle.tune_problem.specs.BestPart.{in_part, whole_of, first_setting, in_whole, IsBest, IsOutcome, StaysBelow, AllStayBelow, IsBestPart}
+use Rattle.tune_problem.specs.BestPart.{in_part, whole_of, first_setting, in_whole, IsOutcome, StaysBelow, AllStayBelow, IsBestPart}
 use Rattle.tune_problem.specs.declared.statement.Answer.{Answer}
 use Rattle.tune_problem.specs.declared.statement.Answer.TheVariants.{Best as TheBest, NoneFrom}
 use Rattle.tune_problem.specs.declared.watcher.Best.{Best}

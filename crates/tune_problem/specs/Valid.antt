@@ -8,6 +8,7 @@ use Rattle.tune_problem.specs.declared.cert.Cert.{Cert}
 use Rattle.tune_problem.specs.declared.cert.Found.{Found}
 use Rattle.tune_problem.specs.declared.cert.Row.{Row}
 use Rattle.tune_problem.specs.declared.cert.Row.TheVariants.{Refused, Same, Cap}
+use Rattle.tune_problem.specs.declared.watcher.Best.{Best}
 
 -- The indices of the fights that a cap row lists.
 abbrev pub listed_indices : List (ℕ × ℕ) → List ℕ
@@ -87,6 +88,10 @@ pub record IsValid (p : Problem) (c : Cert) : Type 0 where
   pub whole : length best_row ≡ p.fights
   pub sums : listed_total p best_row ≡ c.total
   pub right : (v : ℕ) (row : Row) → slice_get c.rows v ≡ Some row → IsRightRow p c v row
+
+-- The best setting that a certificate names, with the total that it claims.
+abbrev pub named_best : Cert → Best
+named_best c = record { vector = c.best; total = c.total }
 
 -- The certificate of what a search found.
 abbrev pub cert_of : Found → Cert

@@ -4,12 +4,12 @@ ghost use Rattle.std.specs.List.{range_with_len};
 ghost use Rattle.tune_problem.specs.Parts.{part, whole, part_of};
 ghost use Rattle.tune_problem.specs.Inputs.{InputsView};
 ghost use Rattle.tune_problem.specs.Problem.{Problem, IsProblem, problem_of};
-ghost use Rattle.tune_problem.specs.Optimum.{IsOptimum, HasTotal};
-ghost use Rattle.tune_problem.specs.Valid.{IsValid};
+ghost use Rattle.tune_problem.specs.Optimum.{IsOptimum, IsBest};
+ghost use Rattle.tune_problem.specs.Valid.{IsValid, named_best};
 ghost use Rattle.tune_problem.specs.Below.{IsValidBelow, AllBelow};
 ghost use Rattle.tune_problem.specs.Ranking.{IsAim, IsRanking, Any};
 ghost use Rattle.tune_problem.specs.Exact.{IsExact, listed_ranking};
-ghost use Rattle.tune_problem.specs.BestPart.{whole_of, in_whole, IsBest, AreTuned, AllStayBelow, IsBestPart};
+ghost use Rattle.tune_problem.specs.BestPart.{whole_of, in_whole, AreTuned, AllStayBelow, IsBestPart};
 ghost use Rattle.tune_problem.specs.declared.statement.Answer.{Answer};
 ghost use Rattle.tune_problem.specs.declared.watcher.Best.{Best};
 
@@ -29,7 +29,7 @@ pub fn parts_make_the_whole()
 ///
 /// The first needs one fact, which holds for any inputs: a fight gives 0, 1 or 3 points.
 pub fn a_valid_certificate_names_the_optimum()
-    ensures names { (p : Problem) (c : Cert) → IsProblem p → IsValid p c → IsOptimum p c.best × HasTotal p c.best c.total }
+    ensures names { (p : Problem) (c : Cert) → IsProblem p → IsValid p c → IsBest p (named_best c) }
     ensures one { (p : Problem) (v w : ℕ) → IsOptimum p v → IsOptimum p w → v ≡ w }
     ensures inputs { (i : InputsView) → IsProblem (problem_of i) }
 {}
