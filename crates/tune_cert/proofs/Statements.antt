@@ -138,13 +138,9 @@ statement_spelled floors records s e =
 
 -- ---- certificates
 
--- a certificate is a statement with a best setting
-of_cert : (c : Cert) → IsCert c → IsStatement (stated c)
-of_cert c h = record { version = h.version; count = h.count; answer = (h.best, h.total); rows = h.rows; few = h.few }
-
 pub cert_read : (records : List Fields) (c : Cert) → Spells records c → cert_of_records records ≡ Ok c
 unfolding cert_of_records
-cert_read records c s = rw (s.text, statement_read false (stated c) (of_cert c s.cert) tt) refl
+cert_read records c s = rw (s.text, statement_read false (stated c) s.cert tt) refl
 
 abbrev with_answer : Statement → Answer → Statement
 with_answer s a = record { version = s.version; count = s.count; answer = a; rows = s.rows }
@@ -153,9 +149,6 @@ by_answer : (s : Statement) (a : Answer) (c : Cert) → s.answer ≡ a → cert_
 by_answer s (TheBest best) c is e =
     subst (λ (d : Cert). s ≡ stated d) (same_Ok _ c e) (ap (λ (x : Answer). with_answer s x) is)
 by_answer s (NoneFrom floor) c is e = absurd (cc)
-
-is_cert : (c : Cert) → IsStatement (stated c) → IsCert c
-is_cert c h = record { version = h.version; count = h.count; best = h.answer.0; total = h.answer.1; rows = h.rows; few = h.few }
 
 -- records spell at most one certificate
 pub one_spelled : (records : List Fields) (c d : Cert) → Spells records c → Spells records d → c ≡ d
@@ -167,7 +160,7 @@ cert_spelled records c e =
     let w = went_on (statement_of false records) (λ (s : Statement). cert_by s s.answer) c e in
     let same : w.0 ≡ stated c = by_answer w.0 w.0.answer c refl w.2 in
     let p = statement_spelled false records (stated c) (w.1 ∙ ap Ok same) in
-    record { cert = is_cert c p.0; text = p.1 }
+    record { cert = p.0; text = p.1 }
 
 -- ---- malformed records
 
@@ -342,7 +335,7 @@ row_form (row ∷ rows) v (suc k) fields each few e w is = row_form rows (v + 1)
 form_at : (c : Cert) (k : ℕ) (fields : Fields) → IsCert c → slice_get (cert_fields c) k ≡ Some fields → HasForm k fields
 unfolding statement_fields
 form_at c zero fields h e = (c.version, c.count, h.version, h.count, sym (same_Some _ _ e))
-form_at c (suc zero) fields h e = (c.best, c.total, h.best, h.total, sym (same_Some _ _ e))
+form_at c (suc zero) fields h e = (c.best, c.total, h.answer.0, h.answer.1, sym (same_Some _ _ e))
 form_at c (suc (suc k)) fields h e = row_form c.rows 0 k fields h.rows (omega (arith, h.few)) e k (omega arith)
 
 two_records : (c : Cert) (n : ℕ) → n < 2 → length (cert_fields c) ≤ n → ⊥

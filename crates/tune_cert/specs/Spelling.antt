@@ -8,7 +8,7 @@ use Rattle.mars_fight.specs.Play.{ArePoints}
 use Rattle.rc_instr.specs.Digits.{read_on}
 use Rattle.rc_instr.specs.Results.{◌>>=◌, Returns as ReturnsBut}
 use Rattle.tables.specs.Records.{Fields}
-use Rattle.tune_cert.specs.CertText.{row_fields, count_fields, best_fields, cert_fields}
+use Rattle.tune_cert.specs.CertText.{row_fields, count_fields, best_fields, stated, cert_fields}
 use Rattle.tune_problem.specs.declared.cert.Cert.{Cert}
 use Rattle.tune_problem.specs.declared.cert.Row.{Row}
 use Rattle.tune_problem.specs.declared.cert.Row.TheVariants.{Refused, Same, Cap}
@@ -154,15 +154,6 @@ IsRow Refused = Unit {0}
 IsRow (Same u) = FitsU32 u
 IsRow (Cap fights) = All IsItem fights
 
--- A certificate that can be written down.
-pub record IsCert (c : Cert) : Type 0 where
-  pub version : IsVersion c.version
-  pub count : FitsU32 c.count
-  pub best : FitsU32 c.best
-  pub total : FitsU32 c.total
-  pub rows : All IsRow c.rows
-  pub few : length c.rows ≤ 2 ^ 32
-
 -- The numbers of an answer fit.
 abbrev pub IsAnswer : Answer → Type 0
 IsAnswer (TheBest best) = FitsU32 best.vector × FitsU32 best.total
@@ -175,6 +166,10 @@ pub record IsStatement (s : Statement) : Type 0 where
   pub answer : IsAnswer s.answer
   pub rows : All IsRow s.rows
   pub few : length s.rows ≤ 2 ^ 32
+
+-- A certificate can be written down if it can be as a statement.
+abbrev pub IsCert : Cert → Type 0
+IsCert c = IsStatement (stated c)
 
 -- Records spell a certificate if they are its records. It need not have as many rows as it claims.
 pub record Spells (records : List Fields) (c : Cert) : Type 0 where

@@ -80,8 +80,7 @@ module _ (p : Problem) (laws : IsProblem p) (few : p.fights ≤ MOST_FIGHTS) (mo
         record {
           version = is_version p f.version s.work.version;
           count = omega arith;
-          best = omega (arith, all_rows);
-          total = omega (arith, most, total_few p laws s.total_is.0);
+          answer = (omega (arith, all_rows), omega (arith, most, total_few p laws s.total_is.0));
           rows = rows_of f.rows (λ v row at. row_of (omega (arith, all_rows)) (cert_of f) v row (s.valid.right v row at));
           few = omega arith;
         }
