@@ -177,20 +177,20 @@ pub record Spells (records : List Fields) (c : Cert) : Type 0 where
   pub text : records ≡ cert_fields c
 
 -- The form of each record.
-abbrev pub HasForm : (number : ℕ) → Fields → Type 0
+abbrev pub HasForm : (index : ℕ) → Fields → Type 0
 HasForm zero fields = (version : ℕ) × (count : ℕ) × IsVersion version × FitsU32 count × (fields ≡ count_fields version count)
 HasForm (suc zero) fields = (best : ℕ) × (total : ℕ) × FitsU32 best × FitsU32 total × (fields ≡ best_fields best total)
 HasForm (suc (suc v)) fields = (row : Row) × FitsU32 v × IsRow row × (fields ≡ row_fields v row)
 
 -- A record is malformed if it has another form, or if it is missing and is one of the first two.
-abbrev pub IsMalformed : (records : List Fields) → (number : ℕ) → Type 0
-IsMalformed records number =
-    ((number < 2) × (length records ≤ number)) ⊎ ((fields : Fields) × (slice_get records number ≡ Some fields) × ¬ (HasForm number fields))
+abbrev pub IsMalformed : (records : List Fields) → (index : ℕ) → Type 0
+IsMalformed records index =
+    ((index < 2) × (length records ≤ index)) ⊎ ((fields : Fields) × (slice_get records index ≡ Some fields) × ¬ (HasForm index fields))
 
 -- The first malformed record.
-pub record IsFirstMalformed (records : List Fields) (number : ℕ) : Type 0 where
-  pub malformed : IsMalformed records number
-  pub first : (k : ℕ) → k < number → ¬ (IsMalformed records k)
+pub record IsFirstMalformed (records : List Fields) (index : ℕ) : Type 0 where
+  pub malformed : IsMalformed records index
+  pub first : (k : ℕ) → k < index → ¬ (IsMalformed records k)
 
 -- Out of memory says nothing of the bytes.
 abbrev pub IsOutOfMemory : ReadFault → Type 0
