@@ -1,10 +1,10 @@
 //! Laws of the definitions. A law is a function with an empty body: its contract is what is proved.
-ghost use Rattle.std.specs.Prelude.{◌≡◌, ◌↔◌, ◌<◌, ◌≤◌, ℕ, ℤ, List, None, length, flat_map};
+ghost use Rattle.std.specs.Prelude.{◌≡◌, ◌↔◌, ◌<◌, ◌≤◌, ℕ, ℤ, List, length, flat_map};
 ghost use Rattle.std.specs.List.{range_with_len};
 ghost use Rattle.tune_problem.specs.Parts.{part, whole, part_of};
 ghost use Rattle.tune_problem.specs.Inputs.{InputsView};
 ghost use Rattle.tune_problem.specs.Problem.{Problem, IsProblem, problem_of};
-ghost use Rattle.tune_problem.specs.Optimum.{IsOptimum, IsBest};
+ghost use Rattle.tune_problem.specs.Optimum.{IsCandidate, IsOptimum, IsBest};
 ghost use Rattle.tune_problem.specs.Valid.{IsValid, named_best};
 ghost use Rattle.tune_problem.specs.Below.{IsValidBelow, AllBelow};
 ghost use Rattle.tune_problem.specs.Ranking.{IsAim, IsRanking, Any};
@@ -57,5 +57,5 @@ pub fn the_best_part_has_the_optimum()
     ensures best { (i : InputsView) (parts n : ℕ) (outcome : ℕ → Answer) (best : Best) → AreTuned i parts outcome → IsBestPart parts outcome n best
         → IsBest (whole_of i) (in_whole i n parts best) }
     ensures below { (i : InputsView) (parts floor : ℕ) (outcome : ℕ → Answer) → AreTuned i parts outcome → AllStayBelow floor parts outcome → AllBelow (whole_of i) floor }
-    ensures none { (p : Problem) → AllBelow p 0 ↔ ((v : ℕ) → v < p.count → p.warrior v ≡ None) }
+    ensures none { (p : Problem) → AllBelow p 0 ↔ ((v : ℕ) → v < p.count → IsCandidate p v → ⊥) }
 {}

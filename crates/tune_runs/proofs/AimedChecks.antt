@@ -36,7 +36,7 @@ use Rattle.tune_search.specs.Findings.{IsBestFrom, IsCertified, IsSearchFrom}
 use Rattle.tune_search.specs.declared.findings.Findings.{Findings}
 use Rattle.tune_search.specs.declared.method.Method.{Method}
 use Rattle.tune_search.proofs.ExactRows.{is_exact, lists_ranking}
-use Rattle.tune_search.proofs.Finish.{none_best}
+use Rattle.tune_problem.proofs.WholeOfParts.{none_below}
 use Rattle.tune_runs.specs.Report.{named_setting, rank_lines}
 use Rattle.tune_runs.specs.TuneRun.{Texts, Means, answer_of}
 use Rattle.tune_runs.specs.CheckRun.{accepted_words, accepts_for, answer_text, check_for_output, judgement_lines, share_meant}
@@ -85,7 +85,7 @@ module _ (p : Problem) (laws : IsProblem p) (start : p.start < p.count) (demand 
       by_floor None e =
           let below : AllBelow p aim.floor = subst (IsBestFrom p aim.floor) none s.best in
           let zero : aim.floor ≡ 0 = ap (λ (o : Option ℕ). unwrap_or o 0) e in
-          let none_of : candidates_of p ≡ 0 = no_candidates p (none_best p (subst (AllBelow p) zero below)) in
+          let none_of : candidates_of p ≡ 0 = no_candidates p (none_below p (subst (AllBelow p) zero below)) in
           let count : f.candidates ≡ candidates_of p = s.work.count in
           absurd (omega (arith, some, count, none_of))
 
