@@ -92,7 +92,7 @@ module _ (p : Problem) (laws : IsProblem p) (c : Cert) (aim : Option Aim) where
       let here : (v : ℕ) (row : Row) → slice_get c.rows v ≡ Some row → row_reason p c aim v row ≡ None =
       λ v row at. let inside = in_whole p c.rows v row checks.1.1 at in checks.3 v row inside.0 inside.1 at in
       let plain : first_failure p whole c ≡ None =
-      checks_four p whole c None _ checks.0 checks.1 checks.2 (λ v row low high at. none_if_right p c None v row (right_if_none p c aim v row (here v row at)) (no_aim p c.rows v row)) in
+      checks_four p whole c None _ checks.0 checks.1 checks.2 (λ v row low high at. none_if_right p c None v row (right_if_none p c aim checks.1.1 v row (here v row at)) (no_aim p c.rows v row)) in
       (valid_if_whole p c (valid_if_none p whole c plain), exact_of p c.rows aim (λ v row at. exact_if_none p c aim v row (here v row at)))
 
   exact_valid : IsValid p c → IsExactFor p aim c.rows → failure_by p whole (is_best_row p c.total (slice_get c.rows c.best)) aim c ≡ None
@@ -138,13 +138,13 @@ module _ (p : Problem) (floor version count : ℕ) (rows : List Row) where
   valid_below answered e =
       let checks = four_checks p whole claim None answered e in
       let right : (v : ℕ) (row : Row) → slice_get rows v ≡ Some row → IsRightInShare p claim v row =
-      λ v row at. let inside = in_whole p rows v row checks.1.1 at in right_if_none p claim None v row (checks.3 v row inside.0 inside.1 at) in (
+      λ v row at. let inside = in_whole p rows v row checks.1.1 at in right_if_none p claim None checks.1.1 v row (checks.3 v row inside.0 inside.1 at) in (
         checks.2,
         checks.1.0,
         record {
           version_is = checks.0;
           rows_are = checks.1.1;
-          right = λ v row at. row_below v row (inside_of checks.1.1 v row at) (all_right p claim checks.1.1 right v row at);
+          right = λ v row at. row_below v row (inside_of checks.1.1 v row at) (all_right p claim right v row at);
         },
       )
 

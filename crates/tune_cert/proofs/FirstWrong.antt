@@ -50,29 +50,29 @@ module _ (f : ℕ → Option Reason) where
       ap (λ o. first_of (at_record (record_of a) o ∷ first_wrong f (range_with_len (a + 1) n) ∷ [])) here ∙ ap (λ o. first_of (None ∷ o ∷ [])) rest
 
   -- the first wrong one is wrong, and none before it is
-  pub record IsFound (a n number : ℕ) (reason : Reason) : Type 0 where
+  pub record IsFound (a n index : ℕ) (reason : Reason) : Type 0 where
     pub vector : ℕ
     pub low : a ≤ vector
     pub high : vector < a + n
-    pub number_is : number ≡ record_of vector
+    pub index_is : index ≡ record_of vector
     pub wrong : f vector ≡ Some reason
     pub before : (u : ℕ) → a ≤ u → u < vector → f u ≡ None
 
-  step : (n a number : ℕ) (reason : Reason) (o : Option Reason) → f a ≡ o → first_of (at_record (record_of a) o ∷ first_wrong f (range_with_len (a + 1) n) ∷ []) ≡ Some (number, reason)
-      → (first_wrong f (range_with_len (a + 1) n) ≡ Some (number, reason) → IsFound (a + 1) n number reason) → IsFound a (suc n) number reason
-  step n a number reason (Some r) is e later =
+  step : (n a index : ℕ) (reason : Reason) (o : Option Reason) → f a ≡ o → first_of (at_record (record_of a) o ∷ first_wrong f (range_with_len (a + 1) n) ∷ []) ≡ Some (index, reason)
+      → (first_wrong f (range_with_len (a + 1) n) ≡ Some (index, reason) → IsFound (a + 1) n index reason) → IsFound a (suc n) index reason
+  step n a index reason (Some r) is e later =
       let pair = same_pair _ _ _ _ e in
-      let here : number ≡ record_of a = pair.0 in
+      let here : index ≡ record_of a = pair.0 in
       let same : r ≡ reason = sym pair.1 in
       record {
         vector = a;
         low = omega arith;
         high = omega arith;
-        number_is = here;
+        index_is = here;
         wrong = is ∙ ap (λ (x : Reason). Some x) same;
         before = λ u low l. absurd (omega (arith, low, l));
       }
-  step n a number reason None is e later =
+  step n a index reason None is e later =
       let i = later (only (first_wrong f (range_with_len (a + 1) n)) e) in
       let low = i.low in
       let high = i.high in
@@ -80,18 +80,18 @@ module _ (f : ℕ → Option Reason) where
         vector = i.vector;
         low = omega (arith, low);
         high = omega (arith, high);
-        number_is = i.number_is;
+        index_is = i.index_is;
         wrong = i.wrong;
         before = λ u l m. elim (split_or a u l) [ inl same ↦ ap f same ∙ is | inr more ↦ i.before u more m ];
       }
     where
-      only : (o : Option (ℕ × Reason)) → first_of (None ∷ o ∷ []) ≡ Some (number, reason) → o ≡ Some (number, reason)
+      only : (o : Option (ℕ × Reason)) → first_of (None ∷ o ∷ []) ≡ Some (index, reason) → o ≡ Some (index, reason)
       only None h = absurd (cc)
       only (Some x) h = h
 
-  pub found : (n a number : ℕ) (reason : Reason) → first_wrong f (range_with_len a n) ≡ Some (number, reason) → IsFound a n number reason
-  found zero a number reason e = absurd (cc)
-  found (suc n) a number reason e = step n a number reason (f a) refl e (found n (a + 1) number reason)
+  pub found : (n a index : ℕ) (reason : Reason) → first_wrong f (range_with_len a n) ≡ Some (index, reason) → IsFound a n index reason
+  found zero a index reason e = absurd (cc)
+  found (suc n) a index reason e = step n a index reason (f a) refl e (found n (a + 1) index reason)
 
 -- the rows are checked twice: the second time for those that refer to others
 pub two_walks_none : {A : Type 0} (x y : Option A) → first_of (x ∷ y ∷ []) ≡ None → (x ≡ None) × (y ≡ None)
@@ -135,19 +135,19 @@ chain_none true false d o e = absurd (cc)
 chain_none false b d o e = absurd (cc)
 
 -- which check is the first to fail
-pub data Chain (a b d : Bool) (o : Option (ℕ × Reason)) (number : ℕ) (reason : Reason) : Type 0 where
-  at_version : a ≡ false → number ≡ 0 → reason ≡ Version → Chain a b d o number reason
-  at_count : a ≡ true → b ≡ false → number ≡ 0 → reason ≡ RowCount → Chain a b d o number reason
-  at_best : a ≡ true → b ≡ true → d ≡ false → number ≡ 1 → reason ≡ BestRow → Chain a b d o number reason
-  at_rows : a ≡ true → b ≡ true → d ≡ true → o ≡ Some (number, reason) → Chain a b d o number reason
+pub data Chain (a b d : Bool) (o : Option (ℕ × Reason)) (index : ℕ) (reason : Reason) : Type 0 where
+  at_version : a ≡ false → index ≡ 0 → reason ≡ Version → Chain a b d o index reason
+  at_count : a ≡ true → b ≡ false → index ≡ 0 → reason ≡ RowCount → Chain a b d o index reason
+  at_best : a ≡ true → b ≡ true → d ≡ false → index ≡ 1 → reason ≡ BestRow → Chain a b d o index reason
+  at_rows : a ≡ true → b ≡ true → d ≡ true → o ≡ Some (index, reason) → Chain a b d o index reason
 
-pub chain_some : (a b d : Bool) (o : Option (ℕ × Reason)) (number : ℕ) (reason : Reason)
-    → chain a b d o ≡ Some (number, reason) → Chain a b d o number reason
-chain_some false b d o number reason e = let p = same_pair _ _ _ _ e in at_version refl p.0 p.1
-chain_some true false d o number reason e = let p = same_pair _ _ _ _ e in at_count refl refl p.0 p.1
-chain_some true true false o number reason e = let p = same_pair _ _ _ _ e in at_best refl refl refl p.0 p.1
-chain_some true true true None number reason e = absurd (cc)
-chain_some true true true (Some x) number reason e = at_rows refl refl refl e
+pub chain_some : (a b d : Bool) (o : Option (ℕ × Reason)) (index : ℕ) (reason : Reason)
+    → chain a b d o ≡ Some (index, reason) → Chain a b d o index reason
+chain_some false b d o index reason e = let p = same_pair _ _ _ _ e in at_version refl p.0 p.1
+chain_some true false d o index reason e = let p = same_pair _ _ _ _ e in at_count refl refl p.0 p.1
+chain_some true true false o index reason e = let p = same_pair _ _ _ _ e in at_best refl refl refl p.0 p.1
+chain_some true true true None index reason e = absurd (cc)
+chain_some true true true (Some x) index reason e = at_rows refl refl refl e
 
 -- ---- a test of all fights
 

@@ -1,8 +1,9 @@
 -- Nothing is wrong with a row exactly if it is right.
-use Rattle.std.proofs.Common.{◌≡◌, ◌≢◌, ℕ, Bool, true, false, List, [], ◌∷◌, Option, Some, None, refl, sym, ◌∙◌, ap, subst}
+use Rattle.std.proofs.Common.{◌≡◌, ◌≢◌, ℕ, arith, Bool, true, false, List, [], ◌∷◌, length, Option, Some, None, refl, sym, ◌∙◌, ap, subst}
 use Rattle.std.specs.Prelude.{not, ◌||◌, ◌&&◌, ◌==◌, is_none, option_and_then}
 use Rattle.std.specs.List.{slice_get}
 use Rattle.std.proofs.lemmas.Bool.{and_from, and_parts, or_left, or_right, eq-eqb, ne_eqb}
+use Rattle.std.proofs.lemmas.Option.{slice_get_within}
 use Rattle.rc_instr.specs.Warrior.{WarriorView}
 use Rattle.tune_problem.specs.Problem.{Problem}
 use Rattle.tune_problem.specs.Optimum.{beats}
@@ -103,9 +104,9 @@ eq_not : (u v : ℕ) → not (u == v) ≡ true → u ≢ v
 eq_not u v e = λ same. let t : (u == v) ≡ true = eq-eqb u v same in let f : (u == v) ≡ false = not_false (u == v) e in absurd (let both : true ≡ false = sym t ∙ f in cc)
 
 module _ (p : Problem) (c : Cert) (aim : Option Aim) (v u : ℕ) where
-  same_right : reference_reason p c aim v u (slice_get c.rows u) ≡ None → IsRightInShare p c v (Same u)
+  same_right : length c.rows ≡ p.count → reference_reason p c aim v u (slice_get c.rows u) ≡ None → IsRightInShare p c v (Same u)
   unfolding listed_reason
-  same_right e =
+  same_right rows_are e =
       let here = cap_here p c aim v u (slice_get c.rows u) e in
       let row = here.0 in
       let tests = two_none _ _ _ _ here.2 in
@@ -114,7 +115,8 @@ module _ (p : Problem) (c : Cert) (aim : Option Aim) (v u : ℕ) where
       let third = and_parts _ _ second.1 in
       let low = and_parts (is_no_better p c v row) _ tests.1 in
       let one = share_one (p.warrior v) (p.warrior u) second.0 in
-      (one.0, row, eq_not u v first.0, one.1, one.2, here.1, third.0, third.1, not_false _ low.0)
+      let within = slice_get_within c.rows u (Cap row) here.1 in
+      (one.0, row, eq_not u v first.0, omega (arith, within, rows_are), one.1, one.2, here.1, (third.0, third.1, not_false _ low.0))
 
   same_exact : reference_reason p c aim v u (slice_get c.rows u) ≡ None → (row : List (ℕ × ℕ)) × (slice_get c.rows u ≡ Some (Cap row)) × (is_exact p aim c.rows v row ≡ true)
   unfolding listed_reason
@@ -126,7 +128,7 @@ module _ (p : Problem) (c : Cert) (aim : Option Aim) (v u : ℕ) where
   same_none : IsRightInShare p c v (Same u) → ((row : List (ℕ × ℕ)) → slice_get c.rows u ≡ Some (Cap row) → is_exact p aim c.rows v row ≡ true)
       → reference_reason p c aim v u (slice_get c.rows u) ≡ None
   unfolding listed_reason
-  same_none (w, row, other, own, theirs, at, up, there, low) exact =
+  same_none (w, row, other, inside, own, theirs, at, (up, there, low)) exact =
       let tests : not (u == v) && (share_warrior (p.warrior v) (p.warrior u) && (rises 0 row && are_fights p row)) ≡ true =
       and_from _ _ (ap not (ne_eqb u v other)) (and_from _ _ (one_share (p.warrior v) (p.warrior u) w own theirs) (and_from _ _ up there)) in
       let fine : is_no_better p c v row ≡ true = ap not low in
@@ -135,10 +137,10 @@ module _ (p : Problem) (c : Cert) (aim : Option Aim) (v u : ℕ) where
 
 -- ---- any row
 
-pub right_if_none : (p : Problem) (c : Cert) (aim : Option Aim) (v : ℕ) (row : Row) → row_reason p c aim v row ≡ None → IsRightInShare p c v row
-right_if_none p c aim v Refused e = none_is (p.warrior v) e
-right_if_none p c aim v (Same u) e = same_right p c aim v u e
-right_if_none p c aim v (Cap row) e = cap_right p c aim v row e
+pub right_if_none : (p : Problem) (c : Cert) (aim : Option Aim) → length c.rows ≡ p.count → (v : ℕ) (row : Row) → row_reason p c aim v row ≡ None → IsRightInShare p c v row
+right_if_none p c aim rows_are v Refused e = none_is (p.warrior v) e
+right_if_none p c aim rows_are v (Same u) e = same_right p c aim v u rows_are e
+right_if_none p c aim rows_are v (Cap row) e = cap_right p c aim v row e
 
 -- what is listed for the setting of a row is exact
 abbrev pub IsExactRow : Problem → Option Aim → List Row → ℕ → Row → Type 0

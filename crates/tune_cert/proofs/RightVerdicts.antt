@@ -35,14 +35,14 @@ module _ (p : Problem) (c : Cert) (rows_are : length c.rows ≡ p.count) where
   low v = let bounds = whole_bounds p.count in omega (arith, bounds.0)
 
   -- a walk over all rows finds the first
-  by_walk : (check : ℕ → Row → Option Reason) (number : ℕ) (reason : Reason) → IsFound (reason_at check c.rows) (part_first whole p.count) (part_end whole p.count - part_first whole p.count) number reason
-      → (v : ℕ) × (row : Row) × (number ≡ record_of v) × (slice_get c.rows v ≡ Some row) × (check v row ≡ Some reason)
+  by_walk : (check : ℕ → Row → Option Reason) (index : ℕ) (reason : Reason) → IsFound (reason_at check c.rows) (part_first whole p.count) (part_end whole p.count - part_first whole p.count) index reason
+      → (v : ℕ) × (row : Row) × (index ≡ record_of v) × (slice_get c.rows v ≡ Some row) × (check v row ≡ Some reason)
       × ((u : ℕ) (r : Row) → u < v → slice_get c.rows u ≡ Some r → check u r ≡ None)
-  by_walk check number reason i =
+  by_walk check index reason i =
       let here = wrong_row check c.rows i.vector reason i.wrong in (
         i.vector,
         here.0,
-        i.number_is,
+        i.index_is,
         here.1,
         here.2,
         λ u r l at. reason_here check c.rows u r None at (i.before u (low u) l),
@@ -84,66 +84,66 @@ module _ (p : Problem) (c : Cert) (rows_are : length c.rows ≡ p.count) where
   before_same v (Same t) f a h u (Same s) at l = h u (Same s) l at
   before_same v (Same t) f a h u (Cap r) at l = a u (Cap r) at
 
-  row_found : (number : ℕ) (reason : Reason) → rows_failure p c None (share_settings whole p.count) ≡ Some (number, reason) → IsWrongRow p c number reason × IsFirstRow p c number
-  row_found number reason e = elim (two_walks_some _ _ _ e) [
+  row_found : (index : ℕ) (reason : Reason) → rows_failure p c None (share_settings whole p.count) ≡ Some (index, reason) → IsWrongRow p c index reason × IsFirstRow p c index
+  row_found index reason e = elim (two_walks_some _ _ _ e) [
     | inl alone ↦
-        let i = by_walk (alone_reason p c None) number reason (found (reason_at (alone_reason p c None) c.rows) _ _ number reason alone) in
+        let i = by_walk (alone_reason p c None) index reason (found (reason_at (alone_reason p c None) c.rows) _ _ index reason alone) in
         let is = alone_is i.0 i.1 reason i.4 in (
-          record { vector = i.0; number_is = i.2; row = i.1; here = i.3; wrong = is.1 },
-          record { vector = i.0; number_is = i.2; row = i.1; here = i.3; before = before_alone i.0 i.1 is.0 i.5 },
+          record { vector = i.0; index_is = i.2; row = i.1; here = i.3; wrong = is.1 },
+          record { vector = i.0; index_is = i.2; row = i.1; here = i.3; before = before_alone i.0 i.1 is.0 i.5 },
         )
     | inr same ↦
-        let i = by_walk (same_reason p c None) number reason (found (reason_at (same_reason p c None) c.rows) _ _ number reason same.1) in
+        let i = by_walk (same_reason p c None) index reason (found (reason_at (same_reason p c None) c.rows) _ _ index reason same.1) in
         let is = same_is i.0 i.1 reason i.4 in (
-          record { vector = i.0; number_is = i.2; row = i.1; here = i.3; wrong = is.1 },
-          record { vector = i.0; number_is = i.2; row = i.1; here = i.3; before = before_same i.0 i.1 is.0 (alone_all (alone_reason p c None) same.0) i.5 },
+          record { vector = i.0; index_is = i.2; row = i.1; here = i.3; wrong = is.1 },
+          record { vector = i.0; index_is = i.2; row = i.1; here = i.3; before = before_same i.0 i.1 is.0 (alone_all (alone_reason p c None) same.0) i.5 },
         )
   ]
 
 -- ---- a rejection
 
-rejected_row : (p : Problem) (c : Cert) (number : ℕ) (reason : Reason) → IsOfRow reason → IsWrongRow p c number reason → IsRejected p c number reason
-rejected_row p c number Malformed o w = absurd o
-rejected_row p c number Version o w = absurd o
-rejected_row p c number RowCount o w = absurd o
-rejected_row p c number BestRow o w = absurd o
-rejected_row p c number WrongPoints o w = w
-rejected_row p c number RepeatedFight o w = w
-rejected_row p c number CapTooHigh o w = w
-rejected_row p c number NotSame o w = w
-rejected_row p c number NotRefused o w = w
+rejected_row : (p : Problem) (c : Cert) (index : ℕ) (reason : Reason) → IsOfRow reason → IsWrongRow p c index reason → IsRejected p c index reason
+rejected_row p c index Malformed o w = absurd o
+rejected_row p c index Version o w = absurd o
+rejected_row p c index RowCount o w = absurd o
+rejected_row p c index BestRow o w = absurd o
+rejected_row p c index WrongPoints o w = w
+rejected_row p c index RepeatedFight o w = w
+rejected_row p c index CapTooHigh o w = w
+rejected_row p c index NotSame o w = w
+rejected_row p c index NotRefused o w = w
 
-first_row : (p : Problem) (records : List Fields) (c : Cert) (number : ℕ) (reason : Reason) → IsOfRow reason → Spells records c
-    → IsVersionOf p c.version × HasRowCount p c × IsBestRow p c × IsFirstRow p c number → IsFirst p records (Rejected number reason)
-first_row p records c number Malformed o s f = absurd o
-first_row p records c number Version o s f = absurd o
-first_row p records c number RowCount o s f = absurd o
-first_row p records c number BestRow o s f = absurd o
-first_row p records c number WrongPoints o s f = (c, s, f)
-first_row p records c number RepeatedFight o s f = (c, s, f)
-first_row p records c number CapTooHigh o s f = (c, s, f)
-first_row p records c number NotSame o s f = (c, s, f)
-first_row p records c number NotRefused o s f = (c, s, f)
+first_row : (p : Problem) (records : List Fields) (c : Cert) (index : ℕ) (reason : Reason) → IsOfRow reason → Spells records c
+    → IsVersionOf p c.version × HasRowCount p c × IsBestRow p c × IsFirstRow p c index → IsFirst p records (Rejected index reason)
+first_row p records c index Malformed o s f = absurd o
+first_row p records c index Version o s f = absurd o
+first_row p records c index RowCount o s f = absurd o
+first_row p records c index BestRow o s f = absurd o
+first_row p records c index WrongPoints o s f = (c, s, f)
+first_row p records c index RepeatedFight o s f = (c, s, f)
+first_row p records c index CapTooHigh o s f = (c, s, f)
+first_row p records c index NotSame o s f = (c, s, f)
+first_row p records c index NotRefused o s f = (c, s, f)
 
 fails_not : {P : Type 0} (b : Bool) → (P → b ≡ true) → b ≡ false → P → ⊥
 fails_not b h e x = let t = h x in let both : true ≡ false = sym t ∙ e in absurd (cc)
 
 module _ (p : Problem) (laws : IsProblem p) (records : List Fields) (c : Cert) (s : Spells records c) where
-  says : (number : ℕ) (reason : Reason)
-      → Chain (is_version_of p c.version) (has_row_count p c) (is_best_row p c.total (slice_get c.rows c.best)) (rows_failure p c None (share_settings whole p.count)) number reason
-      → IsRejected p c number reason × IsFirst p records (Rejected number reason)
-  says number reason (at_version f n r) =
+  says : (index : ℕ) (reason : Reason)
+      → Chain (is_version_of p c.version) (has_row_count p c) (is_best_row p c.total (slice_get c.rows c.best)) (rows_failure p c None (share_settings whole p.count)) index reason
+      → IsRejected p c index reason × IsFirst p records (Rejected index reason)
+  says index reason (at_version f n r) =
       rw r (((n, λ (h : IsVersionOf p c.version). fails_not (is_version_of p c.version) (right_version p c.version) f h), (c, s, tt)))
-  says number reason (at_count v f n r) =
+  says index reason (at_count v f n r) =
       rw r (((n, λ (h : HasRowCount p c). fails_not (has_row_count p c) (right_count p c) f h), (c, s, version_right p c.version v)))
-  says number reason (at_best v k f n r) =
+  says index reason (at_best v k f n r) =
       rw r (((n, λ (h : IsBestRow p c). fails_not (is_best_row p c.total (slice_get c.rows c.best)) (right_best p c) f h), (c, s, (version_right p c.version v, count_right p c k))))
-  says number reason (at_rows v k b e) =
+  says index reason (at_rows v k b e) =
       let many = count_right p c k in
-      let i = row_found p c many.1 number reason e in
+      let i = row_found p c many.1 index reason e in
       let w = i.0 in
       let o = row_some p c None w.vector w.row reason w.wrong in
-      (rejected_row p c number reason o w, first_row p records c number reason o s (version_right p c.version v, many, best_right p c b, i.1))
+      (rejected_row p c index reason o w, first_row p records c index reason o s (version_right p c.version v, many, best_right p c b, i.1))
 
   -- a certificate with a failure is not valid
   not_valid : (x : ℕ × Reason) → first_failure p whole c ≡ Some x → (d : Cert) → Spells records d → IsValid p d → ⊥
@@ -176,13 +176,13 @@ module _ (p : Problem) (laws : IsProblem p) (records : List Fields) (c : Cert) (
 -- the verdict on what is read
 by_read : (p : Problem) (records : List Fields) (r : Result Cert ℕ) → IsProblem p → cert_of_records records ≡ r → IsRightVerdict p records (verdict_on_read p whole r)
 by_read p records (Ok c) laws e = by_failure p laws records c (cert_spelled records c e) (first_failure p whole c) refl
-by_read p records (Err number) laws e =
-    let bad = cert_malformed records number e in
+by_read p records (Err index) laws e =
+    let bad = cert_malformed records index e in
     record {
       holds = inl (refl, bad.malformed);
       first = bad;
       optimum = tt;
-      accepted = λ d spelled valid. absurd (none_malformed records d spelled number bad.malformed);
+      accepted = λ d spelled valid. absurd (none_malformed records d spelled index bad.malformed);
     }
 
 pub right_verdict : (p : Problem) (records : List Fields) (v : Verdict) → IsProblem p → IsVerdictOf p whole records v → IsRightVerdict p records v
@@ -194,8 +194,8 @@ accepts_one : (c : Cert) (o : Option (ℕ × Reason)) (best total : ℕ) → Acc
 accepts_one c None best total e = (refl, cc, cc)
 accepts_one c (Some x) best total e = absurd (cc)
 
-apart : (best total number : ℕ) (reason : Reason) → Accepted best total ≡ Rejected number reason → ⊥
-apart best total number reason e = cc
+apart : (best total index : ℕ) (reason : Reason) → Accepted best total ≡ Rejected index reason → ⊥
+apart best total index reason e = cc
 
 -- what a share accepts is a certificate that is valid in it
 pub share_accepts : (p : Problem) (share : Part) (records : List Fields) (best total : ℕ) → IsVerdictOf p share records (Accepted best total)
@@ -207,7 +207,7 @@ share_accepts p share records best total is = by (cert_of_records records) refl 
     by (Ok c) e is =
         let one = accepts_one c (first_failure p share c) best total is in
         (c, cert_spelled records c e, valid_if_none p share c one.0, one.1, one.2)
-    by (Err number) e is = absurd (apart best total number Malformed is)
+    by (Err index) e is = absurd (apart best total index Malformed is)
 
 -- the verdict of a share on a valid certificate
 pub valid_verdict : (p : Problem) → IsProblem p → (share : Part) (records : List Fields) (c : Cert) → Spells records c → IsValid p c → IsVerdictOf p share records (Accepted c.best c.total)

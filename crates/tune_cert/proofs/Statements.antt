@@ -138,13 +138,9 @@ statement_spelled floors records s e =
 
 -- ---- certificates
 
--- a certificate is a statement with a best setting
-of_cert : (c : Cert) → IsCert c → IsStatement (stated c)
-of_cert c h = record { version = h.version; count = h.count; answer = (h.best, h.total); rows = h.rows; few = h.few }
-
 pub cert_read : (records : List Fields) (c : Cert) → Spells records c → cert_of_records records ≡ Ok c
 unfolding cert_of_records
-cert_read records c s = rw (s.text, statement_read false (stated c) (of_cert c s.cert) tt) refl
+cert_read records c s = rw (s.text, statement_read false (stated c) s.cert tt) refl
 
 abbrev with_answer : Statement → Answer → Statement
 with_answer s a = record { version = s.version; count = s.count; answer = a; rows = s.rows }
@@ -153,9 +149,6 @@ by_answer : (s : Statement) (a : Answer) (c : Cert) → s.answer ≡ a → cert_
 by_answer s (TheBest best) c is e =
     subst (λ (d : Cert). s ≡ stated d) (same_Ok _ c e) (ap (λ (x : Answer). with_answer s x) is)
 by_answer s (NoneFrom floor) c is e = absurd (cc)
-
-is_cert : (c : Cert) → IsStatement (stated c) → IsCert c
-is_cert c h = record { version = h.version; count = h.count; best = h.answer.0; total = h.answer.1; rows = h.rows; few = h.few }
 
 -- records spell at most one certificate
 pub one_spelled : (records : List Fields) (c d : Cert) → Spells records c → Spells records d → c ≡ d
@@ -167,7 +160,7 @@ cert_spelled records c e =
     let w = went_on (statement_of false records) (λ (s : Statement). cert_by s s.answer) c e in
     let same : w.0 ≡ stated c = by_answer w.0 w.0.answer c refl w.2 in
     let p = statement_spelled false records (stated c) (w.1 ∙ ap Ok same) in
-    record { cert = is_cert c p.0; text = p.1 }
+    record { cert = p.0; text = p.1 }
 
 -- ---- malformed records
 
@@ -196,9 +189,9 @@ no_row : (v : ℕ) (fields : Fields) → row_of v fields ≡ None → ¬ (HasFor
 no_row v fields e h = let is = ap (row_of v) h.3 in let read = row_read v h.0 h.1 h.2 in absurd (cc (e, is, read))
 
 -- the first record, of the settings from v on, that is not a row
-record Stops (v : ℕ) (records : List Fields) (number : ℕ) : Type 0 where
+record Stops (v : ℕ) (records : List Fields) (index : ℕ) : Type 0 where
   pub k : ℕ
-  pub number_is : number ≡ suc (suc (v + k))
+  pub index_is : index ≡ suc (suc (v + k))
   pub fields : Fields
   pub here : slice_get records k ≡ Some fields
   pub bad : (w : ℕ) → w ≡ v + k → ¬ (HasForm (suc (suc w)) fields)
@@ -207,7 +200,7 @@ record Stops (v : ℕ) (records : List Fields) (number : ℕ) : Type 0 where
 stop_later : (v n : ℕ) (fields : Fields) (records : List Fields) → HasForm (suc (suc v)) fields → Stops (v + 1) records n → Stops v (fields ∷ records) n
 stop_later v n fields records form s = record {
   k = suc s.k;
-  number_is = omega (arith, s.number_is);
+  index_is = omega (arith, s.index_is);
   fields = s.fields;
   here = s.here;
   bad = λ w e. s.bad w (omega (arith, e));
@@ -227,7 +220,7 @@ rows_stop (fields ∷ records) v n e =
           let none = none_of (row_of v fields) (record_of v) n here in
           record {
             k = 0;
-            number_is = omega (arith, none.1);
+            index_is = omega (arith, none.1);
             fields = fields;
             here = refl;
             bad = λ w e. let is : v ≡ w = omega (arith, e) in subst (λ (u : ℕ). ¬ (HasForm (suc (suc u)) fields)) is (no_row v fields none.0);
@@ -242,11 +235,11 @@ rows_stop (fields ∷ records) v n e =
     ]
 
 -- a record that is there and has its form is not malformed
-well_formed : (records : List Fields) (number : ℕ) (fields : Fields) → slice_get records number ≡ Some fields → HasForm number fields → ¬ (IsMalformed records number)
-well_formed records number fields at form (inl missing) = absurd (omega (arith, missing.1, slice_get_within records number fields at))
-well_formed records number fields at form (inr bad) =
+well_formed : (records : List Fields) (index : ℕ) (fields : Fields) → slice_get records index ≡ Some fields → HasForm index fields → ¬ (IsMalformed records index)
+well_formed records index fields at form (inl missing) = absurd (omega (arith, missing.1, slice_get_within records index fields at))
+well_formed records index fields at form (inr bad) =
     let same : fields ≡ bad.0 = let e = bad.1 in cc in
-    bad.2 (subst (λ (f : Fields). HasForm number f) same form)
+    bad.2 (subst (λ (f : Fields). HasForm index f) same form)
 
 -- no record is before the first, and the first alone is before the second
 none_before : (records : List Fields) (k : ℕ) → k < 0 → ¬ (IsMalformed records k)
@@ -267,7 +260,7 @@ rows_before first second others n a b s (suc (suc j)) l =
 
 row_malformed : (first second : Fields) (others : List Fields) (n : ℕ) → HasForm 0 first → HasForm 1 second → Stops 0 others n → IsFirstMalformed (first ∷ second ∷ others) n
 row_malformed first second others n a b s =
-    let at : n ≡ suc (suc s.k) = omega (arith, s.number_is) in
+    let at : n ≡ suc (suc s.k) = omega (arith, s.index_is) in
     subst (λ (m : ℕ). IsFirstMalformed (first ∷ second ∷ others) m) (sym at) (record {
       malformed = inr (s.fields, s.here, s.bad s.k (omega arith));
       first = rows_before first second others n a b s;
@@ -342,7 +335,7 @@ row_form (row ∷ rows) v (suc k) fields each few e w is = row_form rows (v + 1)
 form_at : (c : Cert) (k : ℕ) (fields : Fields) → IsCert c → slice_get (cert_fields c) k ≡ Some fields → HasForm k fields
 unfolding statement_fields
 form_at c zero fields h e = (c.version, c.count, h.version, h.count, sym (same_Some _ _ e))
-form_at c (suc zero) fields h e = (c.best, c.total, h.best, h.total, sym (same_Some _ _ e))
+form_at c (suc zero) fields h e = (c.best, c.total, h.answer.0, h.answer.1, sym (same_Some _ _ e))
 form_at c (suc (suc k)) fields h e = row_form c.rows 0 k fields h.rows (omega (arith, h.few)) e k (omega arith)
 
 two_records : (c : Cert) (n : ℕ) → n < 2 → length (cert_fields c) ≤ n → ⊥

@@ -144,7 +144,7 @@ module _ (p : Problem) (share : Part) (c : Cert) where
         best_at = best.here;
         every = best.every;
         sums = best.sums;
-        right = λ v row low high at. right_if_none p c None v row (checks.3 v row low high at);
+        right = λ v row low high at. right_if_none p c None checks.1.1 v row (checks.3 v row low high at);
       }
 
   pub none_if_valid : IsValidInShare p share c → first_failure p share c ≡ None
@@ -157,18 +157,17 @@ module _ (p : Problem) (share : Part) (c : Cert) where
 
 -- rows that are all right in a share are right, and the other way round
 module _ (p : Problem) (c : Cert) where
-  pub all_right : length c.rows ≡ p.count → ((v : ℕ) (row : Row) → slice_get c.rows v ≡ Some row → IsRightInShare p c v row) → (v : ℕ) (row : Row) → slice_get c.rows v ≡ Some row → IsRightRow p c v row
-  all_right rows_are each v Refused at = each v Refused at
-  all_right rows_are each v (Cap row) at = each v (Cap row) at
-  all_right rows_are each v (Same u) at =
+  pub all_right : ((v : ℕ) (row : Row) → slice_get c.rows v ≡ Some row → IsRightInShare p c v row) → (v : ℕ) (row : Row) → slice_get c.rows v ≡ Some row → IsRightRow p c v row
+  all_right each v Refused at = each v Refused at
+  all_right each v (Cap row) at = each v (Cap row) at
+  all_right each v (Same u) at =
       let h = each v (Same u) at in
       let w = h.0 in
       let row = h.1 in
-      let of = each u (Cap row) h.5 in
-      let same : of.0 ≡ w = some_is _ _ (sym of.1 ∙ h.4) in
+      let of = each u (Cap row) h.6 in
+      let same : of.0 ≡ w = some_is _ _ (sym of.1 ∙ h.5) in
       let is_row : IsCapRow p w 0 row = subst (λ (x : WarriorView). IsCapRow p x 0 row) same of.2 in
-      let within = slice_get_within c.rows u (Cap row) h.5 in
-      (w, row, h.2, omega (arith, within, rows_are), h.3, h.4, h.5, subst (λ (n : ℕ). beats n v c.total c.best ≡ false) (listed_is_cap p w row is_row) h.8)
+      (w, row, h.2, h.3, h.4, h.5, h.6, subst (λ (n : ℕ). beats n v c.total c.best ≡ false) (listed_is_cap p w row is_row) h.7.2)
 
   pub right_all : ((v : ℕ) (row : Row) → slice_get c.rows v ≡ Some row → IsRightRow p c v row) → (v : ℕ) (row : Row) → IsRightRow p c v row → IsRightInShare p c v row
   right_all each v Refused h = h
@@ -180,12 +179,15 @@ module _ (p : Problem) (c : Cert) where
         w,
         row,
         other,
+        l,
         own,
         theirs,
         at,
-        cap_row_rises p w 0 row is_row,
-        points_fights p w row (cap_row_points p w 0 row is_row),
-        subst (λ (n : ℕ). beats n v c.total c.best ≡ false) (sym (listed_is_cap p w row is_row)) low,
+        (
+          cap_row_rises p w 0 row is_row,
+          points_fights p w row (cap_row_points p w 0 row is_row),
+          subst (λ (n : ℕ). beats n v c.total c.best ≡ false) (sym (listed_is_cap p w row is_row)) low,
+        ),
       )
 
   module _ (shares : ℕ) (some : 1 ≤ shares) (each : (n : ℕ) → 1 ≤ n → n ≤ shares → IsValidInShare p (part n shares) c) where
@@ -210,7 +212,7 @@ module _ (p : Problem) (c : Cert) where
       best_at = one.best_at;
       whole = all_listed p one.best_row one.every;
       sums = one.sums;
-      right = all_right one.rows_are share_right;
+      right = all_right share_right;
     }
 
   module _ (laws : IsProblem p) (valid : IsValid p c) where

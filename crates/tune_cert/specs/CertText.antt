@@ -5,6 +5,7 @@ use Rattle.std.specs.Fmt.{decimal}
 use Rattle.std.specs.Str.{byte}
 use Rattle.csv.specs.Writing.{default_writer, row_text}
 use Rattle.tables.specs.Records.{Fields}
+use Rattle.tune_problem.specs.Valid.{named_best}
 use Rattle.tune_problem.specs.declared.cert.Cert.{Cert}
 use Rattle.tune_problem.specs.declared.cert.Row.{Row}
 use Rattle.tune_problem.specs.declared.cert.Row.TheVariants.{Refused, Same, Cap}
@@ -80,7 +81,7 @@ statement_with version answer rows = record { version = version; count = length 
 
 -- A certificate as a statement.
 abbrev pub stated : Cert → Statement
-stated c = record { version = c.version; count = c.count; answer = TheBest (record { vector = c.best; total = c.total }); rows = c.rows }
+stated c = record { version = c.version; count = c.count; answer = TheBest (named_best c); rows = c.rows }
 
 abbrev pub cert_fields : Cert → List Fields
 cert_fields c = statement_fields (stated c)

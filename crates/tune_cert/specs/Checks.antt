@@ -133,8 +133,8 @@ abbrev pub share_settings : Part → (count : ℕ) → List ℕ
 share_settings share count = settings_between (part_first share count) (part_end share count)
 
 -- A reason, at a record.
-abbrev pub at_record : (number : ℕ) → Option Reason → Option (ℕ × Reason)
-at_record number reason = option_map (λ r. (number, r)) reason
+abbrev pub at_record : (index : ℕ) → Option Reason → Option (ℕ × Reason)
+at_record index reason = option_map (λ r. (index, r)) reason
 
 -- What a check of rows finds wrong with the row of setting v, if there is one.
 abbrev pub reason_at : (check : ℕ → Row → Option Reason) → List Row → (v : ℕ) → Option Reason

@@ -94,7 +94,7 @@ ShareAccepts p demand share s = judgement_on p demand share s ≡ accepted_with 
 -- The judgement of a share on what is read: on a statement, or else Malformed at this record.
 abbrev pub judgement_on_read : Problem → Demand → Part → Result Statement ℕ → Judgement
 judgement_on_read p demand share (Ok s) = judgement_on p demand share s
-judgement_on_read p demand share (Err number) = Rejected number Malformed
+judgement_on_read p demand share (Err index) = Rejected index Malformed
 
 -- The judgement of a share on records: on the statement that they spell, or else Malformed at the
 -- first malformed one. A statement without a best setting is malformed unless a floor is asked for.
@@ -108,12 +108,12 @@ AreSettings count ranking = AllByRecursion (λ (b : Best). b.vector < count) ran
 -- The ranking of a judgement that accepts has such settings.
 abbrev pub IsOfSettings : (count : ℕ) → Judgement → Type 0
 IsOfSettings count (Accepted answer ranking) = AreSettings count ranking
-IsOfSettings count (Rejected number reason) = Unit {0}
+IsOfSettings count (Rejected index reason) = Unit {0}
 
 -- A verdict as a judgement.
 abbrev pub judged : Verdict → Judgement
 judged (AcceptedCert best total) = Accepted (TheBest (record { vector = best; total = total })) []
-judged (RejectedCert number reason) = Rejected number reason
+judged (RejectedCert index reason) = Rejected index reason
 
 -- ---- what a judgement on all rows promises
 

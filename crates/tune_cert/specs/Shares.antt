@@ -1,14 +1,14 @@
 -- The part of the settings that a share looks at, and certificates that are valid in a share.
-use Rattle.std.specs.Prelude.{◌≡◌, ◌≢◌, ℕ, ◌<◌, ◌≤◌, true, List, length, slice_get, Some}
+use Rattle.std.specs.Prelude.{◌≡◌, ℕ, ◌<◌, ◌≤◌, true, List, length, slice_get, Some}
 use Rattle.rc_instr.specs.Warrior.{WarriorView}
 use Rattle.tune_problem.specs.Parts.{part, part_first, part_end, ForEach}
 use Rattle.tune_problem.specs.Problem.{Problem}
 use Rattle.tune_problem.specs.Optimum.{all_fights}
-use Rattle.tune_problem.specs.Valid.{listed_indices, listed_total, IsVersionOf, IsRightRow, IsNoBetter}
+use Rattle.tune_problem.specs.Valid.{listed_indices, listed_total, IsVersionOf, IsRightBy, IsNoBetter, IsBestOrNoBetter}
 use Rattle.tune_problem.specs.Exact.{listed_cap}
 use Rattle.tune_problem.specs.declared.cert.Cert.{Cert}
 use Rattle.tune_problem.specs.declared.cert.Row.{Row}
-use Rattle.tune_problem.specs.declared.cert.Row.TheVariants.{Refused, Same, Cap}
+use Rattle.tune_problem.specs.declared.cert.Row.TheVariants.{Cap}
 use Rattle.tune_problem.specs.declared.part.Part.{Part}
 use Rattle.tune_cert.specs.Checks.{rises, are_fights}
 use Rattle.tune_cert.specs.declared.share.Share.{Share}
@@ -21,17 +21,15 @@ share_part share = part share.number share.shares
 abbrev pub InEachShare : (shares : ℕ) → (Part → Type 0) → Type 0
 InEachShare shares Holds = ForEach shares (λ number. Holds (part number shares))
 
--- A refused or a cap row is right in a share if it is a right row of the certificate. A row of v
--- that refers to u is right if
--- - u is another setting with the same warrior;
--- - u has a cap row, whose fights rise and exist;
--- - the cap by the points listed there, as one of v, does not beat the best setting.
+-- The fights of a listing rise and exist, and the cap by the points listed there, as one of setting
+-- v, does not beat the best setting.
+abbrev pub IsNoBetterAsListed : Problem → Cert → (v : ℕ) → WarriorView → List (ℕ × ℕ) → Type 0
+IsNoBetterAsListed p c v w row = (rises 0 row ≡ true) × (are_fights p row ≡ true) × IsNoBetter c (listed_cap p row) v
+
+-- A row is right in a share if it is a right row of the certificate, except that the row to which
+-- it refers is taken as listed, since that may be of another share.
 abbrev pub IsRightInShare : Problem → Cert → (v : ℕ) → Row → Type 0
-IsRightInShare p c v Refused = IsRightRow p c v Refused
-IsRightInShare p c v (Cap row) = IsRightRow p c v (Cap row)
-IsRightInShare p c v (Same u) =
-    (w : WarriorView) × (row : List (ℕ × ℕ)) × (u ≢ v) × (p.warrior v ≡ Some w) × (p.warrior u ≡ Some w)
-    × (slice_get c.rows u ≡ Some (Cap row)) × (rises 0 row ≡ true) × (are_fights p row ≡ true) × IsNoBetter c (listed_cap p row) v
+IsRightInShare p c v row = IsRightBy p c.rows (IsBestOrNoBetter p c v) (IsNoBetterAsListed p c v) v row
 
 -- A certificate is valid in a share if its version, its number of rows and its best row are those
 -- of a valid one, and the rows of the share's settings are right.

@@ -8,7 +8,7 @@ use Rattle.mars_fight.specs.Play.{ArePoints}
 use Rattle.rc_instr.specs.Digits.{read_on}
 use Rattle.rc_instr.specs.Results.{◌>>=◌, Returns as ReturnsBut}
 use Rattle.tables.specs.Records.{Fields}
-use Rattle.tune_cert.specs.CertText.{row_fields, count_fields, best_fields, cert_fields}
+use Rattle.tune_cert.specs.CertText.{row_fields, count_fields, best_fields, stated, cert_fields}
 use Rattle.tune_problem.specs.declared.cert.Cert.{Cert}
 use Rattle.tune_problem.specs.declared.cert.Row.{Row}
 use Rattle.tune_problem.specs.declared.cert.Row.TheVariants.{Refused, Same, Cap}
@@ -154,15 +154,6 @@ IsRow Refused = Unit {0}
 IsRow (Same u) = FitsU32 u
 IsRow (Cap fights) = All IsItem fights
 
--- A certificate that can be written down.
-pub record IsCert (c : Cert) : Type 0 where
-  pub version : IsVersion c.version
-  pub count : FitsU32 c.count
-  pub best : FitsU32 c.best
-  pub total : FitsU32 c.total
-  pub rows : All IsRow c.rows
-  pub few : length c.rows ≤ 2 ^ 32
-
 -- The numbers of an answer fit.
 abbrev pub IsAnswer : Answer → Type 0
 IsAnswer (TheBest best) = FitsU32 best.vector × FitsU32 best.total
@@ -176,26 +167,30 @@ pub record IsStatement (s : Statement) : Type 0 where
   pub rows : All IsRow s.rows
   pub few : length s.rows ≤ 2 ^ 32
 
+-- A certificate can be written down if it can be as a statement.
+abbrev pub IsCert : Cert → Type 0
+IsCert c = IsStatement (stated c)
+
 -- Records spell a certificate if they are its records. It need not have as many rows as it claims.
 pub record Spells (records : List Fields) (c : Cert) : Type 0 where
   pub cert : IsCert c
   pub text : records ≡ cert_fields c
 
 -- The form of each record.
-abbrev pub HasForm : (number : ℕ) → Fields → Type 0
+abbrev pub HasForm : (index : ℕ) → Fields → Type 0
 HasForm zero fields = (version : ℕ) × (count : ℕ) × IsVersion version × FitsU32 count × (fields ≡ count_fields version count)
 HasForm (suc zero) fields = (best : ℕ) × (total : ℕ) × FitsU32 best × FitsU32 total × (fields ≡ best_fields best total)
 HasForm (suc (suc v)) fields = (row : Row) × FitsU32 v × IsRow row × (fields ≡ row_fields v row)
 
 -- A record is malformed if it has another form, or if it is missing and is one of the first two.
-abbrev pub IsMalformed : (records : List Fields) → (number : ℕ) → Type 0
-IsMalformed records number =
-    ((number < 2) × (length records ≤ number)) ⊎ ((fields : Fields) × (slice_get records number ≡ Some fields) × ¬ (HasForm number fields))
+abbrev pub IsMalformed : (records : List Fields) → (index : ℕ) → Type 0
+IsMalformed records index =
+    ((index < 2) × (length records ≤ index)) ⊎ ((fields : Fields) × (slice_get records index ≡ Some fields) × ¬ (HasForm index fields))
 
 -- The first malformed record.
-pub record IsFirstMalformed (records : List Fields) (number : ℕ) : Type 0 where
-  pub malformed : IsMalformed records number
-  pub first : (k : ℕ) → k < number → ¬ (IsMalformed records k)
+pub record IsFirstMalformed (records : List Fields) (index : ℕ) : Type 0 where
+  pub malformed : IsMalformed records index
+  pub first : (k : ℕ) → k < index → ¬ (IsMalformed records k)
 
 -- Out of memory says nothing of the bytes.
 abbrev pub IsOutOfMemory : ReadFault → Type 0

@@ -2,7 +2,7 @@
 use Rattle.std.specs.Prelude.{◌≡◌, ◌⊎◌, ℕ, ◌<◌, List, length, slice_get, Option, Some, None, Result, Ok, Err}
 use Rattle.tables.specs.Records.{Fields}
 use Rattle.tune_problem.specs.Problem.{Problem}
-use Rattle.tune_problem.specs.Optimum.{all_fights, IsOptimum, HasTotal}
+use Rattle.tune_problem.specs.Optimum.{all_fights, IsBest}
 use Rattle.tune_problem.specs.Valid.{listed_indices, listed_total, IsVersionOf, IsValid}
 use Rattle.tune_problem.specs.declared.cert.Cert.{Cert}
 use Rattle.tune_problem.specs.declared.cert.Row.{Row}
@@ -27,7 +27,7 @@ verdict_on p share c = verdict_by c (first_failure p share c)
 -- The verdict of a share on what is read: on a certificate, or else Malformed at this record.
 abbrev pub verdict_on_read : Problem → Part → Result Cert ℕ → Verdict
 verdict_on_read p share (Ok c) = verdict_on p share c
-verdict_on_read p share (Err number) = Rejected number Malformed
+verdict_on_read p share (Err index) = Rejected index Malformed
 
 -- The verdict of a share on records: on the certificate that they spell, or else Malformed at the
 -- first malformed one.
@@ -51,27 +51,27 @@ pub record IsBestRow (p : Problem) (c : Cert) : Type 0 where
   pub sums : listed_total p row ≡ c.total
 
 -- The record is a row, and this is what is wrong with it.
-pub record IsWrongRow (p : Problem) (c : Cert) (number : ℕ) (reason : Reason) : Type 0 where
+pub record IsWrongRow (p : Problem) (c : Cert) (index : ℕ) (reason : Reason) : Type 0 where
   pub vector : ℕ
-  pub number_is : number ≡ record_of vector
+  pub index_is : index ≡ record_of vector
   pub row : Row
   pub here : slice_get c.rows vector ≡ Some row
   pub wrong : row_reason p c None vector row ≡ Some reason
 
 -- What each reason says of the certificate, at the record that a rejection names.
-abbrev pub IsRejected : Problem → Cert → (number : ℕ) → Reason → Type 0
-IsRejected p c number Malformed = ⊥
-IsRejected p c number Version = (number ≡ 0) × (IsVersionOf p c.version → ⊥)
-IsRejected p c number RowCount = (number ≡ 0) × (HasRowCount p c → ⊥)
-IsRejected p c number BestRow = (number ≡ 1) × (IsBestRow p c → ⊥)
-IsRejected p c number reason = IsWrongRow p c number reason
+abbrev pub IsRejected : Problem → Cert → (index : ℕ) → Reason → Type 0
+IsRejected p c index Malformed = ⊥
+IsRejected p c index Version = (index ≡ 0) × (IsVersionOf p c.version → ⊥)
+IsRejected p c index RowCount = (index ≡ 0) × (HasRowCount p c → ⊥)
+IsRejected p c index BestRow = (index ≡ 1) × (IsBestRow p c → ⊥)
+IsRejected p c index reason = IsWrongRow p c index reason
 
 -- Accepted: the records spell a valid certificate with this best setting and total. Rejected: a
 -- record is malformed, or they spell a certificate of which the reason holds at that record.
 abbrev pub IsVerdict : Problem → List Fields → Verdict → Type 0
 IsVerdict p records (Accepted best total) = (c : Cert) × Spells records c × IsValid p c × (best ≡ c.best) × (total ≡ c.total)
-IsVerdict p records (Rejected number reason) =
-    ((reason ≡ Malformed) × IsMalformed records number) ⊎ ((c : Cert) × Spells records c × IsRejected p c number reason)
+IsVerdict p records (Rejected index reason) =
+    ((reason ≡ Malformed) × IsMalformed records index) ⊎ ((c : Cert) × Spells records c × IsRejected p c index reason)
 
 -- The row r of setting u is checked before the row of setting v: all refused and cap rows are
 -- checked first, in order, and then the rows that refer to others.
@@ -87,32 +87,32 @@ IsCheckedBefore u (Cap r) v Refused = u < v
 IsCheckedBefore u (Cap r) v (Cap row) = u < v
 
 -- The record is a row, and nothing is wrong with the rows that are checked before it.
-pub record IsFirstRow (p : Problem) (c : Cert) (number : ℕ) : Type 0 where
+pub record IsFirstRow (p : Problem) (c : Cert) (index : ℕ) : Type 0 where
   pub vector : ℕ
-  pub number_is : number ≡ record_of vector
+  pub index_is : index ≡ record_of vector
   pub row : Row
   pub here : slice_get c.rows vector ≡ Some row
   pub before : (u : ℕ) (r : Row) → slice_get c.rows u ≡ Some r → IsCheckedBefore u r vector row → row_reason p c None u r ≡ None
 
 -- Everything that is checked before the reason is right. A certificate has no malformed record.
-abbrev pub IsFirstOfCert : Problem → Cert → (number : ℕ) → Reason → Type 0
-IsFirstOfCert p c number Malformed = ⊥
-IsFirstOfCert p c number Version = Unit {0}
-IsFirstOfCert p c number RowCount = IsVersionOf p c.version
-IsFirstOfCert p c number BestRow = IsVersionOf p c.version × HasRowCount p c
-IsFirstOfCert p c number reason = IsVersionOf p c.version × HasRowCount p c × IsBestRow p c × IsFirstRow p c number
+abbrev pub IsFirstOfCert : Problem → Cert → (index : ℕ) → Reason → Type 0
+IsFirstOfCert p c index Malformed = ⊥
+IsFirstOfCert p c index Version = Unit {0}
+IsFirstOfCert p c index RowCount = IsVersionOf p c.version
+IsFirstOfCert p c index BestRow = IsVersionOf p c.version × HasRowCount p c
+IsFirstOfCert p c index reason = IsVersionOf p c.version × HasRowCount p c × IsBestRow p c × IsFirstRow p c index
 
 -- A rejection names the first record at which a check fails, and the first reason there. A
 -- malformed record is the first such; for any other reason the records spell a certificate.
 abbrev pub IsFirst : Problem → List Fields → Verdict → Type 0
 IsFirst p records (Accepted best total) = Unit {0}
-IsFirst p records (Rejected number Malformed) = IsFirstMalformed records number
-IsFirst p records (Rejected number reason) = (c : Cert) × Spells records c × IsFirstOfCert p c number reason
+IsFirst p records (Rejected index Malformed) = IsFirstMalformed records index
+IsFirst p records (Rejected index reason) = (c : Cert) × Spells records c × IsFirstOfCert p c index reason
 
 -- An accepted certificate names the optimum and its total.
 abbrev pub IsOptimal : Problem → Verdict → Type 0
-IsOptimal p (Accepted best total) = IsOptimum p best × HasTotal p best total
-IsOptimal p (Rejected number reason) = Unit {0}
+IsOptimal p (Accepted best total) = IsBest p (record { vector = best; total = total })
+IsOptimal p (Rejected index reason) = Unit {0}
 
 -- All that is promised of a verdict on records, whoever made them.
 pub record IsRightVerdict (p : Problem) (records : List Fields) (verdict : Verdict) : Type 0 where

@@ -2,6 +2,8 @@
 ghost use Rattle.std.specs.Prelude.{◌≡◌, ◌≤◌};
 ghost use Rattle.tune_problem.specs.Parts.{part, part_first, part_end};
 
+use tune_problem::Part;
+
 /// A share of the rows of a certificate, which are split into `shares` shares of nearly equal size.
 ///
 /// Of N settings, counted from 0, share I of K has the rows of those at index `(I - 1) * N / K` and
@@ -34,7 +36,7 @@ impl Share {
         ensures first { result ≡ part_first (part self.number self.shares) count }
         ensures before { result ≤ part_end (part self.number self.shares) count }
     {
-        (u64::from(self.number - 1) * u64::from(count) / u64::from(self.shares)) as u32
+        self.part().first(count)
     }
 
     // Returns the index after the last of its settings, out of `count`.
@@ -43,6 +45,18 @@ impl Share {
         ensures end { result ≡ part_end (part self.number self.shares) count }
         ensures inside { result ≤ count }
     {
-        (u64::from(self.number) * u64::from(count) / u64::from(self.shares)) as u32
+        self.part().end(count)
+    }
+
+    // Returns the part of the settings whose rows it has.
+    fn part(self) -> Part
+        ensures part { result ≡ part self.number self.shares }
+        ensures some { 1 ≤ result.number }
+        ensures within { result.number ≤ result.parts }
+    {
+        Part {
+            number: self.number,
+            parts: self.shares,
+        }
     }
 }

@@ -1,5 +1,5 @@
 -- The optimum of the whole is that of the first part with the greatest total.
-use Rattle.std.proofs.Common.{◌≡◌, ◌⊎◌, ℕ, zero, suc, ◌+◌, ◌-◌, ◌*◌, ◌/◌, ◌<◌, ◌≤◌, Option, Some, None, length, slice_get, inl, inr, refl, sym, ◌∙◌, ap, subst, arith}
+use Rattle.std.proofs.Common.{◌≡◌, ◌⊎◌, ℕ, zero, suc, ◌+◌, ◌-◌, ◌*◌, ◌/◌, ◌<◌, ◌≤◌, Some, length, slice_get, inl, inr, refl, sym, ◌∙◌, ap, subst, arith}
 use Rattle.std.specs.Prelude.{option_and_then}
 use Rattle.std.proofs.Math.Nat.{div-mul-le_self, mul-le-mul_right, mul-div_cancel_left, zero-div, eq-or-lt_of_le}
 use Rattle.std.proofs.lemmas.Nat.{le-div}
@@ -10,10 +10,10 @@ use Rattle.tune_problem.specs.Parts.{part, IsPart, part_end}
 use Rattle.tune_problem.specs.Inputs.{InputsView, settings_of, warrior_of}
 use Rattle.tune_problem.proofs.PartSteps.{part_inside, part_len, part_get, whole_list}
 use Rattle.tune_problem.specs.Problem.{Problem, problem_of}
-use Rattle.tune_problem.specs.Optimum.{total_of}
+use Rattle.tune_problem.specs.Optimum.{IsCandidate, total_of, IsBest}
 use Rattle.tune_template.specs.Instances.{setting_count}
 use Rattle.tune_problem.specs.Below.{AllBelow}
-use Rattle.tune_problem.specs.BestPart.{in_part, whole_of, first_setting, in_whole, IsBest, IsOutcome, StaysBelow, AllStayBelow, IsBestPart}
+use Rattle.tune_problem.specs.BestPart.{in_part, whole_of, first_setting, in_whole, IsOutcome, StaysBelow, AllStayBelow, IsBestPart}
 use Rattle.tune_problem.specs.declared.statement.Answer.{Answer}
 use Rattle.tune_problem.specs.declared.statement.Answer.TheVariants.{Best as TheBest, NoneFrom}
 use Rattle.tune_problem.specs.declared.watcher.Best.{Best}
@@ -200,12 +200,8 @@ module _ (i : InputsView) (k : ℕ) (some : 1 ≤ k) (few : k ≤ setting_count 
       )
 
 -- every candidate reaches the floor 0
-pub none_below : (p : Problem) → AllBelow p 0 → (v : ℕ) → v < p.count → p.warrior v ≡ None
-none_below p all v inside = by_warrior (p.warrior v) refl
-  where
-    by_warrior : (o : Option WarriorView) → p.warrior v ≡ o → p.warrior v ≡ None
-    by_warrior None e = e
-    by_warrior (Some w) e = let low = all v w inside e in absurd (omega (arith, low))
+pub none_below : (p : Problem) → AllBelow p 0 → (v : ℕ) → v < p.count → IsCandidate p v → ⊥
+none_below p all v inside (w, is) = let low = all v w inside is in omega (arith, low)
 
-pub below_none : (p : Problem) → ((v : ℕ) → v < p.count → p.warrior v ≡ None) → (floor : ℕ) → AllBelow p floor
-below_none p none floor = λ v w inside c. (let no = none v inside in absurd (cc))
+pub below_none : (p : Problem) → ((v : ℕ) → v < p.count → IsCandidate p v → ⊥) → (floor : ℕ) → AllBelow p floor
+below_none p none floor = λ v w inside is. absurd (none v inside (w, is))

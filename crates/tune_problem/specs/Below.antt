@@ -1,24 +1,20 @@
 -- Certificates that no candidate reaches a floor.
-use Rattle.std.specs.Prelude.{◌≡◌, ◌≢◌, ℕ, ◌<◌, List, length, slice_get, Some, None}
+use Rattle.std.specs.Prelude.{◌≡◌, ℕ, ◌<◌, List, length, slice_get, Some}
 use Rattle.rc_instr.specs.Warrior.{WarriorView}
 use Rattle.tune_problem.specs.Problem.{Problem}
 use Rattle.tune_problem.specs.Optimum.{cap_of, total_of}
-use Rattle.tune_problem.specs.Valid.{IsCapRow, IsVersionOf, listed_indices}
+use Rattle.tune_problem.specs.Valid.{IsRightBy, IsVersionOf, listed_indices}
 use Rattle.tune_problem.specs.declared.cert.Cert.{Cert}
 use Rattle.tune_problem.specs.declared.cert.Row.{Row}
-use Rattle.tune_problem.specs.declared.cert.Row.TheVariants.{Refused, Same, Cap}
 use Rattle.tune_problem.specs.declared.watcher.Best.{Best}
 
--- The row of setting v shows that v does not reach the floor, in one of three cases. Refused: v
--- does not assemble. Cap: the row is a cap row of v's warrior, and its cap is below the floor.
--- Same: another setting u has the same warrior and a cap row, and that cap is below the floor.
+-- The cap of a warrior by the fights that a row lists is below the floor.
+abbrev pub IsBelowBy : Problem → (floor : ℕ) → WarriorView → List (ℕ × ℕ) → Type 0
+IsBelowBy p floor w row = cap_of p w (listed_indices row) < floor
+
+-- The row of setting v shows that v does not reach the floor.
 abbrev pub IsRowBelow : Problem → ℕ → List Row → ℕ → Row → Type 0
-IsRowBelow p floor rows v Refused = p.warrior v ≡ None
-IsRowBelow p floor rows v (Cap row) =
-    (w : WarriorView) × (p.warrior v ≡ Some w) × IsCapRow p w 0 row × (cap_of p w (listed_indices row) < floor)
-IsRowBelow p floor rows v (Same u) =
-    (w : WarriorView) × (row : List (ℕ × ℕ)) × (u ≢ v) × (u < p.count) × (p.warrior v ≡ Some w) × (p.warrior u ≡ Some w)
-    × (slice_get rows u ≡ Some (Cap row)) × (cap_of p w (listed_indices row) < floor)
+IsRowBelow p floor rows v row = IsRightBy p rows (IsBelowBy p floor) (IsBelowBy p floor) v row
 
 -- A valid certificate that no candidate reaches the floor: its version fits the schedule, and each
 -- setting has a row, which shows that the setting does not reach the floor.

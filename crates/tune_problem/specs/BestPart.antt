@@ -4,7 +4,7 @@ use Rattle.tune_template.specs.Instances.{setting_count}
 use Rattle.tune_problem.specs.Parts.{part, part_first, ForEach}
 use Rattle.tune_problem.specs.Inputs.{InputsView, with_part}
 use Rattle.tune_problem.specs.Problem.{Problem, problem_of}
-use Rattle.tune_problem.specs.Optimum.{IsOptimum, HasTotal}
+use Rattle.tune_problem.specs.Optimum.{IsBest}
 use Rattle.tune_problem.specs.Below.{AllBelow}
 use Rattle.tune_problem.specs.declared.statement.Answer.{Answer}
 use Rattle.tune_problem.specs.declared.statement.Answer.TheVariants.{Best as TheBest, NoneFrom}
@@ -25,10 +25,6 @@ first_setting i number parts = part_first (part number parts) (setting_count i.t
 -- A setting of a part, by its index in the whole: counted on from where the part begins.
 abbrev pub in_whole : InputsView → ℕ → ℕ → Best → Best
 in_whole i number parts best = record { vector = first_setting i number parts + best.vector; total = best.total }
-
--- The setting is the optimum, and has this total.
-abbrev pub IsBest : Problem → Best → Type 0
-IsBest p best = IsOptimum p best.vector × HasTotal p best.vector best.total
 
 -- What is known of a part that was tuned: this setting is the best, or no candidate reaches the
 -- floor. A part without a candidate counts as `NoneFrom 0`, since every candidate reaches the floor

@@ -4,6 +4,7 @@ use Rattle.std.specs.List.{sum_by, count_by, range_with_len}
 use Rattle.std.specs.Option.{is_some}
 use Rattle.rc_instr.specs.Warrior.{WarriorView}
 use Rattle.tune_problem.specs.Problem.{Problem}
+use Rattle.tune_problem.specs.declared.watcher.Best.{Best}
 
 -- A setting is a candidate if it assembles.
 abbrev pub IsCandidate : Problem → ℕ → Type 0
@@ -40,6 +41,10 @@ pub record IsOptimum (p : Problem) (v : ℕ) : Type 0 where
   pub candidate : p.warrior v ≡ Some warrior
   pub greatest : (u : ℕ) (other : WarriorView) → u < p.count → p.warrior u ≡ Some other → total_of p other ≤ total_of p warrior
   pub first : (u : ℕ) (other : WarriorView) → u < p.count → p.warrior u ≡ Some other → total_of p other ≡ total_of p warrior → v ≤ u
+
+-- The setting is the optimum, and has this total.
+abbrev pub IsBest : Problem → Best → Type 0
+IsBest p best = IsOptimum p best.vector × HasTotal p best.vector best.total
 
 -- The number of candidates.
 unfoldable pub candidates_of : Problem → ℕ

@@ -8,6 +8,7 @@ use Rattle.tune_problem.specs.declared.cert.Cert.{Cert}
 use Rattle.tune_problem.specs.declared.cert.Found.{Found}
 use Rattle.tune_problem.specs.declared.cert.Row.{Row}
 use Rattle.tune_problem.specs.declared.cert.Row.TheVariants.{Refused, Same, Cap}
+use Rattle.tune_problem.specs.declared.watcher.Best.{Best}
 
 -- The indices of the fights that a cap row lists.
 abbrev pub listed_indices : List (ℕ × ℕ) → List ℕ
@@ -40,21 +41,32 @@ listed_by (Some row) = listed_in row
 unfoldable pub listed_fights : List Row → ℕ
 listed_fights rows = sum_by listed_in rows
 
+-- The row of setting v is right, by what a warrior and the fights that a row lists have to meet, in
+-- one of three cases. Refused: v does not assemble. Cap: the row is a cap row of v's warrior, and
+-- meets `Own`. Same: another setting u has the same warrior and a cap row, which meets `Other`.
+abbrev pub IsRightBy : Problem → List Row → (Own Other : WarriorView → List (ℕ × ℕ) → Type 0) → ℕ → Row → Type 0
+IsRightBy p rows Own Other v Refused = p.warrior v ≡ None
+IsRightBy p rows Own Other v (Cap row) = (w : WarriorView) × (p.warrior v ≡ Some w) × IsCapRow p w 0 row × Own w row
+IsRightBy p rows Own Other v (Same u) =
+    (w : WarriorView) × (row : List (ℕ × ℕ)) × (u ≢ v) × (u < p.count) × (p.warrior v ≡ Some w) × (p.warrior u ≡ Some w)
+    × (slice_get rows u ≡ Some (Cap row)) × Other w row
+
 -- A cap of setting v does not beat the best setting of the certificate.
 abbrev pub IsNoBetter : Cert → ℕ → ℕ → Type 0
 IsNoBetter c cap v = beats cap v c.total c.best ≡ false
 
--- The row of setting v is right, in one of three cases. Refused: v does not assemble. Cap: the row
--- is a cap row of v's warrior, and unless v is the best setting its cap does not beat that one.
--- Same: another setting u has the same warrior and a cap row, and that cap, as one of v, does not
--- beat the best setting.
+-- The cap of a warrior by the fights that a row lists, as one of setting v, does not beat the best
+-- setting.
+abbrev pub IsNoBetterBy : Problem → Cert → (v : ℕ) → WarriorView → List (ℕ × ℕ) → Type 0
+IsNoBetterBy p c v w row = IsNoBetter c (cap_of p w (listed_indices row)) v
+
+-- The same, unless v is the best setting.
+abbrev pub IsBestOrNoBetter : Problem → Cert → (v : ℕ) → WarriorView → List (ℕ × ℕ) → Type 0
+IsBestOrNoBetter p c v w row = v ≢ c.best → IsNoBetterBy p c v w row
+
+-- The row of setting v shows that v is not better than the best setting, unless it is that one.
 abbrev pub IsRightRow : Problem → Cert → ℕ → Row → Type 0
-IsRightRow p c v Refused = p.warrior v ≡ None
-IsRightRow p c v (Cap row) =
-    (w : WarriorView) × (p.warrior v ≡ Some w) × IsCapRow p w 0 row × (v ≢ c.best → IsNoBetter c (cap_of p w (listed_indices row)) v)
-IsRightRow p c v (Same u) =
-    (w : WarriorView) × (row : List (ℕ × ℕ)) × (u ≢ v) × (u < p.count) × (p.warrior v ≡ Some w) × (p.warrior u ≡ Some w)
-    × (slice_get c.rows u ≡ Some (Cap row)) × IsNoBetter c (cap_of p w (listed_indices row)) v
+IsRightRow p c v row = IsRightBy p c.rows (IsBestOrNoBetter p c v) (IsNoBetterBy p c v) v row
 
 -- Version 1 is for schedules in which every fight counts once. Version 2 is for any.
 abbrev pub IsVersionOf : Problem → ℕ → Type 0
@@ -76,6 +88,10 @@ pub record IsValid (p : Problem) (c : Cert) : Type 0 where
   pub whole : length best_row ≡ p.fights
   pub sums : listed_total p best_row ≡ c.total
   pub right : (v : ℕ) (row : Row) → slice_get c.rows v ≡ Some row → IsRightRow p c v row
+
+-- The best setting that a certificate names, with the total that it claims.
+abbrev pub named_best : Cert → Best
+named_best c = record { vector = c.best; total = c.total }
 
 -- The certificate of what a search found.
 abbrev pub cert_of : Found → Cert

@@ -1,15 +1,15 @@
 //! Laws of the definitions. A law is a function with an empty body: its contract is what is proved.
-ghost use Rattle.std.specs.Prelude.{◌≡◌, ◌↔◌, ◌<◌, ◌≤◌, ℕ, ℤ, List, None, length, flat_map};
+ghost use Rattle.std.specs.Prelude.{◌≡◌, ◌↔◌, ◌<◌, ◌≤◌, ℕ, ℤ, List, length, flat_map};
 ghost use Rattle.std.specs.List.{range_with_len};
 ghost use Rattle.tune_problem.specs.Parts.{part, whole, part_of};
 ghost use Rattle.tune_problem.specs.Inputs.{InputsView};
 ghost use Rattle.tune_problem.specs.Problem.{Problem, IsProblem, problem_of};
-ghost use Rattle.tune_problem.specs.Optimum.{IsOptimum, HasTotal};
-ghost use Rattle.tune_problem.specs.Valid.{IsValid};
+ghost use Rattle.tune_problem.specs.Optimum.{IsCandidate, IsOptimum, IsBest};
+ghost use Rattle.tune_problem.specs.Valid.{IsValid, named_best};
 ghost use Rattle.tune_problem.specs.Below.{IsValidBelow, AllBelow};
 ghost use Rattle.tune_problem.specs.Ranking.{IsAim, IsRanking, Any};
 ghost use Rattle.tune_problem.specs.Exact.{IsExact, listed_ranking};
-ghost use Rattle.tune_problem.specs.BestPart.{whole_of, in_whole, IsBest, AreTuned, AllStayBelow, IsBestPart};
+ghost use Rattle.tune_problem.specs.BestPart.{whole_of, in_whole, AreTuned, AllStayBelow, IsBestPart};
 ghost use Rattle.tune_problem.specs.declared.statement.Answer.{Answer};
 ghost use Rattle.tune_problem.specs.declared.watcher.Best.{Best};
 
@@ -29,7 +29,7 @@ pub fn parts_make_the_whole()
 ///
 /// The first needs one fact, which holds for any inputs: a fight gives 0, 1 or 3 points.
 pub fn a_valid_certificate_names_the_optimum()
-    ensures names { (p : Problem) (c : Cert) → IsProblem p → IsValid p c → IsOptimum p c.best × HasTotal p c.best c.total }
+    ensures names { (p : Problem) (c : Cert) → IsProblem p → IsValid p c → IsBest p (named_best c) }
     ensures one { (p : Problem) (v w : ℕ) → IsOptimum p v → IsOptimum p w → v ≡ w }
     ensures inputs { (i : InputsView) → IsProblem (problem_of i) }
 {}
@@ -57,5 +57,5 @@ pub fn the_best_part_has_the_optimum()
     ensures best { (i : InputsView) (parts n : ℕ) (outcome : ℕ → Answer) (best : Best) → AreTuned i parts outcome → IsBestPart parts outcome n best
         → IsBest (whole_of i) (in_whole i n parts best) }
     ensures below { (i : InputsView) (parts floor : ℕ) (outcome : ℕ → Answer) → AreTuned i parts outcome → AllStayBelow floor parts outcome → AllBelow (whole_of i) floor }
-    ensures none { (p : Problem) → AllBelow p 0 ↔ ((v : ℕ) → v < p.count → p.warrior v ≡ None) }
+    ensures none { (p : Problem) → AllBelow p 0 ↔ ((v : ℕ) → v < p.count → IsCandidate p v → ⊥) }
 {}

@@ -33,17 +33,19 @@ impl Part {
         1 <= self.number && self.number <= self.parts && self.parts <= count
     }
 
-    // Returns the index of the first of its settings, out of `count`.
-    pub(crate) fn first(self, count: u32) -> u32
-        requires part { IsPart self count }
+    /// Returns the index of its first setting, out of `count`. `number` must be 1 to `parts`.
+    pub fn first(self, count: u32) -> u32
+        requires some { 1 ≤ self.number }
+        requires within { self.number ≤ self.parts }
         ensures { result ≡ part_first self count }
     {
         (u64::from(self.number - 1) * u64::from(count) / u64::from(self.parts)) as u32
     }
 
-    // Returns the index after the last of its settings, out of `count`.
-    pub(crate) fn end(self, count: u32) -> u32
-        requires part { IsPart self count }
+    /// Returns the index after its last setting, out of `count`. `number` must be 1 to `parts`.
+    pub fn end(self, count: u32) -> u32
+        requires some { 1 ≤ self.number }
+        requires within { self.number ≤ self.parts }
         ensures end { result ≡ part_end self count }
     {
         (u64::from(self.number) * u64::from(count) / u64::from(self.parts)) as u32

@@ -9,8 +9,9 @@ use Rattle.tune_template.specs.Instances.{setting_count}
 use Rattle.tune_problem.specs.Parts.{whole}
 use Rattle.tune_problem.specs.Inputs.{InputsView}
 use Rattle.tune_problem.specs.Problem.{Problem, IsProblem, problem_of}
+use Rattle.tune_problem.specs.Optimum.{IsBest}
 use Rattle.tune_problem.specs.Below.{AllBelow, cert_with}
-use Rattle.tune_problem.specs.BestPart.{in_part, IsBest, IsOutcome, AllStayBelow, IsBestPart}
+use Rattle.tune_problem.specs.BestPart.{in_part, IsOutcome, AllStayBelow, IsBestPart}
 use Rattle.tune_problem.specs.declared.statement.Answer.{Answer}
 use Rattle.tune_problem.specs.declared.statement.Answer.TheVariants.{Best as TheBest, NoneFrom}
 use Rattle.tune_problem.specs.declared.statement.Statement.{Statement}

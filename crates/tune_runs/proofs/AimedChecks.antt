@@ -16,7 +16,6 @@ use Rattle.tune_problem.specs.Below.{AllBelow, cert_with}
 use Rattle.tune_problem.specs.Ranking.{IsAim, first_of}
 use Rattle.tune_problem.specs.Exact.{IsExact, listed_ranking}
 use Rattle.tune_problem.specs.declared.aim.Aim.{Aim}
-use Rattle.tune_problem.specs.declared.cert.Cert.{Cert}
 use Rattle.tune_problem.specs.declared.part.Part.{Part}
 use Rattle.tune_problem.specs.declared.statement.Answer.{Answer}
 use Rattle.tune_problem.specs.declared.statement.Statement.{Statement}
@@ -25,7 +24,7 @@ use Rattle.tune_problem.proofs.PartSteps.{part_len, part_some}
 use Rattle.tune_problem.proofs.Scores.{inputs_problem}
 use Rattle.tune_problem.proofs.Weights.{greatest_is}
 use Rattle.tune_cert.specs.CertText.{statement_text, statement_with}
-use Rattle.tune_cert.specs.Spelling.{IsCert, IsStatement, statement_of}
+use Rattle.tune_cert.specs.Spelling.{IsStatement, statement_of}
 use Rattle.tune_cert.specs.Judgement.{IsExactFor, MeetsBy, MeetsDemand, accepted_with, aim_for, judgement_of, judgement_on_read, ranking_for}
 use Rattle.tune_cert.specs.declared.demand.Demand.{Demand}
 use Rattle.tune_cert.specs.declared.verdict.Judgement.{Judgement}
@@ -37,7 +36,7 @@ use Rattle.tune_search.specs.Findings.{IsBestFrom, IsCertified, IsSearchFrom}
 use Rattle.tune_search.specs.declared.findings.Findings.{Findings}
 use Rattle.tune_search.specs.declared.method.Method.{Method}
 use Rattle.tune_search.proofs.ExactRows.{is_exact, lists_ranking}
-use Rattle.tune_search.proofs.Finish.{none_best}
+use Rattle.tune_problem.proofs.WholeOfParts.{none_below}
 use Rattle.tune_runs.specs.Report.{named_setting, rank_lines}
 use Rattle.tune_runs.specs.TuneRun.{Texts, Means, answer_of}
 use Rattle.tune_runs.specs.CheckRun.{accepted_words, accepts_for, answer_text, check_for_output, judgement_lines, share_meant}
@@ -86,7 +85,7 @@ module _ (p : Problem) (laws : IsProblem p) (start : p.start < p.count) (demand 
       by_floor None e =
           let below : AllBelow p aim.floor = subst (IsBestFrom p aim.floor) none s.best in
           let zero : aim.floor ≡ 0 = ap (λ (o : Option ℕ). unwrap_or o 0) e in
-          let none_of : candidates_of p ≡ 0 = no_candidates p (none_best p (subst (AllBelow p) zero below)) in
+          let none_of : candidates_of p ≡ 0 = no_candidates p (none_below p (subst (AllBelow p) zero below)) in
           let count : f.candidates ≡ candidates_of p = s.work.count in
           absurd (omega (arith, some, count, none_of))
 
@@ -108,9 +107,7 @@ module _ (p : Problem) (laws : IsProblem p) (start : p.start < p.count) (demand 
 
   cert_read : (best : Best) → IsStatement (said (Some best)) → statement_of (is_some demand.floor) (records_of (statement_text (said (Some best)))) ≡ Ok (said (Some best))
   cert_read best h =
-      let c : Cert = cert_with f.version (length f.rows) f.rows best in
-      let is_cert : IsCert c = record { version = h.version; count = h.count; best = h.answer.0; total = h.answer.1; rows = h.rows; few = h.few } in
-      ap (statement_of (is_some demand.floor)) (written c is_cert).text ∙ statement_read (is_some demand.floor) (said (Some best)) h tt
+      ap (statement_of (is_some demand.floor)) (written (cert_with f.version (length f.rows) f.rows best) h).text ∙ statement_read (is_some demand.floor) (said (Some best)) h tt
 
   read_by : (o : Option Best) → first_of f.ranking ≡ o → IsStatement (said o) → statement_of (is_some demand.floor) (records_of (statement_text (said o))) ≡ Ok (said o)
   read_by None none h = ap (λ (q : Option ℕ). statement_of (is_some q) (records_of (statement_text (said None)))) (floor_asked none) ∙ written_statement (said None) h

@@ -4,6 +4,7 @@ use Rattle.std.specs.List.{count_by, range_with_len, slice_get}
 use Rattle.std.proofs.lemmas.List.Sums.{sum_by-cons}
 use Rattle.std.specs.Option.{is_some, option_map}
 use Rattle.rc_instr.specs.Outlet.{OutletView}
+use Rattle.rc_instr.specs.Warrior.{WarriorView}
 use Rattle.tune_problem.specs.Inputs.{InputsView, settings_of}
 use Rattle.tune_problem.specs.Problem.{Problem, problem_of}
 use Rattle.tune_problem.specs.Optimum.{candidates_of}
@@ -16,7 +17,8 @@ use Rattle.tune_search.specs.Findings.{IsBestFrom, IsSearchFrom, found_of}
 use Rattle.tune_search.specs.Found.{IsSearch, NoneAssembles}
 use Rattle.tune_search.specs.declared.findings.Findings.{Findings}
 use Rattle.tune_search.specs.declared.method.Method.{Method}
-use Rattle.tune_search.proofs.Finish.{as_found, none_best}
+use Rattle.tune_problem.proofs.WholeOfParts.{none_below}
+use Rattle.tune_search.proofs.Finish.{as_found}
 use Rattle.tune_runs.specs.Report.{Report, constants_with, report_for, report_from, report_text, NamedSetting, named_setting}
 use Rattle.tune_runs.specs.TuneRun.{Texts, IsTuneRun, WritesTuning, WritesTuningFrom, answer_of}
 use Rattle.tune_runs.specs.Runs.{Gets, Writer, writer}
@@ -35,9 +37,14 @@ none_count g a (suc n) h =
     let none : bit (g a) ≡ 0 = ap bit here in
     omega (arith, more, rest, none)
 
+-- a setting that is not a candidate has no warrior
+no_warrior : (o : Option WarriorView) → ((w : WarriorView) × (o ≡ Some w) → ⊥) → is_some o ≡ false
+no_warrior None none = refl
+no_warrior (Some w) none = absurd (none (w, refl))
+
 pub no_candidates : (p : Problem) → NoneAssembles p → candidates_of p ≡ 0
 unfolding candidates_of
-no_candidates p none = none_count (λ v. is_some (p.warrior v)) 0 p.count (λ k l. let at : 0 + k ≡ k = omega arith in ap (λ v. is_some (p.warrior v)) at ∙ ap is_some (none k l))
+no_candidates p none = none_count (λ v. is_some (p.warrior v)) 0 p.count (λ k l. let at : 0 + k ≡ k = omega arith in ap (λ v. is_some (p.warrior v)) at ∙ no_warrior (p.warrior k) (none k l))
 
 -- a setting with these values of the constants
 abbrev with_values : InputsView → Best → Option (List ℤ) → NamedSetting
@@ -51,7 +58,7 @@ module _ (t : Texts) (method : Method) (i : InputsView) (f : Findings) (s : IsSe
       by_first : (o : Option Best) → first_of f.ranking ≡ o → (best : Best) × (first_of f.ranking ≡ Some best)
       by_first (Some best) is = (best, is)
       by_first None is =
-          let zero_of : candidates_of (problem_of i) ≡ 0 = no_candidates (problem_of i) (none_best (problem_of i) (subst (IsBestFrom (problem_of i) 0) is s.best)) in
+          let zero_of : candidates_of (problem_of i) ≡ 0 = no_candidates (problem_of i) (none_below (problem_of i) (subst (IsBestFrom (problem_of i) 0) is s.best)) in
           let count : f.candidates ≡ candidates_of (problem_of i) = s.work.count in
           absurd (omega (arith, some, count, zero_of))
 

@@ -80,8 +80,7 @@ module _ (p : Problem) (laws : IsProblem p) (few : p.fights ≤ MOST_FIGHTS) (mo
         record {
           version = is_version p f.version s.work.version;
           count = omega arith;
-          best = omega (arith, all_rows);
-          total = omega (arith, most, total_few p laws s.total_is.0);
+          answer = (omega (arith, all_rows), omega (arith, most, total_few p laws s.total_is.0));
           rows = rows_of f.rows (λ v row at. row_of (omega (arith, all_rows)) (cert_of f) v row (s.valid.right v row at));
           few = omega arith;
         }
@@ -103,11 +102,11 @@ module _ (p : Problem) (laws : IsProblem p) (few : p.fights ≤ MOST_FIGHTS) (mo
         }
     by_best (Some b) h best =
         let few_rows : length f.rows ≤ MOST_SETTINGS = s.work.few in
-        let total : total_of p best.1.0 ≡ b.total = best.1.2 in
+        let total : total_of p best.0.1.0 ≡ b.total = best.0.1.2 in
         record {
           version = is_version p f.version s.work.version;
           count = omega arith;
-          answer = (omega (arith, few_rows, h.rows_are, h.best_inside), omega (arith, total, most, total_few p laws best.1.0));
+          answer = (omega (arith, few_rows, h.rows_are, h.best_inside), omega (arith, total, most, total_few p laws best.0.1.0));
           rows = rows_of f.rows (λ v row at. row_of (omega (arith, few_rows, h.rows_are)) (cert_with f.version (length f.rows) f.rows b) v row (h.right v row at));
           few = omega arith;
         }

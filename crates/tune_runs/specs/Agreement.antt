@@ -2,8 +2,9 @@
 use Rattle.std.specs.Prelude.{◌≡◌, ℕ, ◌≤◌, ℤ, Bool, true, List, [], ◌++◌, codes, Some, None}
 use Rattle.tables.specs.Records.{Fields, records_of}
 use Rattle.tune_problem.specs.Below.{AllBelow}
-use Rattle.tune_problem.specs.BestPart.{in_whole, IsBest, AllStayBelow, IsBestPart}
+use Rattle.tune_problem.specs.BestPart.{in_whole, AllStayBelow, IsBestPart}
 use Rattle.tune_problem.specs.Inputs.{InputsView}
+use Rattle.tune_problem.specs.Optimum.{IsBest}
 use Rattle.tune_problem.specs.Parts.{part, ForEach}
 use Rattle.tune_problem.specs.Problem.{problem_of}
 use Rattle.tune_problem.specs.Valid.{cert_of}

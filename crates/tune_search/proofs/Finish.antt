@@ -9,7 +9,7 @@ use Rattle.rc_instr.specs.Rules.{RulesView}
 use Rattle.rc_instr.specs.Warrior.{WarriorView}
 use Rattle.tune_template.specs.Limits.{MOST_SETTINGS}
 use Rattle.tune_problem.specs.Problem.{IsProblem, Problem}
-use Rattle.tune_problem.specs.Optimum.{all_fights, candidates_of, cap_of, total_of}
+use Rattle.tune_problem.specs.Optimum.{IsCandidate, all_fights, candidates_of, cap_of, total_of}
 use Rattle.tune_problem.specs.Valid.{IsOwnVersion, IsVersionOf, IsCapRow, IsRightRow, listed_fights, listed_in, listed_indices}
 use Rattle.tune_problem.specs.declared.cert.Row.{Row}
 use Rattle.tune_problem.specs.declared.cert.Row.TheVariants.{Cap, Refused, Same}
@@ -19,7 +19,7 @@ use Rattle.tune_search.specs.Visits.{IsFought, visits_before, ranking_after}
 use Rattle.tune_search.specs.Ranking.{IsRankingBy}
 use Rattle.tune_search.specs.Sharing.{HasRowOf, IsExplained, IsVisited}
 use Rattle.tune_search.specs.Found.{IsSearch, IsWorkOf, is_cap, is_copied}
-use Rattle.tune_problem.specs.Below.{IsRowBelow, AllBelow, cert_with}
+use Rattle.tune_problem.specs.Below.{IsRowBelow, cert_with}
 use Rattle.tune_search.specs.Findings.{IsBestFrom, IsCertified, IsSearchFrom, found_of}
 use Rattle.tune_search.specs.declared.findings.Findings.{Findings}
 use Rattle.tune_search.specs.State.{HasCopied, IsUnderWay, IsWhole, Progress, is_filled}
@@ -136,14 +136,16 @@ best_from p start aim is_aim (lead ∷ xs) h =
     let made : total_of p it.warrior ≡ lead.total = it.scores in
     let after : (v : ℕ) (x : WarriorView) → v < p.count → p.warrior v ≡ Some x → Trails (total_of p x) v lead.total lead.vector =
     (λ v x l is. trails _ _ _ _ (visited_behind p aim is_aim p.count (lead ∷ xs) h v x l (before_below p.start p.count v start l) is)) in (
-      record {
-        warrior = it.warrior;
-        inside = it.inside;
-        candidate = it.candidate;
-        greatest = λ v x l is. let le : total_of p x ≤ lead.total = (after v x l is).no_more in omega arith;
-        first = λ v x l is e. (after v x l is).later (e ∙ made);
-      },
-      (it.warrior, it.candidate, it.scores),
+      (
+        record {
+          warrior = it.warrior;
+          inside = it.inside;
+          candidate = it.candidate;
+          greatest = λ v x l is. let le : total_of p x ≤ lead.total = (after v x l is).no_more in omega arith;
+          first = λ v x l is e. (after v x l is).later (e ∙ made);
+        },
+        (it.warrior, it.candidate, it.scores),
+      ),
       it.reaches,
     )
 
@@ -295,12 +297,13 @@ module _ (p : Problem) (laws : IsProblem p) (start : p.start < p.count) (rules :
   told_shared : (v : ℕ) (w : WarriorView) → v < p.count → p.warrior v ≡ Some w → IsVisited p aim method g.rows g.copied v w
   told_shared v w l is = subst (λ (o : Option WarriorView). IsExplained p aim method g.rows g.copied v o) is (all_told v l)
 
-  pub finds_none : g.candidates ≡ 0 → (v : ℕ) → v < p.count → p.warrior v ≡ None
+  pub finds_none : g.candidates ≡ 0 → (v : ℕ) → v < p.count → IsCandidate p v → ⊥
   unfolding candidates_of
-  finds_none e v l =
+  finds_none e v l (w, is) =
       let none : count_by (λ u. is_some (p.warrior u)) (range_with_len 0 p.count) ≡ 0 = sym (filled_candidates p aim method g.rows g.copied s.rows_are all_told) ∙ sym s.count ∙ e in
       let at : 0 + v ≡ v = omega arith in
-      none_is (p.warrior v) (ap (λ u. is_some (p.warrior u)) (sym at) ∙ none_passes (λ u. is_some (p.warrior u)) 0 p.count v none l)
+      let refused : p.warrior v ≡ None = none_is (p.warrior v) (ap (λ u. is_some (p.warrior u)) (sym at) ∙ none_passes (λ u. is_some (p.warrior u)) 0 p.count v none l) in
+      absurd (cc)
 
   -- the rows and the counts are those of the method
   worked : (version : ℕ) → IsOwnVersion p version → p.count ≤ MOST_SETTINGS →
@@ -341,15 +344,8 @@ pub as_found : (p : Problem) (method : Method) (f : Findings) (best : Best) → 
 as_found p method f best is s =
     let found : IsBestFrom p 0 (Some best) = subst (IsBestFrom p 0) is s.best in
     record {
-      optimum = found.0;
-      total_is = found.1;
+      optimum = found.0.0;
+      total_is = found.0.1;
       valid = subst (IsCertified p 0 f.version f.rows) is s.certified;
       work = s.work;
     }
-
-pub none_best : (p : Problem) → AllBelow p 0 → (v : ℕ) → v < p.count → p.warrior v ≡ None
-none_best p h v l = by_warrior (p.warrior v) refl
-  where
-    by_warrior : (o : Option WarriorView) → p.warrior v ≡ o → o ≡ None
-    by_warrior None is = refl
-    by_warrior (Some w) is = absurd (let short : total_of p w < 0 = h v w l is in omega arith)

@@ -14,16 +14,16 @@ module _ (p : Problem) (floor v t : ℕ) (optimum : IsOptimum p v) (total : HasT
   pub kept : (best : Option Best) → IsBestFrom p floor best → floor ≤ t → best ≡ Some (record { vector = v; total = t })
   kept None h le = absurd (let short : total_of p total.0 < floor = h v total.0 optimum.inside total.1 in omega (arith, short, le, total.2))
   kept (Some b) h le =
-      let same : b.vector ≡ v = optimum_one p b.vector v h.0 optimum in
-      let even : b.total ≡ t = total_one p b.vector v b.total t same h.1 total in
+      let same : b.vector ≡ v = optimum_one p b.vector v h.0.0 optimum in
+      let even : b.total ≡ t = total_one p b.vector v b.total t same h.0.1 total in
       λ i. Some (record { vector = same i; total = even i })
 
   pub hidden : (best : Option Best) → IsBestFrom p floor best → t < floor → best ≡ None
   hidden None h short = refl
   hidden (Some b) h short =
-      let same : b.vector ≡ v = optimum_one p b.vector v h.0 optimum in
-      let even : b.total ≡ t = total_one p b.vector v b.total t same h.1 total in
-      absurd (omega (arith, even, short, h.2))
+      let same : b.vector ≡ v = optimum_one p b.vector v h.0.0 optimum in
+      let even : b.total ≡ t = total_one p b.vector v b.total t same h.0.1 total in
+      absurd (omega (arith, even, short, h.1))
 
   -- so the total says which
   pub by_total : (best : Option Best) → IsBestFrom p floor best → best ≡ (if nat_le floor t then Some (record { vector = v; total = t }) else None)

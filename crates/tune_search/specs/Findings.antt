@@ -2,7 +2,7 @@
 use Rattle.std.specs.Prelude.{◌≡◌, ℕ, ◌≤◌, ◌⊎◌, nat_le, if◌then◌else◌, List, length, slice_get, Option, Some, None}
 use Rattle.std.specs.List.{AllByRecursion}
 use Rattle.tune_problem.specs.Problem.{Problem}
-use Rattle.tune_problem.specs.Optimum.{IsOptimum, HasTotal}
+use Rattle.tune_problem.specs.Optimum.{IsBest}
 use Rattle.tune_problem.specs.Valid.{IsValid}
 use Rattle.tune_problem.specs.declared.cert.Found.{Found}
 use Rattle.tune_problem.specs.declared.cert.Row.{Row}
@@ -19,7 +19,7 @@ use Rattle.tune_search.specs.declared.method.Method.{Method}
 -- reaches the floor.
 abbrev pub IsBestFrom : Problem → (floor : ℕ) → Option Best → Type 0
 IsBestFrom p floor None = AllBelow p floor
-IsBestFrom p floor (Some best) = IsOptimum p best.vector × HasTotal p best.vector best.total × (floor ≤ best.total)
+IsBestFrom p floor (Some best) = IsBest p best × (floor ≤ best.total)
 
 -- The rows are a valid certificate of the best setting, or that no candidate reaches the floor.
 abbrev pub IsCertified : Problem → (floor version : ℕ) → List Row → Option Best → Type 0

@@ -4,7 +4,7 @@ use Rattle.std.specs.List.{count_by, range_with_len}
 use Rattle.rc_instr.specs.Warrior.{WarriorView}
 use Rattle.tune_template.specs.Limits.{MOST_SETTINGS}
 use Rattle.tune_problem.specs.Problem.{Problem}
-use Rattle.tune_problem.specs.Optimum.{IsOptimum, HasTotal, candidates_of}
+use Rattle.tune_problem.specs.Optimum.{IsCandidate, IsOptimum, HasTotal, candidates_of}
 use Rattle.tune_problem.specs.Valid.{IsOwnVersion, IsValid, listed_by, listed_fights, cert_of}
 use Rattle.tune_problem.specs.declared.cert.Found.{Found}
 use Rattle.tune_problem.specs.declared.cert.Row.{Row}
@@ -50,9 +50,9 @@ abbrev pub copied_fights : List Row → (copied : Option ℕ) → ℕ
 copied_fights rows None = 0
 copied_fights rows (Some v) = listed_by (slice_get rows v)
 
--- No setting has a warrior.
+-- No setting is a candidate.
 abbrev pub NoneAssembles : Problem → Type 0
-NoneAssembles p = (v : ℕ) → v < p.count → p.warrior v ≡ None
+NoneAssembles p = (v : ℕ) → v < p.count → IsCandidate p v → ⊥
 
 -- If the fault is `NoCandidate`, no setting assembles.
 abbrev pub IsRefused : Problem → SearchFault → Type 0
