@@ -126,6 +126,18 @@ fn other_parts_do_not_exist(rt: HostRuntime) -> Result<(), Fail> {
 }
 
 #[test]
+fn three_parts_of_ten_settings_have_their_bounds(rt: HostRuntime) -> Result<(), Fail> {
+    let parts = 3;
+    let first = Part { number: 1, parts };
+    let second = Part { number: 2, parts };
+    let third = Part { number: 3, parts };
+    assert!(rt; (first.first(10), first.end(10)) == (0, 3));
+    assert!(rt; (second.first(10), second.end(10)) == (3, 6));
+    assert!(rt; (third.first(10), third.end(10)) == (6, 10));
+    Ok(())
+}
+
+#[test]
 fn a_setting_of_a_part_assembles(rt: HostRuntime) -> Result<(), Fail> {
     let inputs = six_settings(rt.alloc())?;
     assert_eq!(rt;
