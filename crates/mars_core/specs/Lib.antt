@@ -15,5 +15,6 @@ pub mod Store
 pub mod Evaluated
 pub mod Executed
 pub mod Queue
+pub mod Played
 pub mod Snapshot
 pub mod Arena
