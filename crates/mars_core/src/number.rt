@@ -1,6 +1,7 @@
 //! The numbers of a core, 0 to `size - 1`: those in a cell, and arithmetic modulo the core size.
 ghost use Rattle.std.specs.Prelude.{◌≡◌, ◌<◌, ◌≤◌};
 ghost use Rattle.rc_instr.specs.Warrior.{IsBelow};
+ghost use Rattle.mars_core.specs.Core.{IsCellOf};
 ghost use Rattle.mars_core.specs.Numbers.{sum_of, difference_of, product_of, Field, ANumber, BNumber, field_of, with_field};
 
 use crate::cell::Cell;
@@ -17,11 +18,11 @@ pub(crate) trait Number {
         ensures { K.held result ≡ with_field field number (K.held cell) };
 
     fn lower<K: Cell>(cell: K, size: u32) -> K
-        requires { (1 < size) × (size ≤ 65535) × IsBelow size (K.held cell) }
+        requires { IsCellOf size (K.held cell) }
         ensures { K.held result ≡ with_field field (difference_of size (field_of field (K.held cell)) 1) (K.held cell) };
 
     fn raise<K: Cell>(cell: K, size: u32) -> K
-        requires { (1 < size) × (size ≤ 65535) × IsBelow size (K.held cell) }
+        requires { IsCellOf size (K.held cell) }
         ensures { K.held result ≡ with_field field (sum_of size (field_of field (K.held cell)) 1) (K.held cell) };
 }
 
@@ -104,8 +105,7 @@ pub(crate) fn with_number<N: Number, K: Cell>(size: u32, cell: K, number: u32) -
 // Returns the cell with one number lowered by 1.
 #[inline]
 pub(crate) fn lowered<N: Number, K: Cell>(size: u32, cell: K) -> K
-    requires size { (1 < size) × (size ≤ 65535) }
-    requires cell { IsBelow size (K.held cell) }
+    requires { IsCellOf size (K.held cell) }
     ensures value { K.held result ≡ with_field N.field (difference_of size (field_of N.field (K.held cell)) 1) (K.held cell) }
     ensures below { IsBelow size (K.held result) }
 {
@@ -115,8 +115,7 @@ pub(crate) fn lowered<N: Number, K: Cell>(size: u32, cell: K) -> K
 // Returns the cell with one number raised by 1.
 #[inline]
 pub(crate) fn raised<N: Number, K: Cell>(size: u32, cell: K) -> K
-    requires size { (1 < size) × (size ≤ 65535) }
-    requires cell { IsBelow size (K.held cell) }
+    requires { IsCellOf size (K.held cell) }
     ensures value { K.held result ≡ with_field N.field (sum_of size (field_of N.field (K.held cell)) 1) (K.held cell) }
     ensures below { IsBelow size (K.held result) }
 {

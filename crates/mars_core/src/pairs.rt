@@ -3,6 +3,7 @@
 ghost use Rattle.std.specs.Prelude.{◌≡◌, ◌<◌, ◌≤◌, IfSome};
 ghost use Rattle.rc_instr.specs.Warrior.{IsBelow};
 ghost use Rattle.rc_instr.specs.declared.instruction.Opcode.{Opcode};
+ghost use Rattle.mars_core.specs.Core.{IsCellOf};
 ghost use Rattle.mars_core.specs.Pairs.{written_value, put, computed_in_pairs, counted_down, has_zero_divisor, all_are, are_equal, are_less};
 
 use crate::cell::Cell;
@@ -156,8 +157,7 @@ fn put_number<N: Number, K: Cell>(size: u32, number: Option<u32>, cell: K) -> K
 #[tactic(auto, unfolding(crate::specs::Pairs::counted_down))]
 #[inline(always)]
 pub(crate) fn count_down<K: Cell>(modifier: Modifier, size: u32, target: K) -> K
-    requires size { (1 < size) × (size ≤ 65535) }
-    requires target { IsBelow size (K.held target) }
+    requires { IsCellOf size (K.held target) }
     ensures value { K.held result ≡ counted_down modifier size (K.held target) }
     ensures below { IsBelow size (K.held result) }
 {
