@@ -8,9 +8,9 @@ ghost use Rattle.mars_core.specs.Executed.{IsFetched, IsExecuted, IsInside, IsEv
 
 use crate::cell::Cell;
 use crate::cells::Cells;
+use crate::codes::{mode_from, modifier_from, opcode_from};
 use crate::effect::{Queued, act};
 use crate::operand::{Evaluated, evaluate};
-use crate::packed::{mode_from, modifier_from, opcode_from};
 use crate::turn::Executed;
 
 // Executes the instruction at `pc`, which is `cell`. The const parameters stand for its opcode,

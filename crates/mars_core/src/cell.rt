@@ -8,17 +8,10 @@ ghost use Rattle.mars_core.specs.Classes.{IsClassOf};
 ghost use Rattle.mars_core.specs.Codes.{code_count, opcode_of, modifier_of};
 ghost use Rattle.mars_core.specs.Numbers.{ANumber, BNumber};
 
+use crate::classes::FIRST_OF_MODES;
+use crate::codes::{mode_code, modifier_code, opcode_code};
 use crate::number::{difference, sum};
-use crate::packed::{mode_code, modifier_code, opcode_code};
 use rc_instr::Instruction;
-
-// Classes below this one are frequent instructions; the others say modes, and nothing else.
-pub(crate) const FIRST_OF_MODES: u64 = 64;
-
-pub(crate) const CLASS_COUNT: u64 = 128;
-
-// A code is 8 times the number of an opcode, plus the number of a modifier.
-pub(crate) const CODE_COUNT: u64 = 128;
 
 /// A cell in the form in which a store keeps it.
 pub trait Cell: Copy {

@@ -10,9 +10,9 @@ ghost use Rattle.mars_core.specs.Executed.{IsFetched, IsExecuted, IsInside, AreE
 use crate::arm::evaluate_in;
 use crate::cell::Cell;
 use crate::cells::Cells;
+use crate::codes::{modifier_from, opcode_from};
 use crate::effect::{Queued, act};
 use crate::operand::{Evaluated, Operands};
-use crate::packed::{modifier_from, opcode_from};
 use crate::turn::Executed;
 
 // Executes the instruction at `pc`, which is `cell`, if its class gives its modes.

@@ -8,8 +8,9 @@ ghost use Rattle.mars_core.specs.Evaluated.{addresses};
 ghost use Rattle.mars_core.specs.Executed.{IsFetched, IsExecuted};
 
 use crate::arm::arm;
-use crate::cell::{Cell, FIRST_OF_MODES};
+use crate::cell::Cell;
 use crate::cells::{Cells, read};
+use crate::classes::FIRST_OF_MODES;
 use crate::effect::Queued;
 use crate::general::execute_by_modes;
 use crate::number::sum;
