@@ -8,7 +8,7 @@ ghost use Rattle.mars_core.specs.Executed.{IsEvaluated};
 
 use crate::cell::Cell;
 use crate::cells::{Cells, read, write};
-use crate::number::{FieldA, FieldB, Number, lowered, number_of, raised, sum};
+use crate::number::{FieldA, FieldB, Number, sum};
 use rc_instr::Mode;
 
 // An address, and a copy of the cell there: where an operand points, or what it goes through.
@@ -87,9 +87,9 @@ fn lower<C: Cells, N: Number>(cells: &mut C, size: u32, at: u32) -> u32
     ensures marks { C.marks cells.new ≤ C.marks cells.old + 1 }
 {
     let cell = read(cells, size, at);
-    let changed = lowered::<N, C::Kept>(size, cell);
+    let changed = N::lower(size, cell);
     write(cells, size, at, changed);
-    number_of::<N, C::Kept>(size, changed)
+    N::of(size, changed)
 }
 
 // Raises one number of the cell at `way.address` by 1. `way.copy` is that cell.
@@ -104,7 +104,7 @@ fn raise<C: Cells, N: Number>(cells: &mut C, size: u32, way: Located<C::Kept>)
     ensures core { IsCore size (C.items cells.new) }
     ensures marks { C.marks cells.new ≤ C.marks cells.old + 1 }
 {
-    let cell = raised::<N, C::Kept>(size, way.copy);
+    let cell = N::raise(size, way.copy);
     write(cells, size, way.address, cell);
 }
 
