@@ -99,7 +99,7 @@ TABLES = {
         "further keys": tests(FIRST, 64, "first_of_modes + k / 256"),
         "keys": tests(0, FIRST, "further_class_of_key k"),
     },
-    "src/packed.rt": {"keys": keys(0, FIRST), "further keys": keys(FIRST, 64)},
+    "src/classes.rt": {"keys": keys(0, FIRST), "further keys": keys(FIRST, 64)},
     "src/turn.rt": {"classes": arms()},
     "src/general.rt": {"modes": pairs(), "codes": codes()},
     "proofs/Keys.antt": {"keys": key_in(), "tests": leads()},

@@ -3,27 +3,28 @@ use Rattle.std.proofs.Common.{◌≡◌, ℕ, ◌<◌, arith}
 use Rattle.std.proofs.Math.Nat.{mod-lt}
 use Rattle.rc_instr.specs.declared.instruction.Instruction.{Instruction}
 use Rattle.rc_instr.specs.Warrior.{IsBelow}
-use Rattle.mars_core.specs.Numbers.{Field, ANumber, BNumber, field_of, with_field, sum_of, difference_of}
+use Rattle.mars_core.specs.Numbers.{ANumber, BNumber, with_field, sum_of, difference_of}
 
-field_is_below : (m : ℕ) (f : Field) (i : Instruction) → IsBelow m i → field_of f i < m
-field_is_below m ANumber i h = h.a
-field_is_below m BNumber i h = h.b
+-- an instruction with a number below the core size in place of its A-number
+pub put_a : (m n : ℕ) (i j : Instruction) → j ≡ with_field ANumber n i → n < m → IsBelow m i → IsBelow m j
+put_a m n i j e l h = rw e (record { a = l; b = h.b })
 
-pub field_below : (m x : ℕ) (f : Field) (i : Instruction) → x ≡ field_of f i → IsBelow m i → x < m
-field_below m x f i e h = rw e (field_is_below m f i h)
-
-with_field_is_below : (m n : ℕ) (f : Field) (i : Instruction) → n < m → IsBelow m i → IsBelow m (with_field f n i)
-with_field_is_below m n ANumber i l h = record { a = l; b = h.b }
-with_field_is_below m n BNumber i l h = record { a = h.a; b = l }
-
-pub with_field_below : (m n : ℕ) (f : Field) (i j : Instruction) → j ≡ with_field f n i → n < m → IsBelow m i → IsBelow m j
-with_field_below m n f i j e l h = rw e (with_field_is_below m n f i l h)
+pub put_b : (m n : ℕ) (i j : Instruction) → j ≡ with_field BNumber n i → n < m → IsBelow m i → IsBelow m j
+put_b m n i j e l h = rw e (record { a = h.a; b = l })
 
 -- a number that is lowered or raised stays below the core size
-pub lowered_below : (m : ℕ) (f : Field) (i j : Instruction) → j ≡ with_field f (difference_of m (field_of f i) 1) i → 1 < m → IsBelow m i → IsBelow m j
+pub lowered_a : (m x : ℕ) (i j : Instruction) → j ≡ with_field ANumber (difference_of m x 1) i → 1 < m → IsBelow m i → IsBelow m j
 unfolding difference_of
-lowered_below m f i j e l h = with_field_below m _ f i j e (mod-lt _ (omega arith)) h
+lowered_a m x i j e l h = put_a m _ i j e (mod-lt _ (omega arith)) h
 
-pub raised_below : (m : ℕ) (f : Field) (i j : Instruction) → j ≡ with_field f (sum_of m (field_of f i) 1) i → 1 < m → IsBelow m i → IsBelow m j
+pub lowered_b : (m x : ℕ) (i j : Instruction) → j ≡ with_field BNumber (difference_of m x 1) i → 1 < m → IsBelow m i → IsBelow m j
+unfolding difference_of
+lowered_b m x i j e l h = put_b m _ i j e (mod-lt _ (omega arith)) h
+
+pub raised_a : (m x : ℕ) (i j : Instruction) → j ≡ with_field ANumber (sum_of m x 1) i → 1 < m → IsBelow m i → IsBelow m j
 unfolding sum_of
-raised_below m f i j e l h = with_field_below m _ f i j e (mod-lt _ (omega arith)) h
+raised_a m x i j e l h = put_a m _ i j e (mod-lt _ (omega arith)) h
+
+pub raised_b : (m x : ℕ) (i j : Instruction) → j ≡ with_field BNumber (sum_of m x 1) i → 1 < m → IsBelow m i → IsBelow m j
+unfolding sum_of
+raised_b m x i j e l h = put_b m _ i j e (mod-lt _ (omega arith)) h

@@ -2,7 +2,7 @@ pub mod Below
 pub mod Keys
 pub mod Packing
 pub mod Words
-pub mod Classes
+pub mod ClassParts
 pub mod Stores
 pub mod Written
 pub mod Sums

@@ -8,7 +8,7 @@ use Rattle.rc_instr.specs.declared.instruction.Mode.{Mode}
 use Rattle.mars_core.specs.Core.{IsCore, cell_at}
 use Rattle.mars_core.specs.Operand.{Located, located, operand_of}
 use Rattle.mars_core.specs.Step.{leaves, effect_of, step_of}
-use Rattle.mars_core.specs.Evaluated.{evaluation, evaluation_of, a_operand, b_operand, addresses}
+use Rattle.mars_core.specs.Seen.{evaluated, a_operand, b_operand, addresses}
 use Rattle.mars_core.specs.declared.effect.Queued.{Queued}
 
 -- The premise: i is the instruction at pc.
@@ -25,14 +25,14 @@ pub record IsInside (m : ℕ) (o : Located) : Type 0 where
 
 -- The operand with this mode and this number is evaluated for the task at pc.
 pub record IsEvaluated (m : ℕ) (core : List Instruction) (pc : ℕ) (mode : Mode) (n : ℕ) (o : Located) (core_new : List Instruction) : Type 0 where
-  pub value : evaluation o core_new ≡ evaluation_of m pc (operand_of m core pc mode n)
+  pub value : (o, core_new) ≡ evaluated m pc (operand_of m core pc mode n)
   pub inside : IsInside m o
   pub core_holds : IsCore m core_new
 
 -- Both operands of i are evaluated, the A-operand first.
 pub record AreEvaluated (m : ℕ) (core : List Instruction) (pc : ℕ) (i : Instruction) (a b : Located) (core_new : List Instruction) : Type 0 where
   pub a_is : a ≡ located m pc (a_operand m core pc i)
-  pub b_is : evaluation b core_new ≡ evaluation_of m pc (b_operand m core pc i)
+  pub b_is : (b, core_new) ≡ evaluated m pc (b_operand m core pc i)
   pub a_inside : IsInside m a
   pub b_inside : IsInside m b
   pub core_holds : IsCore m core_new

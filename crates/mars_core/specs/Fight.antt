@@ -1,9 +1,6 @@
 -- The outcome of a fight: its points (pMARS, for two warriors) and its turns.
-use Rattle.std.specs.Prelude.{◌≡◌, ℕ, zero, suc, ◌*◌, ◌<◌, ◌≤◌, List, Bool, true, false, ◌||◌, nat_lt, ◌==◌, if◌then◌else◌, length, ◌⊎◌}
-use Rattle.rc_instr.specs.declared.instruction.Instruction.{Instruction}
-use Rattle.mars_core.specs.Core.{IsCore, AreTasks}
-use Rattle.mars_core.specs.Queue.{Queue}
-use Rattle.mars_core.specs.State.{State, seen_from, play_of}
+use Rattle.std.specs.Prelude.{◌≡◌, ℕ, zero, suc, ◌*◌, ◌<◌, ◌≤◌, Bool, true, false, ◌||◌, nat_lt, ◌==◌, if◌then◌else◌, length, ◌⊎◌}
+use Rattle.mars_core.specs.State.{State, play_of}
 use Rattle.mars_core.specs.declared.side.Side.{Side}
 use Rattle.mars_core.specs.declared.arena.Outcome.{Outcome}
 
@@ -24,37 +21,6 @@ points_in s = if length s.opponent == 0 then 3 else if length s.candidate == 0 t
 -- A fight takes turns until a side has no task, and at most two for each cycle.
 unfoldable pub turns_of : ℕ → State → Side → ℕ → ℕ
 turns_of limit start first cycles = least (λ k. is_over (play_of limit start first k)) (2 * cycles)
-
--- The number of turns within the cycles, of a fight in which the side with the queue `mine` moves
--- first, whichever side that is. Both queues have the same capacity.
-abbrev pub AreTurns : List Instruction → (mine theirs : Queue) → (cycles turns : ℕ) → Type 0
-AreTurns core mine theirs cycles turns = (first : Side) → turns ≡ turns_of mine.capacity (seen_from first core mine.items theirs.items) first cycles
-
--- The core and the tasks that these turns leave.
-abbrev pub TurnsLeave : List Instruction → (mine theirs : Queue) → (turns : ℕ) → List Instruction → (my_new their_new : Queue) → Type 0
-TurnsLeave core mine theirs turns core_new my_new their_new =
-    (first : Side) → seen_from first core_new my_new.items their_new.items ≡ play_of mine.capacity (seen_from first core mine.items theirs.items) first turns
-
--- The premise of a fight: a core of m cells, the tasks of both sides in it, the same room for both,
--- and at most a million cycles.
-pub record CanPlay (m : ℕ) (core : List Instruction) (mine theirs : Queue) (cycles : ℕ) : Type 0 where
-  pub core_holds : IsCore m core
-  pub mine_below : AreTasks m mine.items
-  pub theirs_below : AreTasks m theirs.items
-  pub same_room : theirs.capacity ≡ mine.capacity
-  pub few : cycles ≤ 1000000
-
--- The result of a fight: its turns, at most two for each cycle; the state after them, in a core of
--- m cells again; and queues with the room that they had.
-pub record IsPlayed (m : ℕ) (core : List Instruction) (mine theirs : Queue) (cycles turns : ℕ) (core_new : List Instruction) (my_new their_new : Queue) : Type 0 where
-  pub turns_are : AreTurns core mine theirs cycles turns
-  pub state_is : TurnsLeave core mine theirs turns core_new my_new their_new
-  pub within : turns ≤ 2 * cycles
-  pub core_holds : IsCore m core_new
-  pub mine_below : AreTasks m my_new.items
-  pub theirs_below : AreTasks m their_new.items
-  pub my_room : my_new.capacity ≡ mine.capacity
-  pub their_room : their_new.capacity ≡ theirs.capacity
 
 -- The points are read off the state after these turns.
 unfoldable pub outcome_of : ℕ → State → Side → ℕ → Outcome

@@ -12,8 +12,9 @@ pub mod Codes
 pub mod Classes
 pub mod Packed
 pub mod Store
-pub mod Evaluated
+pub mod Seen
 pub mod Executed
 pub mod Queue
+pub mod Played
 pub mod Snapshot
 pub mod Arena

@@ -1,5 +1,6 @@
 -- Evaluating an operand: where it points, a copy of the cell there, and the core afterwards (1994
--- draft).
+-- draft). That is an `Operand`. An opcode gets it as a `Located`, which has an address in place of
+-- the pointer, and no core; the code has operands of this second form alone.
 use Rattle.std.specs.Prelude.{ℕ, List}
 use Rattle.rc_instr.specs.declared.instruction.Instruction.{Instruction}
 use Rattle.rc_instr.specs.declared.instruction.Mode.{Mode}
@@ -14,7 +15,7 @@ pub record Operand : Type 0 where
   pub copy : Instruction
   pub core : List Instruction
 
--- An operand with the address to which it points, in place of the pointer.
+-- An address, and a copy of the cell there.
 pub record Located : Type 0 where
   pub address : ℕ
   pub copy : Instruction

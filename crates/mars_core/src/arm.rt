@@ -3,14 +3,14 @@ ghost use Rattle.std.specs.Prelude.{◌<◌, ◌≤◌, ◌+◌};
 ghost use Rattle.mars_core.specs.Classes.{IsCoded};
 ghost use Rattle.mars_core.specs.Codes.{opcode_of, modifier_of, mode_of};
 ghost use Rattle.mars_core.specs.Core.{IsCore};
-ghost use Rattle.mars_core.specs.Evaluated.{seen_operand};
+ghost use Rattle.mars_core.specs.Seen.{seen_operand};
 ghost use Rattle.mars_core.specs.Executed.{IsFetched, IsExecuted, IsInside, IsEvaluated, IsActed};
 
 use crate::cell::Cell;
 use crate::cells::Cells;
+use crate::codes::{mode_from, modifier_from, opcode_from};
 use crate::effect::{Queued, act};
-use crate::operand::{Evaluated, evaluate};
-use crate::packed::{mode_from, modifier_from, opcode_from};
+use crate::operand::{Located, evaluate};
 use crate::turn::Executed;
 
 // Executes the instruction at `pc`, which is `cell`. The const parameters stand for its opcode,
@@ -47,7 +47,7 @@ pub(crate) fn evaluate_in<C: Cells, const MODE: u64>(
     size: u32,
     pc: u32,
     n: u32,
-) -> Evaluated<C::Kept>
+) -> Located<C::Kept>
     requires mode { MODE < 8 }
     requires core { IsCore size (C.items cells.old) }
     requires pc { pc < size }
@@ -64,8 +64,8 @@ fn act_as<C: Cells, const OPCODE: u64, const MODIFIER: u64>(
     cells: &mut C,
     size: u32,
     pc: u32,
-    a: Evaluated<C::Kept>,
-    b: Evaluated<C::Kept>,
+    a: Located<C::Kept>,
+    b: Located<C::Kept>,
 ) -> Queued
     requires codes { (OPCODE < 16) × (MODIFIER < 8) }
     requires core { IsCore size (C.items cells.old) }

@@ -1,24 +1,17 @@
 //! One cell as a turn works on it, in the form in which its store keeps it.
-ghost use Rattle.std.specs.Prelude.{◌≡◌, ◌<◌, ◌≤◌, ◌/◌, ◌%◌, true};
+ghost use Rattle.std.specs.Prelude.{◌≡◌, ◌<◌, ◌/◌, ◌%◌, true};
 ghost use Rattle.rc_instr.specs.Instruction.{same_instruction};
 ghost use Rattle.rc_instr.specs.declared.instruction.Instruction.{Instruction};
-ghost use Rattle.rc_instr.specs.Warrior.{IsBelow};
+ghost use Rattle.mars_core.specs.Core.{IsCellOf};
 ghost use Rattle.mars_core.specs.Numbers.{sum_of, difference_of, with_field};
 ghost use Rattle.mars_core.specs.Classes.{IsClassOf};
 ghost use Rattle.mars_core.specs.Codes.{code_count, opcode_of, modifier_of};
 ghost use Rattle.mars_core.specs.Numbers.{ANumber, BNumber};
 
+use crate::classes::FIRST_OF_MODES;
+use crate::codes::{mode_code, modifier_code, opcode_code};
 use crate::number::{difference, sum};
-use crate::packed::{mode_code, modifier_code, opcode_code};
 use rc_instr::Instruction;
-
-// Classes below this one are frequent instructions; the others say modes, and nothing else.
-pub(crate) const FIRST_OF_MODES: u64 = 64;
-
-pub(crate) const CLASS_COUNT: u64 = 128;
-
-// A code is 8 times the number of an opcode, plus the number of a modifier.
-pub(crate) const CODE_COUNT: u64 = 128;
 
 /// A cell in the form in which a store keeps it.
 pub trait Cell: Copy {
@@ -60,22 +53,22 @@ pub trait Cell: Copy {
 
     /// Returns the cell with its A-number lowered by 1, in a core of `size` cells.
     fn with_a_lowered(self, size: u32) -> Self
-        requires { (1 < size) × (size ≤ 65535) × IsBelow size (held self) }
+        requires { IsCellOf size (held self) }
         ensures { held result ≡ with_field ANumber (difference_of size (held self).a_number 1) (held self) };
 
     /// Returns the cell with its B-number lowered by 1, in a core of `size` cells.
     fn with_b_lowered(self, size: u32) -> Self
-        requires { (1 < size) × (size ≤ 65535) × IsBelow size (held self) }
+        requires { IsCellOf size (held self) }
         ensures { held result ≡ with_field BNumber (difference_of size (held self).b_number 1) (held self) };
 
     /// Returns the cell with its A-number raised by 1, in a core of `size` cells.
     fn with_a_raised(self, size: u32) -> Self
-        requires { (1 < size) × (size ≤ 65535) × IsBelow size (held self) }
+        requires { IsCellOf size (held self) }
         ensures { held result ≡ with_field ANumber (sum_of size (held self).a_number 1) (held self) };
 
     /// Returns the cell with its B-number raised by 1, in a core of `size` cells.
     fn with_b_raised(self, size: u32) -> Self
-        requires { (1 < size) × (size ≤ 65535) × IsBelow size (held self) }
+        requires { IsCellOf size (held self) }
         ensures { held result ≡ with_field BNumber (sum_of size (held self).b_number 1) (held self) };
 
     /// Checks whether both cells hold the same instruction.

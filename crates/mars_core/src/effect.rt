@@ -4,14 +4,14 @@ ghost use Rattle.rc_instr.specs.Warrior.{IsBelow};
 ghost use Rattle.rc_instr.specs.declared.instruction.Opcode.{Opcode};
 ghost use Rattle.mars_core.specs.Core.{updated_at, IsCore};
 ghost use Rattle.mars_core.specs.Pairs.{computed, computed_in_pairs, counted_down, has_zero_divisor};
-ghost use Rattle.mars_core.specs.Evaluated.{seen_operand};
+ghost use Rattle.mars_core.specs.Seen.{seen_operand};
 ghost use Rattle.mars_core.specs.Executed.{IsInside, IsActed};
 ghost use Rattle.mars_core.specs.declared.effect.Queued.{Queued};
 
 use crate::cell::Cell;
 use crate::cells::{Cells, read, write};
 use crate::effect::Queued::{Jump, Next, Nothing, Skip, Split};
-use crate::operand::Evaluated;
+use crate::operand::Located;
 use crate::pairs::{
     Adding, Dividing, Moving, Multiplying, Operation, Remaining, Subtracting, all_equal, all_less,
     all_tested_are, count_down, divides_by_zero, write_pairs,
@@ -42,8 +42,8 @@ pub(crate) fn act<C: Cells>(
     pc: u32,
     opcode: Opcode,
     modifier: Modifier,
-    a: Evaluated<C::Kept>,
-    b: Evaluated<C::Kept>,
+    a: Located<C::Kept>,
+    b: Located<C::Kept>,
 ) -> Queued
     requires core { IsCore size (C.items cells.old) }
     requires a { IsInside size (seen_operand C.Kept.held a) }
@@ -91,7 +91,7 @@ fn move_numbers<C: Cells>(
     size: u32,
     modifier: Modifier,
     a: C::Kept,
-    b: Evaluated<C::Kept>,
+    b: Located<C::Kept>,
 ) -> Queued
     requires core { IsCore size (C.items cells.old) }
     requires a { IsBelow size (C.Kept.held a) }
@@ -115,7 +115,7 @@ fn apply<C: Cells, O: Operation>(
     size: u32,
     modifier: Modifier,
     a: C::Kept,
-    b: Evaluated<C::Kept>,
+    b: Located<C::Kept>,
 ) -> Queued
     requires core { IsCore size (C.items cells.old) }
     requires a { IsBelow size (C.Kept.held a) }
@@ -138,7 +138,7 @@ fn divide<C: Cells, O: Operation>(
     size: u32,
     modifier: Modifier,
     a: C::Kept,
-    b: Evaluated<C::Kept>,
+    b: Located<C::Kept>,
 ) -> Queued
     requires core { IsCore size (C.items cells.old) }
     requires a { IsBelow size (C.Kept.held a) }

@@ -1,6 +1,6 @@
 //! The loop of a fight: the sides take turns until one of them has no task.
 ghost use Rattle.std.specs.Prelude.{◌≡◌, ◌+◌, ◌*◌, ◌≤◌, length};
-ghost use Rattle.mars_core.specs.Fight.{CanPlay, IsPlayed};
+ghost use Rattle.mars_core.specs.Played.{CanPlay, IsPlayed};
 
 use crate::cells::Cells;
 use crate::snapshot::Snapshot;

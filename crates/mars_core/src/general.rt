@@ -4,15 +4,15 @@ ghost use Rattle.rc_instr.specs.Warrior.{IsBelow};
 ghost use Rattle.mars_core.specs.Classes.{first_of_modes, IsClassOf, IsModed};
 ghost use Rattle.mars_core.specs.Codes.{code_count, opcode_of, modifier_of};
 ghost use Rattle.mars_core.specs.Core.{IsCore};
-ghost use Rattle.mars_core.specs.Evaluated.{seen_operand};
+ghost use Rattle.mars_core.specs.Seen.{seen_operand};
 ghost use Rattle.mars_core.specs.Executed.{IsFetched, IsExecuted, IsInside, AreEvaluated, IsActed};
 
 use crate::arm::evaluate_in;
 use crate::cell::Cell;
 use crate::cells::Cells;
+use crate::codes::{modifier_from, opcode_from};
 use crate::effect::{Queued, act};
-use crate::operand::{Evaluated, Operands};
-use crate::packed::{modifier_from, opcode_from};
+use crate::operand::{Located, Operands};
 use crate::turn::Executed;
 
 // Executes the instruction at `pc`, which is `cell`, if its class gives its modes.
@@ -155,8 +155,8 @@ fn act_by_code<C: Cells, const PLACE: u64>(
     size: u32,
     pc: u32,
     code: u64,
-    a: Evaluated<C::Kept>,
-    b: Evaluated<C::Kept>,
+    a: Located<C::Kept>,
+    b: Located<C::Kept>,
 ) -> Queued
     requires code { code < code_count }
     requires core { IsCore size (C.items cells.old) }
@@ -306,8 +306,8 @@ fn act_once<C: Cells, const PLACE: u64, const OPCODE: u64, const MODIFIER: u64>(
     cells: &mut C,
     size: u32,
     pc: u32,
-    a: Evaluated<C::Kept>,
-    b: Evaluated<C::Kept>,
+    a: Located<C::Kept>,
+    b: Located<C::Kept>,
 ) -> Queued
     requires codes { (OPCODE < 16) × (MODIFIER < 8) }
     requires core { IsCore size (C.items cells.old) }

@@ -5,14 +5,17 @@
 //! The rules of a step are in `number`, `operand`, `pairs` and `effect`, over any store of cells.
 //! `turn`, `arm` and `general` lead from a cell to its code, `fight_loop` alternates turns, and
 //! `snapshot` ends a tie early. `cells` has the trait of a store and the plain cells;
-//! `packed_cells` are a store of `packed` words. `tasks` has the trait of a queue; `plain_queue`
-//! and `ring` are the queues of the two stores.
+//! `packed_cells` are a store of `packed` words. `codes` has the numbers of opcodes, modifiers and
+//! modes, `classes` those of frequent instructions. `tasks` has the trait of a queue;
+//! `plain_queue` and `ring` are the queues of the two stores.
 #![tactic(auto)]
 
 mod arena;
 mod arm;
 mod cell;
 mod cells;
+mod classes;
+mod codes;
 mod effect;
 mod fight_loop;
 mod general;

@@ -1,6 +1,11 @@
 //! The numbers of a core, 0 to `size - 1`: those in a cell, and arithmetic modulo the core size.
+//!
+//! Three layers change a number of a cell. `operand` reads the cell from the core and writes it
+//! back, `Number` says which of the two numbers it is, and `Cell` changes it in the form in which
+//! the store keeps a cell.
 ghost use Rattle.std.specs.Prelude.{◌≡◌, ◌<◌, ◌≤◌};
 ghost use Rattle.rc_instr.specs.Warrior.{IsBelow};
+ghost use Rattle.mars_core.specs.Core.{IsCellOf};
 ghost use Rattle.mars_core.specs.Numbers.{sum_of, difference_of, product_of, Field, ANumber, BNumber, field_of, with_field};
 
 use crate::cell::Cell;
@@ -9,20 +14,31 @@ use crate::cell::Cell;
 pub(crate) trait Number {
     ghost field: { Field };
 
-    fn of<K: Cell>(cell: K) -> u32
-        ensures { result ≡ field_of field (K.held cell) };
+    // Returns the number.
+    fn of<K: Cell>(size: u32, cell: K) -> u32
+        requires { IsBelow size (K.held cell) }
+        ensures value { result ≡ field_of field (K.held cell) }
+        ensures below { result < size };
 
-    fn put<K: Cell>(cell: K, number: u32) -> K
-        requires { number < 65536 }
-        ensures { K.held result ≡ with_field field number (K.held cell) };
+    // Returns the cell with `number` in place of its number.
+    fn put<K: Cell>(size: u32, cell: K, number: u32) -> K
+        requires size { size ≤ 65535 }
+        requires cell { IsBelow size (K.held cell) }
+        requires number { number < size }
+        ensures value { K.held result ≡ with_field field number (K.held cell) }
+        ensures below { IsBelow size (K.held result) };
 
-    fn lower<K: Cell>(cell: K, size: u32) -> K
-        requires { (1 < size) × (size ≤ 65535) × IsBelow size (K.held cell) }
-        ensures { K.held result ≡ with_field field (difference_of size (field_of field (K.held cell)) 1) (K.held cell) };
+    // Returns the cell with the number lowered by 1.
+    fn lower<K: Cell>(size: u32, cell: K) -> K
+        requires { IsCellOf size (K.held cell) }
+        ensures value { K.held result ≡ with_field field (difference_of size (field_of field (K.held cell)) 1) (K.held cell) }
+        ensures below { IsBelow size (K.held result) };
 
-    fn raise<K: Cell>(cell: K, size: u32) -> K
-        requires { (1 < size) × (size ≤ 65535) × IsBelow size (K.held cell) }
-        ensures { K.held result ≡ with_field field (sum_of size (field_of field (K.held cell)) 1) (K.held cell) };
+    // Returns the cell with the number raised by 1.
+    fn raise<K: Cell>(size: u32, cell: K) -> K
+        requires { IsCellOf size (K.held cell) }
+        ensures value { K.held result ≡ with_field field (sum_of size (field_of field (K.held cell)) 1) (K.held cell) }
+        ensures below { IsBelow size (K.held result) };
 }
 
 pub(crate) struct FieldA;
@@ -31,22 +47,23 @@ impl Number for FieldA {
     ghost field = { ANumber };
 
     #[inline]
-    fn of<K: Cell>(cell: K) -> u32 {
+    fn of<K: Cell>(size: u32, cell: K) -> u32 {
         cell.a_number()
     }
 
+    #[tactic(auto, using(crate::proofs::Fields::put_a))]
     #[inline]
-    fn put<K: Cell>(cell: K, number: u32) -> K {
+    fn put<K: Cell>(size: u32, cell: K, number: u32) -> K {
         cell.with_a_number(number)
     }
 
     #[inline]
-    fn lower<K: Cell>(cell: K, size: u32) -> K {
+    fn lower<K: Cell>(size: u32, cell: K) -> K {
         cell.with_a_lowered(size)
     }
 
     #[inline]
-    fn raise<K: Cell>(cell: K, size: u32) -> K {
+    fn raise<K: Cell>(size: u32, cell: K) -> K {
         cell.with_a_raised(size)
     }
 }
@@ -57,70 +74,25 @@ impl Number for FieldB {
     ghost field = { BNumber };
 
     #[inline]
-    fn of<K: Cell>(cell: K) -> u32 {
+    fn of<K: Cell>(size: u32, cell: K) -> u32 {
         cell.b_number()
     }
 
+    #[tactic(auto, using(crate::proofs::Fields::put_b))]
     #[inline]
-    fn put<K: Cell>(cell: K, number: u32) -> K {
+    fn put<K: Cell>(size: u32, cell: K, number: u32) -> K {
         cell.with_b_number(number)
     }
 
     #[inline]
-    fn lower<K: Cell>(cell: K, size: u32) -> K {
+    fn lower<K: Cell>(size: u32, cell: K) -> K {
         cell.with_b_lowered(size)
     }
 
     #[inline]
-    fn raise<K: Cell>(cell: K, size: u32) -> K {
+    fn raise<K: Cell>(size: u32, cell: K) -> K {
         cell.with_b_raised(size)
     }
-}
-
-// Returns a number of a cell.
-#[tactic(auto, using(crate::proofs::Fields::field_below))]
-#[inline]
-pub(crate) fn number_of<N: Number, K: Cell>(size: u32, cell: K) -> u32
-    requires { IsBelow size (K.held cell) }
-    ensures value { result ≡ field_of N.field (K.held cell) }
-    ensures below { result < size }
-{
-    N::of(cell)
-}
-
-// Returns the cell with one number replaced by `number`.
-#[tactic(auto, using(crate::proofs::Fields::with_field_below))]
-#[inline]
-pub(crate) fn with_number<N: Number, K: Cell>(size: u32, cell: K, number: u32) -> K
-    requires size { size ≤ 65535 }
-    requires cell { IsBelow size (K.held cell) }
-    requires number { number < size }
-    ensures value { K.held result ≡ with_field N.field number (K.held cell) }
-    ensures below { IsBelow size (K.held result) }
-{
-    N::put(cell, number)
-}
-
-// Returns the cell with one number lowered by 1.
-#[inline]
-pub(crate) fn lowered<N: Number, K: Cell>(size: u32, cell: K) -> K
-    requires size { (1 < size) × (size ≤ 65535) }
-    requires cell { IsBelow size (K.held cell) }
-    ensures value { K.held result ≡ with_field N.field (difference_of size (field_of N.field (K.held cell)) 1) (K.held cell) }
-    ensures below { IsBelow size (K.held result) }
-{
-    N::lower(cell, size)
-}
-
-// Returns the cell with one number raised by 1.
-#[inline]
-pub(crate) fn raised<N: Number, K: Cell>(size: u32, cell: K) -> K
-    requires size { (1 < size) × (size ≤ 65535) }
-    requires cell { IsBelow size (K.held cell) }
-    ensures value { K.held result ≡ with_field N.field (sum_of size (field_of N.field (K.held cell)) 1) (K.held cell) }
-    ensures below { IsBelow size (K.held result) }
-{
-    N::raise(cell, size)
 }
 
 // Adds modulo `size`. Both terms are below it, so one subtraction replaces the division. Tests the

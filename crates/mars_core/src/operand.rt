@@ -3,23 +3,23 @@ ghost use Rattle.std.specs.Prelude.{◌≡◌, ◌<◌, ◌≤◌, ◌+◌};
 ghost use Rattle.rc_instr.specs.Warrior.{IsBelow};
 ghost use Rattle.mars_core.specs.Core.{cell_at, changed_at, IsCore};
 ghost use Rattle.mars_core.specs.Numbers.{sum_of, difference_of, field_of};
-ghost use Rattle.mars_core.specs.Evaluated.{seen_operand};
+ghost use Rattle.mars_core.specs.Seen.{seen_operand};
 ghost use Rattle.mars_core.specs.Executed.{IsEvaluated};
 
 use crate::cell::Cell;
 use crate::cells::{Cells, read, write};
-use crate::number::{FieldA, FieldB, Number, lowered, number_of, raised, sum};
+use crate::number::{FieldA, FieldB, Number, sum};
 use rc_instr::Mode;
 
 // An address, and a copy of the cell there: where an operand points, or what it goes through.
 #[derive(Clone, Copy)]
-pub(crate) struct Evaluated<K> {
+pub(crate) struct Located<K> {
     pub(crate) address: u32,
     pub(crate) copy: K,
 }
 
 // Both operands of an instruction.
-pub(crate) type Operands<K> = (Evaluated<K>, Evaluated<K>);
+pub(crate) type Operands<K> = (Located<K>, Located<K>);
 
 // Evaluates an operand of the task at `pc`. A predecrement mode lowers the number that it goes
 // through before it is used; a postincrement mode raises it after the copy is taken.
@@ -31,7 +31,7 @@ pub(crate) fn evaluate<C: Cells>(
     pc: u32,
     mode: Mode,
     n: u32,
-) -> Evaluated<C::Kept>
+) -> Located<C::Kept>
     requires core { IsCore size (C.items cells.old) }
     requires pc { pc < size }
     requires n { n < size }
@@ -87,15 +87,15 @@ fn lower<C: Cells, N: Number>(cells: &mut C, size: u32, at: u32) -> u32
     ensures marks { C.marks cells.new ≤ C.marks cells.old + 1 }
 {
     let cell = read(cells, size, at);
-    let changed = lowered::<N, C::Kept>(size, cell);
+    let changed = N::lower(size, cell);
     write(cells, size, at, changed);
-    number_of::<N, C::Kept>(size, changed)
+    N::of(size, changed)
 }
 
 // Raises one number of the cell at `way.address` by 1. `way.copy` is that cell.
 #[tactic(auto, unfolding(crate::specs::Core::changed_at))]
 #[inline]
-fn raise<C: Cells, N: Number>(cells: &mut C, size: u32, way: Evaluated<C::Kept>)
+fn raise<C: Cells, N: Number>(cells: &mut C, size: u32, way: Located<C::Kept>)
     requires core { IsCore size (C.items cells.old) }
     requires address { way.address < size }
     requires copy { C.Kept.held way.copy ≡ cell_at (C.items cells.old) way.address }
@@ -104,20 +104,20 @@ fn raise<C: Cells, N: Number>(cells: &mut C, size: u32, way: Evaluated<C::Kept>)
     ensures core { IsCore size (C.items cells.new) }
     ensures marks { C.marks cells.new ≤ C.marks cells.old + 1 }
 {
-    let cell = raised::<N, C::Kept>(size, way.copy);
+    let cell = N::raise(size, way.copy);
     write(cells, size, way.address, cell);
 }
 
 // Returns an address, and a copy of the cell there.
 #[inline]
-fn at<C: Cells>(cells: &C, size: u32, address: u32) -> Evaluated<C::Kept>
+fn at<C: Cells>(cells: &C, size: u32, address: u32) -> Located<C::Kept>
     requires core { IsCore size (C.items cells.now) }
     requires address { address < size }
     ensures address { result.address ≡ address }
     ensures copy { C.Kept.held result.copy ≡ cell_at (C.items cells.now) address }
     ensures below { IsBelow size (C.Kept.held result.copy) }
 {
-    Evaluated {
+    Located {
         address,
         copy: read(cells, size, address),
     }

@@ -3,10 +3,11 @@
 ghost use Rattle.std.specs.Prelude.{◌≡◌, ◌<◌, ◌≤◌, IfSome};
 ghost use Rattle.rc_instr.specs.Warrior.{IsBelow};
 ghost use Rattle.rc_instr.specs.declared.instruction.Opcode.{Opcode};
+ghost use Rattle.mars_core.specs.Core.{IsCellOf};
 ghost use Rattle.mars_core.specs.Pairs.{written_value, put, computed_in_pairs, counted_down, has_zero_divisor, all_are, are_equal, are_less};
 
 use crate::cell::Cell;
-use crate::number::{FieldA, FieldB, Number, difference, lowered, product, sum, with_number};
+use crate::number::{FieldA, FieldB, Number, difference, product, sum};
 use rc_instr::Modifier;
 
 // What an opcode computes for one pair from its A-value and its B-value. Each opcode is a type, so
@@ -147,7 +148,7 @@ fn put_number<N: Number, K: Cell>(size: u32, number: Option<u32>, cell: K) -> K
     ensures below { IsBelow size (K.held result) }
 {
     match number {
-        Some(number) => with_number::<N, K>(size, cell, number),
+        Some(number) => N::put(size, cell, number),
         None => cell,
     }
 }
@@ -156,17 +157,16 @@ fn put_number<N: Number, K: Cell>(size: u32, number: Option<u32>, cell: K) -> K
 #[tactic(auto, unfolding(crate::specs::Pairs::counted_down))]
 #[inline(always)]
 pub(crate) fn count_down<K: Cell>(modifier: Modifier, size: u32, target: K) -> K
-    requires size { (1 < size) × (size ≤ 65535) }
-    requires target { IsBelow size (K.held target) }
+    requires { IsCellOf size (K.held target) }
     ensures value { K.held result ≡ counted_down modifier size (K.held target) }
     ensures below { IsBelow size (K.held result) }
 {
     match modifier {
-        Modifier::A | Modifier::BA => lowered::<FieldA, K>(size, target),
-        Modifier::B | Modifier::AB => lowered::<FieldB, K>(size, target),
+        Modifier::A | Modifier::BA => FieldA::lower(size, target),
+        Modifier::B | Modifier::AB => FieldB::lower(size, target),
         Modifier::F | Modifier::X | Modifier::I => {
-            let changed = lowered::<FieldA, K>(size, target);
-            lowered::<FieldB, K>(size, changed)
+            let changed = FieldA::lower(size, target);
+            FieldB::lower(size, changed)
         }
     }
 }

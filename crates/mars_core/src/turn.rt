@@ -4,12 +4,13 @@ ghost use Rattle.mars_core.specs.Queue.{queue_with, queue_after, without_first};
 ghost use Rattle.mars_core.specs.Classes.{first_of_modes, IsClassOf};
 ghost use Rattle.mars_core.specs.Core.{IsCore, AreTasks};
 ghost use Rattle.mars_core.specs.State.{core_after};
-ghost use Rattle.mars_core.specs.Evaluated.{addresses};
+ghost use Rattle.mars_core.specs.Seen.{addresses};
 ghost use Rattle.mars_core.specs.Executed.{IsFetched, IsExecuted};
 
 use crate::arm::arm;
-use crate::cell::{Cell, FIRST_OF_MODES};
+use crate::cell::Cell;
 use crate::cells::{Cells, read};
+use crate::classes::FIRST_OF_MODES;
 use crate::effect::Queued;
 use crate::general::execute_by_modes;
 use crate::number::sum;

@@ -1,5 +1,5 @@
 use Rattle.std.proofs.Common.{arith}
-use Rattle.mars_core.proofs.Classes.{moded, class_most}
+use Rattle.mars_core.proofs.ClassParts.{moded, class_most}
 use Rattle.mars_core.proofs.general.operands.Goals as goal
 
 -- table of modes

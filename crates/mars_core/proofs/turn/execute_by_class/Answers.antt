@@ -1,5 +1,5 @@
 use Rattle.std.proofs.Common.{arith, refl}
-use Rattle.mars_core.proofs.Classes.{coded}
+use Rattle.mars_core.proofs.ClassParts.{coded}
 use Rattle.mars_core.proofs.turn.execute_by_class.Goals as goal
 
 -- table of classes

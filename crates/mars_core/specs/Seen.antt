@@ -3,24 +3,17 @@ use Rattle.std.specs.Prelude.{ℕ, List, [], ◌∷◌}
 use Rattle.rc_instr.specs.declared.instruction.Instruction.{Instruction}
 use Rattle.mars_core.specs.Numbers.{sum_of}
 use Rattle.mars_core.specs.Operand.{Operand, Located, located, operand_of}
-use Rattle.mars_core.specs.declared.operand.Evaluated.{Evaluated}
+use Rattle.mars_core.specs.declared.operand.Located.{Located as LocatedIn}
 use Rattle.mars_core.specs.declared.effect.Queued.{Queued}
 use Rattle.mars_core.specs.declared.effect.Queued.TheVariants.{Nothing, Next, Skip, Jump, Split}
 
 -- An operand of the code; `held` says which instruction is in a cell as its store keeps it.
-abbrev pub seen_operand : {K : Type 0} → (K → Instruction) → Evaluated K → Located
-seen_operand held e = record { address = e.address; copy = held e.copy }
+abbrev pub seen_operand : {K : Type 0} → (K → Instruction) → LocatedIn K → Located
+seen_operand held o = record { address = o.address; copy = held o.copy }
 
--- What evaluating an operand leaves: the operand, and the core.
-pub record Evaluation : Type 0 where
-  pub operand : Located
-  pub core : List Instruction
-
-abbrev pub evaluation : Located → List Instruction → Evaluation
-evaluation o core = record { operand = o; core = core }
-
-abbrev pub evaluation_of : ℕ → ℕ → Operand → Evaluation
-evaluation_of m pc o = evaluation (located m pc o) o.core
+-- What evaluating an operand for the task at pc gives: the operand, located, and the core.
+abbrev pub evaluated : ℕ → ℕ → Operand → Located × List Instruction
+evaluated m pc o = (located m pc o, o.core)
 
 -- The operands of the instruction at pc: the A-operand is evaluated first, and the B-operand in the
 -- core that this leaves.
