@@ -7,7 +7,7 @@ ghost use Rattle.cwtune.specs.Program.{IsProgramRun};
 use crate::commands::{asm, check, duel, fight, settings, tune};
 use crate::ending::{Ending, status_of};
 use crate::host::Host;
-use crate::telling::fault_line::say_run;
+use crate::telling::fault_line::tell_run_fault;
 use crate::telling::tell;
 use crate::telling::witness::{Quiet, Witness};
 use crate::words::command_line::{Request, request_of};
@@ -105,7 +105,7 @@ pub(crate) fn end_without_words<V: Write>(err: &mut Outlet<V>, error: &io::Error
     ensures { (result ≡ 2) ⊎ (result ≡ 3) }
 {
     if error.kind() != io::ErrorKind::InvalidData {
-        say_run(err, RunFault::OutOfMemory);
+        tell_run_fault(err, RunFault::OutOfMemory);
         return 3;
     }
     tell(err, &["error: a word of the command line is not UTF-8\n"]);

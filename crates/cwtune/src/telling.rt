@@ -1,10 +1,10 @@
 //! Lines on standard error: of faults, of progress, and explanations, which are indented by two
 //! spaces. A write that fails ends them silently.
 
-pub(crate) mod bounds;
 pub(crate) mod fault_line;
 pub(crate) mod finding;
 pub(crate) mod help_lines;
+pub(crate) mod limits;
 pub(crate) mod line;
 pub(crate) mod names_in;
 pub(crate) mod notes;

@@ -72,14 +72,14 @@ accepted_is t i parts n bytes o m (demand, (j, ranking, mean, accepted)) =
     let same : j ≡ in_part i n parts = one_meaning (of_part t n parts) j (in_part i n parts) mean m in
     subst (λ x. IsOutcome (problem_of x) o) same (accepted_outcome (problem_of j) (inputs_problem j) demand o ranking (statement_of (is_some demand.floor) (records_of bytes)) accepted)
 
-outcome_of : (t : Texts) (i : InputsView) (parts n : ℕ) (bytes : List ℕ) (o : Answer) → Means (of_part t n parts) (in_part i n parts) → IsShown (of_part t n parts) bytes o
+shown_is : (t : Texts) (i : InputsView) (parts n : ℕ) (bytes : List ℕ) (o : Answer) → Means (of_part t n parts) (in_part i n parts) → IsShown (of_part t n parts) bytes o
     → IsOutcome (problem_of (in_part i n parts)) o
-outcome_of t i parts n bytes (TheBest best) m (inl (j, mean, right)) =
+shown_is t i parts n bytes (TheBest best) m (inl (j, mean, right)) =
     let same : j ≡ in_part i n parts = one_meaning (of_part t n parts) j (in_part i n parts) mean m in
     subst (λ x. IsBest (problem_of x) best) same right.optimum
-outcome_of t i parts n bytes (TheBest best) m (inr h) = accepted_is t i parts n bytes (TheBest best) m h
-outcome_of t i parts n bytes (NoneFrom floor) m (inl h) = accepted_is t i parts n bytes (NoneFrom floor) m h
-outcome_of t i parts n bytes (NoneFrom floor) m (inr (j, mean, none)) =
+shown_is t i parts n bytes (TheBest best) m (inr h) = accepted_is t i parts n bytes (TheBest best) m h
+shown_is t i parts n bytes (NoneFrom floor) m (inl h) = accepted_is t i parts n bytes (NoneFrom floor) m h
+shown_is t i parts n bytes (NoneFrom floor) m (inr (j, mean, none)) =
     let same : j ≡ in_part i n parts = one_meaning (of_part t n parts) j (in_part i n parts) mean m in
     subst (λ (x : InputsView). AllBelow (problem_of x) floor) same (below_none (problem_of j) none floor)
 
@@ -113,7 +113,7 @@ module _ (t : Texts) (parts : ℕ) (cert : ℕ → List ℕ) (outcome : ℕ → 
     whole_means = part_means t j number parts 1 1 m (omega arith) (omega arith) (omega (arith, some, few))
 
     outs : (n : ℕ) → 1 ≤ n → n ≤ parts → IsOutcome (problem_of (in_part j n parts)) (outcome n)
-    outs n a b = outcome_of t j parts n (cert n) (outcome n) (part_means t j number parts n parts m a b few) (each n a b)
+    outs n a b = shown_is t j parts n (cert n) (outcome n) (part_means t j number parts n parts m a b few) (each n a b)
 
   whole_optimum : (number : ℕ) (best : Best) → IsBestPart parts outcome number best → IsBestOfAll t parts number best
   whole_optimum number best found =

@@ -19,7 +19,7 @@ use Rattle.tune_search.specs.declared.findings.Findings.{Findings}
 use Rattle.tune_search.specs.declared.method.Method.{Method}
 use Rattle.tune_problem.proofs.WholeOfParts.{none_below}
 use Rattle.tune_search.proofs.Finish.{as_found}
-use Rattle.tune_runs.specs.Report.{Report, constants_with, report_for, report_from, report_text, NamedSetting, named_setting}
+use Rattle.tune_runs.specs.Report.{Report, constants_with, report_of_best, report_from, report_text, NamedSetting, named_setting}
 use Rattle.tune_runs.specs.TuneRun.{Texts, IsTuneRun, WritesTuning, WritesTuningFrom, answer_of}
 use Rattle.tune_runs.specs.Runs.{Gets, Writer, writer}
 use Rattle.tune_runs.specs.declared.fault.RunFault.{RunFault}
@@ -64,7 +64,7 @@ module _ (t : Texts) (method : Method) (i : InputsView) (f : Findings) (s : IsSe
 
   -- the report is that of what is found
   pub same_report : (best : Best) (values : List ℤ) → first_of f.ranking ≡ Some best → slice_get (settings_of i) best.vector ≡ Some values
-      → report_from i best_alone f ≡ report_for i (found_of f best) values
+      → report_from i best_alone f ≡ report_of_best i (found_of f best) values
   same_report best values is at =
       let named : option_map (named_setting i) (first_of f.ranking) ≡ Some (with_values i best (Some values)) =
       ap (option_map (named_setting i)) is ∙ ap (λ (o : Option (List ℤ)). Some (with_values i best o)) at in

@@ -18,7 +18,7 @@ use Rattle.tune_cert.specs.declared.verdict.Verdict.{Verdict}
 use Rattle.tune_cert.specs.declared.verdict.Verdict.TheVariants.{Accepted}
 use Rattle.tune_search.specs.Found.{IsSearch}
 use Rattle.tune_search.specs.declared.method.Method.{Method}
-use Rattle.tune_runs.specs.Report.{report_text, report_for}
+use Rattle.tune_runs.specs.Report.{report_text, report_of_best}
 use Rattle.tune_runs.specs.TuneRun.{Texts, of_part, Means, IsTuning, WritesTuning}
 use Rattle.tune_runs.specs.Runs.{Writer, Gets}
 use Rattle.tune_runs.specs.CheckRun.{WritesCheck, WritesCheckFor, HasRightVerdict, Accepts, AcceptsFor, IsShown, accepts, answer_text, verdict_line}
@@ -74,7 +74,7 @@ pub record Agree (t : Texts) (method : Method) (report cert line : Writer) : Typ
   pub values : List ℤ
   pub tuning : IsTuning t method inputs found values
   pub certified : Gets cert (cert_text (cert_of found))
-  pub reported : Gets report (report_text (report_for inputs found values))
+  pub reported : Gets report (report_text (report_of_best inputs found values))
   pub accepted : Gets line (verdict_line None (Accepted found.best found.total))
 
 -- A check of all rows of these bytes with a demand wrote its lines; `accepted` says whether it

@@ -6,7 +6,7 @@ use Rattle.rc_instr.specs.Warrior.{Fits}
 use Rattle.rc_instr.specs.Checks.{rules_of}
 use Rattle.rc_instr.specs.LoadMeaning.{load_meaning}
 use Rattle.mars_core.specs.State.{start_of}
-use Rattle.mars_core.specs.Fight.{outcome_of}
+use Rattle.mars_core.specs.Fight.{outcome_of as outcome_of_fight}
 use Rattle.mars_core.specs.declared.arena.Outcome.{Outcome}
 use Rattle.mars_core.specs.declared.side.Side.TheVariants.{Candidate, Opponent}
 use Rattle.mars_fight.specs.Listed.{IsPosition}
@@ -37,7 +37,7 @@ KeepsRules f = Fits f.rules f.candidate × Fits f.rules f.opponent × IsPosition
 
 -- How a fight ends.
 abbrev pub outcome_for : NamedFight → Outcome
-outcome_for f = outcome_of f.rules.tasks (start_of f.rules.core f.candidate f.opponent f.position) f.first f.rules.cycles
+outcome_for f = outcome_of_fight f.rules.tasks (start_of f.rules.core f.candidate f.opponent f.position) f.first f.rules.cycles
 
 -- The result line of a fight that was named, or the fault of its text.
 abbrev pub line_of : Result NamedFight RunFault → Result (Unit {0} × List ℕ) RunFault

@@ -90,9 +90,9 @@ report_text r =
     ++ of_line (codes "fights ") r.fights r.all_fights
     ++ rank_lines 1 r.ranking
 
--- The report of what a search found. The best setting gives the constants these values.
-abbrev pub report_for : InputsView → Found → List ℤ → Report
-report_for i f values = record {
+-- The report of a search for the best setting alone, which gives the constants these values.
+abbrev pub report_of_best : InputsView → Found → List ℤ → Report
+report_of_best i f values = record {
   vectors = (problem_of i).count;
   candidates = candidates_of (problem_of i);
   best = Some (record { best = record { vector = f.best; total = f.total }; constants = constants_of i.template.ranges.names values });

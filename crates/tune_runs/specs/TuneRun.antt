@@ -26,7 +26,7 @@ use Rattle.tune_search.specs.declared.findings.Findings.{Findings}
 use Rattle.tune_search.specs.declared.method.Method.{Method}
 use Rattle.tune_search.specs.declared.fault.SearchFault.{SearchFault}
 use Rattle.tune_search.specs.declared.fault.SearchFault.TheVariants.{NoCandidate as NoneFound, OutOfMemory as SearchMemory}
-use Rattle.tune_runs.specs.Report.{report_text, report_for, report_from}
+use Rattle.tune_runs.specs.Report.{report_text, report_of_best, report_from}
 use Rattle.tune_runs.specs.Runs.{opponent_fault, template_fault, schedule_fault, IsOutOfMemory, Writer, writer, Gets}
 use Rattle.tune_runs.specs.declared.fault.RunFault.{RunFault}
 use Rattle.tune_runs.specs.declared.fault.RunFault.TheVariants.{TooManyOpponents, Template, Opponent, Schedule, NoCandidate, Write, OutOfMemory, Part as BadPart}
@@ -105,7 +105,7 @@ IsTuning t method i f values =
 abbrev pub WritesTuning : Texts → Method → (report cert : Writer) → Type 0
 WritesTuning t method report cert =
     (i : InputsView) × (f : Found) × (values : List ℤ) × IsTuning t method i f values
-    × Gets cert (cert_text (cert_of f)) × Gets report (report_text (report_for i f values))
+    × Gets cert (cert_text (cert_of f)) × Gets report (report_text (report_of_best i f values))
 
 -- The report of what the tuning finds was written, and its certificate to some writer.
 abbrev pub WritesOptimum : Texts → Method → (report : Writer) → Type 0

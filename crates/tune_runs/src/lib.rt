@@ -2,10 +2,28 @@
 //!
 //! `laws` has the certified optimum: a tuning's report and any certificate that a check accepts for
 //! the same texts name one setting and one total. In this API a setting is called a vector.
+//!
+//! | Run | What it writes |
+//! |---|---|
+//! | `fight_run`, `duel_run` | the result of a fight: of a fight text, or of two Redcode texts |
+//! | `asm_run`, `setting_run` | a load file: of a Redcode text, or of one setting of a template |
+//! | `settings_run` | the number of a template's settings, and its constants |
+//!
+//! A tuning and a check have a run for the best setting alone, and one that also has a ranking or a
+//! floor: the tuning's `Aim`, the check's `Demand`.
+//!
+//! | What is tuned or checked | The best setting alone | With a ranking or a floor |
+//! |---|---|---|
+//! | a tuning of all settings | `tune_run` | `tune_from_run`, of part 1 of 1 |
+//! | a tuning of a part, by a method | `tune_by_run` | `tune_from_run` |
+//! | a check of a tuning of all settings | `check_run` | `check_for_run`, of part 1 of 1 |
+//! | a check of a tuning of a part | `check_part_run` | `check_for_run` |
+//! | a check of a share of the rows | `check_share_run` | `check_for_run`, with a share |
 #![tactic(auto)]
 
 mod asm;
 mod check;
+mod decimals;
 mod duel;
 mod fault;
 mod fight;
