@@ -7,7 +7,8 @@ use Rattle.rc_instr.specs.declared.instruction.Modifier.TheVariants.{A, B, AB, B
 use Rattle.rc_instr.specs.declared.instruction.Mode.{Mode}
 use Rattle.rc_instr.specs.declared.instruction.Mode.TheVariants.{Immediate, Direct, AIndirect, BIndirect, APredecrement, BPredecrement, APostincrement, BPostincrement}
 
--- A code is a number of an opcode with one of a modifier: 8 times the first, plus the second.
+-- A code is 8 times the number of an opcode plus the number of a modifier. Modifiers have the
+-- numbers 0 to 6; 7 is read as the last one, I, too.
 abbrev pub code_count : ℕ
 code_count = 128
 

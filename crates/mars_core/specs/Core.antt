@@ -29,8 +29,8 @@ pub record IsCore (m : ℕ) (core : List Instruction) : Type 0 where
   pub size : length core ≡ m
   pub numbers : All (IsBelow m) core
 
--- What a cell has of its core, which has m cells, 2 to 65535: both numbers are below m. One that is
--- lowered or raised by 1, modulo m, is below m again.
+-- A cell of a core of m cells, 2 to 65535: both numbers are below m, so one that is lowered or
+-- raised by 1 modulo m is below m again.
 pub record IsCellOf (m : ℕ) (i : Instruction) : Type 0 where
   pub several : 1 < m
   pub small : m ≤ 65535

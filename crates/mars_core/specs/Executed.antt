@@ -18,7 +18,7 @@ pub record IsFetched (m : ℕ) (core : List Instruction) (pc : ℕ) (i : Instruc
   pub cell : i ≡ cell_at core pc
   pub below : IsBelow m i
 
--- An operand points into the core, and so do the numbers of its copy.
+-- The address of an operand and both numbers of its copy are below m.
 pub record IsInside (m : ℕ) (o : Located) : Type 0 where
   pub address : o.address < m
   pub copy : IsBelow m o.copy

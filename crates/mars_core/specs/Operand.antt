@@ -32,11 +32,11 @@ pointing m core pc pointer = record { pointer = pointer; copy = cell_at core (su
 abbrev pub indirect : ℕ → List Instruction → ℕ → ℕ → Field → Operand
 indirect m core pc n field = pointing m core pc (sum_of m n (field_of field (cell_at core (sum_of m pc n))))
 
--- Lowers that number by 1 first.
+-- As `indirect`, but first lowers the number at pc + n by 1.
 abbrev pub predecrement : ℕ → List Instruction → ℕ → ℕ → Field → Operand
 predecrement m core pc n field = indirect m (changed_at core (sum_of m pc n) field (λ x. difference_of m x 1)) pc n field
 
--- Raises that number by 1 after the copy is taken.
+-- As `indirect`, but raises the number at pc + n by 1 after the copy is taken.
 abbrev pub postincrement : ℕ → List Instruction → ℕ → ℕ → Field → Operand
 postincrement m core pc n field =
     record (indirect m core pc n field) { core = changed_at core (sum_of m pc n) field (λ x. sum_of m x 1) }

@@ -8,8 +8,8 @@ use Rattle.mars_core.specs.State.{seen_from, play_of}
 use Rattle.mars_core.specs.Fight.{turns_of}
 use Rattle.mars_core.specs.declared.side.Side.{Side}
 
--- The number of turns within the cycles, of a fight in which the side with the queue `mine` moves
--- first, whichever side that is. Both queues have the same capacity.
+-- A fight takes `turns` turns within these cycles if the side with the queue `mine` moves first,
+-- whichever side that is. Both queues have the same capacity.
 abbrev pub AreTurns : List Instruction → (mine theirs : Queue) → (cycles turns : ℕ) → Type 0
 AreTurns core mine theirs cycles turns = (first : Side) → turns ≡ turns_of mine.capacity (seen_from first core mine.items theirs.items) first cycles
 

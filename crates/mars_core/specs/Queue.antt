@@ -35,7 +35,7 @@ abbrev pub held_from : List ℕ → ℕ → ℕ → List ℕ
 held_from slots at zero = []
 held_from slots at (suc count) = get_or slots at 0 ∷ held_from slots (slot_after at 1) count
 
--- What holds of every queue. It has room for fewer tasks than there are slots, so the slot after
+-- What holds of every ring. It has room for fewer tasks than there are slots, so the slot after
 -- the last task is free.
 pub record IsRing (slots : List ℕ) (first count capacity : ℕ) : Type 0 where
   pub slots_are : length slots ≡ ring_size

@@ -10,7 +10,7 @@ pub record StoreView : Type 0 where
   pub marked : List Bool
   pub marks : ℕ
 
--- Words, of which `count` are marked.
+-- The view of packed words, `count` of them marked.
 abbrev pub store_view : List ℕ → ℕ → StoreView
 store_view words count = record { items = map unpacked words; marked = map is_marked words; marks = count }
 

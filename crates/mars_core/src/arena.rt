@@ -83,7 +83,7 @@ impl<C: Cells> Arena<C> {
     /// queues while there is room (1994 draft). A side without tasks changes nothing, but the turn
     /// counts.
     ///
-    /// Requires that fewer turns than two for each cycle of the rules were made since the load. The
+    /// Fewer than two turns for each cycle of the rules must have been made since the load. The
     /// marks grow by at most 3.
     pub fn step(&mut self, side: Side)
         requires { self.old.turns < 2 * self.old.rules.cycles }
@@ -192,8 +192,9 @@ impl<C: Cells> Arena<C> {
         }
     }
 
-    /// Returns the address of the task at `index` in the queue of `side`. Index 0 moves next;
-    /// `index` is below the number of tasks, and the address is below the core size.
+    /// Returns the address of the task at `index` in the queue of `side`. The task at index 0 is
+    /// executed next; `index` must be below the number of tasks. The address is below the core
+    /// size.
     #[tactic(auto, using(crate::proofs::Queues::item_below))]
     pub fn task(&self, side: Side, index: u32) -> u32
         requires { index < length (tasks_of side self.now.state) }

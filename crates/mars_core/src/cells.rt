@@ -45,8 +45,8 @@ pub trait Cells {
         requires { at < length (items self.now) }
         ensures { Self.Kept.held result ≡ cell_at (items self.now) at };
 
-    /// Replaces the cell at address `at`, which is below the size, and marks it. That adds 1 to the
-    /// marks if the cell was not marked, whatever it held and holds, and nothing if it was.
+    /// Replaces the cell at address `at`, which is below the size, and marks it. Adds 1 to the
+    /// marks if the cell was not marked, even if it holds the same instruction as before.
     fn put(&mut self, at: u32, cell: Self::Kept)
         requires { at < length (items self.old) }
         ensures items { items self.new ≡ slice_set (items self.old) at (Self.Kept.held cell) }
@@ -93,7 +93,7 @@ pub trait Cells {
         ensures marked { marked self.new ≡ marked store }
         ensures marks { marks self.new ≡ marks store };
 
-    /// Empties every cell. Returns how many cells it set: the marks, at least as many as were not
+    /// Empties every cell. Returns how many cells it set: the marked ones, and so all that were not
     /// empty.
     ///
     /// Afterwards the marks are as in a new store.

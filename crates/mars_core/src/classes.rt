@@ -1,4 +1,5 @@
-//! Classes of instructions: 64 frequent ones, and one for each pair of modes.
+//! Classes of instructions: 64 frequent ones, and one for each pair of modes. classes.py writes the
+//! tables.
 ghost use Rattle.std.specs.Prelude.{◌≡◌, ◌<◌};
 ghost use Rattle.mars_core.specs.Classes.{class_count, class_of_key, further_class_of_key};
 

@@ -63,7 +63,7 @@ pub(crate) fn act<C: Cells>(
         Opcode::Jmp => Jump,
         Opcode::Jmz => choose(all_tested_are(modifier, 0, y), Jump, Next),
         Opcode::Jmn => choose(all_tested_are(modifier, 0, y), Next, Jump),
-        // `b` is the copy from before: a number that is 1 in it is 0 in the cell now.
+        // `y` was copied before: a number that is 1 in it is 0 in the cell now.
         Opcode::Djn => {
             apply_count_down(cells, size, modifier, b.address);
             choose(all_tested_are(modifier, 1, y), Next, Jump)

@@ -22,7 +22,7 @@ pub fn a_fight_has_one_outcome()
 {}
 
 /// States that a state which comes back decides a fight: from it on no side ever loses its last
-/// task, and `n` cycles leave what `n` modulo the period leave.
+/// task, and `n` cycles lead to the state to which `n` modulo the period lead.
 pub fn a_state_that_comes_back_decides()
     ensures turns { (limit : ℕ) (s : State) (first : Side) (p n : ℕ) → ComesBack limit s first p → turns_of limit s first n ≡ 2 * n }
     ensures state { (limit : ℕ) (s : State) (first : Side) (p n : ℕ) → ComesBack limit s first p

@@ -2,12 +2,12 @@
 //!
 //! The core is a ring of cells with addresses from 0. Only making an arena takes memory.
 //!
-//! The rules of a step are in `number`, `operand`, `pairs` and `effect`, over any store of cells.
-//! `turn`, `arm` and `general` lead from a cell to its code, `fight_loop` alternates turns, and
-//! `snapshot` ends a tie early. `cells` has the trait of a store and the plain cells;
-//! `packed_cells` are a store of `packed` words. `codes` has the numbers of opcodes, modifiers and
-//! modes, `classes` those of frequent instructions. `tasks` has the trait of a queue;
-//! `plain_queue` and `ring` are the queues of the two stores.
+//! Callers use `arena`. The rules of a step are in `number`, `operand`, `pairs` and `effect`, over
+//! any store of cells. `turn`, `arm` and `general` lead from a cell to its code, `fight_loop`
+//! alternates turns, and `snapshot` ends a tie early. `cell` has the trait of a cell, `cells` that
+//! of a store and the plain cells; `packed_cells` are a store of `packed` words. `codes` has the
+//! numbers of opcodes, modifiers and modes, `classes` those of frequent instructions. `tasks` has
+//! the trait of a queue; `plain_queue` and `ring` are the queues of the two stores.
 #![tactic(auto)]
 
 mod arena;

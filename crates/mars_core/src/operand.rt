@@ -21,8 +21,8 @@ pub(crate) struct Located<K> {
 // Both operands of an instruction.
 pub(crate) type Operands<K> = (Located<K>, Located<K>);
 
-// Evaluates an operand of the task at `pc`. A predecrement mode lowers the number that it goes
-// through before it is used; a postincrement mode raises it after the copy is taken.
+// Evaluates an operand of the task at `pc`. A predecrement mode lowers the number on the way to the
+// operand and then uses it; a postincrement mode raises it after the copy is taken.
 #[tactic(auto, using(crate::proofs::Sums::sums), unfolding(crate::specs::Operand::operand_of))]
 #[inline(always)]
 pub(crate) fn evaluate<C: Cells>(

@@ -66,7 +66,8 @@ impl<C: Cells> Snapshot<C> {
     }
 
     // If the state is the one that was taken, returns how many cycles ago that was. Each cell has
-    // to be kept as it was, so a mark that is new hides a return for one period.
+    // to be kept as it was, its mark too: a cell that is first written after the state was taken
+    // hides that this state comes back, and only a state that is taken later can be found again.
     pub(crate) fn period(
         &mut self,
         cells: &C,

@@ -72,8 +72,8 @@ pub(crate) fn next_turn<C: Cells, const PLACE: u64>(
 
 // Executes the instruction at `pc`, which is `cell`, by its class (1994 draft).
 //
-// A class of modes is tested for before the match, and is not its last arm: the compiler would take
-// that arm for a rare one, and inline nothing below it.
+// Classes of modes are tested for first: as the last arm of the match they would count as rare, and
+// the compiler would inline nothing below that arm.
 #[inline(always)]
 fn execute<C: Cells, const PLACE: u64>(
     cells: &mut C,

@@ -21,7 +21,8 @@ pub(crate) fn load_of(alloc: Global, warrior: &Warrior, rules: &Rules) -> Result
     Ok(text)
 }
 
-// Returns the name of the one constant that texts are read with: K, whose value is 7.
+// Returns the names of the constants that texts are read with: K alone. Callers give it the value
+// 7.
 pub(crate) fn constant_name(alloc: Global) -> Result<Vec<Vec<u8>>, Fail> {
     let mut names = Vec::new(alloc);
     names.push(b"K".to_vec(alloc)?)?;

@@ -1,6 +1,6 @@
-//! Tests of `rc_instr` (`instructions`), `rc_text` (`tokens`), and `rc_expand` and `rc_asm`
-//! (`assembly`); `fault_texts` has what the faults of all four print, `memory` the calls that
-//! allocate, and `fixtures` what these share.
+//! Tests of `rc_instr` (`instructions`), `rc_text` (`tokens`), `rc_expand` (`expansion`) and
+//! `rc_asm` (`memory`); `fault_texts` has what the faults of all four print, and `fixtures` what
+//! these share.
 //!
 //! They show that each public call can succeed, and what neither a clause says nor a run of the
 //! program shows, such as the texts of faults. What a run shows is a case in `gate/cases/`. They
@@ -9,7 +9,7 @@
 #![tactic(auto)]
 
 #[cfg(test)]
-mod assembly;
+mod expansion;
 #[cfg(test)]
 mod fault_texts;
 #[cfg(test)]

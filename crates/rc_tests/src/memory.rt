@@ -1,10 +1,7 @@
-//! Tests of calls that allocate: rows of results worked out by hand, and `OutOfMemory` passed on as
-//! the test's error.
-//!
-//! `make test` also runs each of these tests with its first, second and so on request for memory
-//! refused (gate/refuse/growth.py). It then ends with the same results, or with the error
-//! `OutOfMemory` of the call itself, in no other variant.
-use crate::assembly::lines::lines_of;
+//! Tests that `make test` also runs with their first, second and so on request for memory refused
+//! (gate/refuse/growth.py). They pass all the same, or end with `OutOfMemory`, and with no other
+//! fault. The results are worked out by hand.
+use crate::expansion::lines::lines_of;
 use crate::fixtures::{Case, constant_name, load_of};
 use rc_asm::{AsmFault, AsmKind, assemble};
 use rc_expand::Constants;
@@ -101,8 +98,8 @@ const ASSEMBLIES: [Case; 7] = [
     },
 ];
 
-// Reads a load file and appends it to `before`. Out of memory, which leaves that alone, is an
-// error.
+// Reads `load` and appends it to the text `before`. Fails if out of memory, or if a call that fails
+// changes the text.
 fn appended(alloc: Global, load: &[u8]) -> Result<Vec<u8>, Fail> {
     let rules = Rules::try_new(16, 20, 4, 4, 4)?;
     let warrior = read_loadfile(alloc, load, &rules)?;

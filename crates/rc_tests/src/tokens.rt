@@ -7,7 +7,7 @@ use rc_text::{
 use std::alloc::Global;
 use std::test::Fail;
 
-// Gives every name the value `number`, or none a value.
+// Gives every name the value `number`; if that is `None`, no name has a value.
 #[derive(Drop)]
 struct OneValue {
     number: Option<i64>,
@@ -193,7 +193,8 @@ fn a_span_is_clipped_to_the_text(rt: HostRuntime) {
     }
 }
 
-// The value of an expression in which each name has the value `number`, or none has a value.
+// The value of an expression in which every name has the value `number`; if that is `None`, no name
+// has a value.
 struct Expression {
     name: &'static str,
     text: &'static [u8],

@@ -38,7 +38,7 @@ last_text Refused = codes "-"
 last_text (Same u) = decimal u
 last_text (Cap fights) = list_text fights
 
--- The row of setting V: `refused,V,-`, `same,V,U`, or `cap,V,LIST`.
+-- The row of setting v: `refused,v,-`, `same,v,u`, or `cap,v,LIST`.
 abbrev pub row_fields : (v : ℕ) → Row → Fields
 row_fields v row = kind_text row ∷ decimal v ∷ last_text row ∷ []
 

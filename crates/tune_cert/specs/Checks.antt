@@ -145,18 +145,19 @@ abbrev pub first_wrong : (reason : ℕ → Option Reason) → (settings : List �
 first_wrong reason [] = None
 first_wrong reason (v ∷ settings) = first_of (at_record (record_of v) (reason v) ∷ first_wrong reason settings ∷ [])
 
--- The first wrong rows of certificate c, against problem p. With an aim they have to be exact.
+-- The first wrong row of certificate c among some settings, against problem p. With an aim the rows
+-- have to be exact.
 module _ (p : Problem) (c : Cert) (aim : Option Aim) where
-  -- Of some settings, and only of the rows that refer to no other setting.
+  -- The first wrong row that refers to no other setting.
   abbrev pub wrong_alone : (settings : List ℕ) → Option (ℕ × Reason)
   wrong_alone settings = first_wrong (reason_at (alone_reason p c aim) c.rows) settings
 
-  -- Of some settings, and only of the rows that refer to another setting.
+  -- The first wrong row that refers to another setting.
   abbrev pub wrong_same : (settings : List ℕ) → Option (ℕ × Reason)
   wrong_same settings = first_wrong (reason_at (same_reason p c aim) c.rows) settings
 
-  -- Of some settings. The refused and the cap rows are checked first, in order, and then those that
-  -- refer to other settings.
+  -- The first wrong row: the refused and the cap rows are checked first, in order, and then those
+  -- that refer to other settings.
   abbrev pub rows_failure : (settings : List ℕ) → Option (ℕ × Reason)
   rows_failure settings = first_of (wrong_alone settings ∷ wrong_same settings ∷ [])
 
@@ -197,6 +198,6 @@ failure_by p share answered aim c =
     ∷ []
     )
 
--- The same without an aim, of a certificate that names a best setting.
+-- `failure_by` without an aim, for a certificate that names a best setting.
 abbrev pub first_failure : Problem → Part → Cert → Option (ℕ × Reason)
 first_failure p share c = failure_by p share (is_best_row p c.total (slice_get c.rows c.best)) None c

@@ -17,7 +17,7 @@ use Rattle.tune_cert.specs.declared.share.Share.{Share}
 abbrev pub share_part : Share → Part
 share_part share = part share.number share.shares
 
--- This holds of each share, if the rows are split into `shares`.
+-- `Holds` of each share, if the rows are split into `shares`.
 abbrev pub InEachShare : (shares : ℕ) → (Part → Type 0) → Type 0
 InEachShare shares Holds = ForEach shares (λ number. Holds (part number shares))
 

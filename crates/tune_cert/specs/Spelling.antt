@@ -102,8 +102,8 @@ row_of v _ = None
 abbrev pub record_of : ℕ → ℕ
 record_of v = v + 2
 
--- What the first of these records spells in some form. It is record `index`, which is malformed if
--- it is missing or spells nothing.
+-- Reads the first of these records, record `index`, by a form. The record is malformed if it is
+-- missing or does not have this form.
 abbrev pub first_as : {A : Type 0} → (form : Fields → Option A) → (index : ℕ) → List Fields → Result A ℕ
 first_as form index [] = Err index
 first_as form index (fields ∷ records) = ok_or (form fields) index
@@ -192,7 +192,7 @@ pub record IsFirstMalformed (records : List Fields) (index : ℕ) : Type 0 where
   pub malformed : IsMalformed records index
   pub first : (k : ℕ) → k < index → ¬ (IsMalformed records k)
 
--- Out of memory says nothing of the bytes.
+-- The one fault that no definition gives, since it says nothing of the bytes.
 abbrev pub IsOutOfMemory : ReadFault → Type 0
 IsOutOfMemory fault = fault ≡ OutOfMemory
 

@@ -1,4 +1,5 @@
 -- The verdict on bytes, by the records that they spell, and what a verdict on all rows promises.
+-- In names `by` means from a failure, `on` from a certificate, `of` from records.
 use Rattle.std.specs.Prelude.{◌≡◌, ◌⊎◌, ℕ, ◌<◌, List, length, slice_get, Option, Some, None, Result, Ok, Err}
 use Rattle.tables.specs.Records.{Fields}
 use Rattle.tune_problem.specs.Problem.{Problem}

@@ -34,8 +34,8 @@ use tune_problem::{Answer, Best, Cert, Inputs, Silent, Statement, Watcher, cert_
 ///    then `CapTooHigh`),
 /// 6. the rows that refer to other settings in order (`NotSame`, then `CapTooHigh`).
 ///
-/// Plays once each fight that a cap row lists, up to the first whose points are wrong. Assembles
-/// each setting at most twice. Reserves nothing for what the certificate merely claims.
+/// Plays each fight that a cap row lists at most once, and none after the first row that is wrong.
+/// Assembles each setting at most twice. Reserves nothing for what the certificate merely claims.
 ///
 /// # Errors
 ///
@@ -49,13 +49,13 @@ pub fn check(alloc: Global, inputs: &Inputs, bytes: &[u8]) -> Result<Verdict, Ch
     check_share(alloc, inputs, Share::whole(), bytes, &mut Silent)
 }
 
-/// Checks a certificate as `check` does, but of the rows only those of the share's settings, and
-/// tells `watcher` after each fight and each row that is right how far the check is.
+/// Checks as `check` does, but only the rows of the share's settings. Tells `watcher` how far it is
+/// after each fight and each row that is right.
 ///
-/// A row that refers to another setting is judged by the row of that setting as listed, which may
-/// be of another share: it must have rising fights of the schedule, and its cap by the listed
-/// points must not beat the best. A certificate is valid exactly if all shares accept it, and each
-/// then names the same setting and total. Reads the whole certificate.
+/// The row to which another one refers may be of another share, and is taken as listed: its fights
+/// must exist and rise, and its cap by the listed points must not beat the best. A certificate is
+/// valid exactly if all shares accept it, and each then names the same setting and total. Reads the
+/// whole certificate.
 ///
 /// # Errors
 ///
@@ -79,8 +79,9 @@ pub fn check_share<T: Watcher>(
 
 /// Checks a certificate as `check_share` does, and whether it meets a demand.
 ///
-/// With `floor` a certificate may also say that no setting reaches a floor. It is accepted if the
-/// floor is the one that is asked for (else `BestRow`), and no cap reaches it (else `CapTooHigh`).
+/// With `floor` a certificate may also say that no setting reaches a floor. This floor must be the
+/// one that is asked for (else `BestRow`), and no cap may reach it (else `CapTooHigh`). All other
+/// checks are the same.
 ///
 /// With `keep` a certificate that names a best setting has to show the first of the ranking too.
 /// The settings of which every fight is listed, by their own rows or by those to which they refer,

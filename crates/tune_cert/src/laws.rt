@@ -28,8 +28,8 @@ pub fn a_written_certificate_is_read()
     ensures cert { (c : Cert) → IsCert c → Spells (records_of (cert_text c)) c }
 {}
 
-/// States that what is read of records is what they spell: with floors the statement, and without
-/// the certificate, or else the first malformed record.
+/// States that reading returns what records spell: with floors a statement, without them a
+/// certificate, or else the first malformed record.
 pub fn records_are_read_as_they_are_spelled()
     ensures statement { (records : List Fields) (s : Statement)
         → (statement_of true records ≡ Ok s) ↔ (IsStatement s × (records ≡ statement_fields s)) }

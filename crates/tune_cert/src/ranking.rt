@@ -9,8 +9,8 @@ use crate::row_checks::cap_row;
 use std::alloc::{AllocError, Global};
 use tune_problem::{Aim, Inputs, Ranking, Row, Rows, fight_count};
 
-// Returns the ranking that rows list for an aim, if there is one, and else an empty one. Takes no
-// more memory than the ranking.
+// Returns the ranking that `rows` list for `aim`, an empty one without an aim. Takes no more memory
+// than the ranking.
 pub(crate) fn ranking_for(
     alloc: Global,
     inputs: &Inputs,

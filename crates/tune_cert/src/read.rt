@@ -20,7 +20,7 @@ use tune_problem::{Answer, Best, Cert, Listing, Row, Rows, Statement};
 ///
 /// The crate `csv` splits the bytes into records, so fields may be quoted and records may end with
 /// LF, CR or CR LF. Each record has three fields: `cwcert,V,N` with version V, 1 or 2, then
-/// `best,W,T`, then for each setting V from 0 on `refused,V,-`, `same,V,U`, or `cap,V,LIST` with a
+/// `best,W,T`, then for each setting v from 0 on `refused,v,-`, `same,v,u`, or `cap,v,LIST` with a
 /// list of fights such as `0:3 4:1`, or `-` for none. Decimals are at most 4294967295 and have no
 /// leading zero. There may be more or fewer rows than N.
 ///
@@ -59,7 +59,8 @@ pub fn read_statement(alloc: Global, floors: bool, bytes: &[u8]) -> Result<State
     })
 }
 
-// Returns a statement with a best setting as a certificate.
+// Returns a statement as a certificate. One without a best setting, which is read only with floors,
+// is malformed at record 1.
 fn cert_by(statement: Statement) -> Result<Cert, ReadFault>
     ensures { result ≡ with_fault Malformed (cert_by statement statement.answer) }
 {
@@ -105,8 +106,8 @@ fn read_answer(
     Err(ReadFault::Malformed { row: 1 })
 }
 
-// Reads the rows, which begin at record 2. A row names its own setting, so a missing or an extra
-// one shows at once.
+// Reads the rows, which begin at record 2. A row names its own setting, so one that is left out or
+// repeated makes the next one malformed.
 fn read_rows(
     alloc: Global,
     records: &mut Records,
@@ -278,7 +279,7 @@ fn version_of(text: &[u8]) -> Option<u32>
     }
 }
 
-// What `decimal_of` returns, as one equation.
+// Calls `decimal_of`. The clause says its result as one equation, as the proofs of callers need it.
 fn number_of(text: &[u8]) -> Option<u32>
     ensures { result ≡ decimal_of text.now }
 {

@@ -6,9 +6,9 @@ use tune_problem::Part;
 
 /// A share of the rows of a certificate, which are split into `shares` shares of nearly equal size.
 ///
-/// Of N settings, counted from 0, share I of K has the rows of those at index `(I - 1) * N / K` and
-/// after, below `I * N / K`; quotients are rounded down. I is 1 to K. If K is above N, some shares
-/// are empty.
+/// Of N settings, counted from 0, share I of K has the rows of those from index `(I - 1) * N / K`
+/// to before `I * N / K`; quotients are rounded down. I is 1 to K. If K is above N, some shares are
+/// empty.
 #[derive(Clone, Copy, Debug, PartialEq, Eq)]
 pub struct Share {
     /// Which share it is, counted from 1.

@@ -151,7 +151,7 @@ fn check_rows_same<T: Watcher>(
     Ok(None)
 }
 
-// Returns whether a row refers to another setting. Such rows are checked, and told, last.
+// Checks whether a row refers to another setting. Such rows are checked, and told, last.
 fn refers(row: &Row) -> bool
     ensures { result ≡ refers row.now }
 {

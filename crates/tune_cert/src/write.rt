@@ -19,7 +19,7 @@ use tune_problem::{Answer, Best, Found, Row, Rows};
 /// Writes the certificate of what a search found.
 ///
 /// The lines are `cwcert,V,N` for version V and N settings, `best,W,T` for the best setting and its
-/// total, and then for each setting V its row: `refused,V,-`, `same,V,U`, or `cap,V,LIST` with its
+/// total, and then for each setting v its row: `refused,v,-`, `same,v,u`, or `cap,v,LIST` with its
 /// fights as in `0:3 1:1`, or `-` for none. The version must be 1 or 2, there must be fewer than
 /// 4294967296 rows, and the outlet must not have failed. The text is built in memory and then
 /// written whole.

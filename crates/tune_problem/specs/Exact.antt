@@ -64,8 +64,8 @@ listed_ranking p aim rows = ranking_below p aim rows (length rows)
 
 -- ---- exact rows
 
--- Rows are exact for an aim if no setting contends whose fights are not all listed. Its cap is the
--- one by the fights that are listed, and the ranking is the one that the rows list.
+-- Rows are exact for an aim if no setting with a fight that is not listed contends, by the cap of
+-- its listed fights, with the ranking that the rows list.
 abbrev pub IsExact : Problem → Aim → List Row → Type 0
 IsExact p aim rows =
     (v : ℕ) (fights : List (ℕ × ℕ)) → listed_at rows v ≡ Some fights → lists_all p.fights 0 fights ≡ false

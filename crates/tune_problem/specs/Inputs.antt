@@ -17,7 +17,7 @@ pub record InputsView : Type 0 where
   pub opponents : List WarriorView
   pub schedule : List Fight
   pub rules : RulesView
-  -- which of the template's settings are searched
+  -- Which of the template's settings are searched.
   pub part : Part
 
 -- The same inputs with another part.

@@ -7,16 +7,16 @@ use Rattle.mars_fight.specs.Play.{points_of, ArePoints}
 use Rattle.tune_problem.specs.Inputs.{InputsView, settings_of, part_start, warrior_of}
 
 pub record Problem : Type 0 where
-  -- the number of settings, and of fights; both have indices from 0
+  -- The number of settings, and of fights. Both have indices from 0.
   pub count : ℕ
   pub fights : ℕ
-  -- the index of the start setting
+  -- The index of the start setting.
   pub start : ℕ
-  -- the warrior of a setting, if it assembles
+  -- The warrior of a setting, if it assembles.
   pub warrior : ℕ → Option WarriorView
-  -- the points of a warrior in the fight at an index
+  -- The points of a warrior in the fight at an index.
   pub points : WarriorView → ℕ → ℕ
-  -- the weight of the fight at an index: how many times its points count
+  -- The weight of the fight at an index: how many times its points count.
   pub weight : ℕ → ℕ
 
 -- Every fight counts once.

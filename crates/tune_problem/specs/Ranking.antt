@@ -9,7 +9,7 @@ use Rattle.tune_problem.specs.Optimum.{total_of, beats}
 use Rattle.tune_problem.specs.declared.aim.Aim.{Aim}
 use Rattle.tune_problem.specs.declared.watcher.Best.{Best}
 
--- Of a ranking 1 to `MOST_KEPT` settings are kept.
+-- An aim keeps 1 to `MOST_KEPT` settings.
 abbrev pub IsAim : Aim → Type 0
 IsAim aim = (1 ≤ aim.keep) × (aim.keep ≤ MOST_KEPT)
 
@@ -90,6 +90,6 @@ pub record IsRanking (p : Problem) (aim : Aim) (among : ℕ → Type 0) (ranking
   pub others : (v : ℕ) (w : WarriorView) → v < p.count → among v → p.warrior v ≡ Some w
       → In (record { total = total_of p w; vector = v }) ranking ⊎ (contends aim (total_of p w) v ranking ≡ false)
 
--- All settings, as those that a ranking is of.
+-- Every setting: `among`, for a ranking of all.
 abbrev pub Any : ℕ → Type 0
 Any v = Unit {0}

@@ -21,7 +21,8 @@ listed_score p = λ e. e.1 * p.weight e.0
 abbrev pub listed_total : Problem → List (ℕ × ℕ) → ℕ
 listed_total p row = sum_by (listed_score p) row
 
--- A cap row of a warrior lists fights with their points. Their indices rise, from a or more.
+-- The listing of a cap row: each fight exists, and has w's points; the indices rise, from a or
+-- more.
 abbrev pub IsCapRow : Problem → WarriorView → ℕ → List (ℕ × ℕ) → Type 0
 IsCapRow p w a [] = Unit {0}
 IsCapRow p w a (e ∷ row) = (a ≤ e.0) × (e.0 < p.fights) × (e.1 ≡ p.points w e.0) × IsCapRow p w (e.0 + 1) row
@@ -41,9 +42,9 @@ listed_by (Some row) = listed_in row
 unfoldable pub listed_fights : List Row → ℕ
 listed_fights rows = sum_by listed_in rows
 
--- The row of setting v is right, by what a warrior and the fights that a row lists have to meet, in
--- one of three cases. Refused: v does not assemble. Cap: the row is a cap row of v's warrior, and
--- meets `Own`. Same: another setting u has the same warrior and a cap row, which meets `Other`.
+-- The row of setting v is right in one of three cases. Refused: v does not assemble. Cap: the row
+-- is a cap row of v's warrior, and its listing meets `Own`. Same: another setting u has the same
+-- warrior and a cap row, whose listing meets `Other`.
 abbrev pub IsRightBy : Problem → List Row → (Own Other : WarriorView → List (ℕ × ℕ) → Type 0) → ℕ → Row → Type 0
 IsRightBy p rows Own Other v Refused = p.warrior v ≡ None
 IsRightBy p rows Own Other v (Cap row) = (w : WarriorView) × (p.warrior v ≡ Some w) × IsCapRow p w 0 row × Own w row
@@ -60,7 +61,7 @@ IsNoBetter c cap v = beats cap v c.total c.best ≡ false
 abbrev pub IsNoBetterBy : Problem → Cert → (v : ℕ) → WarriorView → List (ℕ × ℕ) → Type 0
 IsNoBetterBy p c v w row = IsNoBetter c (cap_of p w (listed_indices row)) v
 
--- The same, unless v is the best setting.
+-- `IsNoBetterBy`, unless v is the best setting.
 abbrev pub IsBestOrNoBetter : Problem → Cert → (v : ℕ) → WarriorView → List (ℕ × ℕ) → Type 0
 IsBestOrNoBetter p c v w row = v ≢ c.best → IsNoBetterBy p c v w row
 

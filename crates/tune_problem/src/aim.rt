@@ -1,7 +1,6 @@
-//! What a search is asked for.
+//! The aim of a search.
 
-/// What a search is asked for: the first `keep` of the ranking, of the settings that total `floor`
-/// or more.
+/// What a search is asked for: the `keep` best of the settings that total `floor` or more.
 #[derive(Clone, Copy, Debug, PartialEq, Eq)]
 pub struct Aim {
     /// The number of settings, 1 to 1000.

@@ -1,4 +1,4 @@
-//! Certificates, and what a search finds: their rows and the fights that the rows list.
+//! Certificates, their rows and listings, and what a search finds.
 ghost use Rattle.std.specs.Prelude.{◌≡◌, ◌<◌, IfOk, length};
 ghost use Rattle.std.specs.List.{slice_set};
 
@@ -28,9 +28,10 @@ pub enum Row {
     Refused,
     /// It makes the same warrior as another setting, at this index from 0, whose row is a `Cap`.
     Same(u32),
-    /// It assembles and makes these points in these fights: every fight if it is the best setting,
-    /// else enough that its cap does not beat that setting; if none is said to reach a floor,
-    /// enough that its cap is below the floor.
+    /// It assembles and makes these points in these fights. Its cap is the score in these, and 3
+    /// points times the weight for each other fight. The best setting lists every fight. Any other
+    /// lists enough that its cap does not beat the best setting, or is below the floor that no
+    /// setting is said to reach.
     Cap(Listing),
 }
 

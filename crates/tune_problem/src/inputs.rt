@@ -36,8 +36,8 @@ impl Model for Inputs {
 }
 
 impl Inputs {
-    /// Puts the inputs of a tuning of all settings together: at most 64 opponents, which fit the
-    /// rules, and a schedule that fits the rules and the opponents.
+    /// Makes the inputs of a tuning of all settings. There must be at most 64 opponents, which fit
+    /// the rules; the schedule must fit the rules and the opponents.
     #[tactic(auto, using(crate::proofs::PartSteps::whole_is_part))]
     pub fn new(
         template: Template,

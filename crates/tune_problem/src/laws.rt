@@ -47,10 +47,10 @@ pub fn an_exact_certificate_has_the_first_of_the_ranking()
         → IsRanking p aim Any (listed_ranking p aim c.rows) }
 {}
 
-/// States that tunings of all parts of the settings are a tuning of the whole: of the parts with
-/// the greatest total, the first one's optimum is the optimum of all settings, and has this total
-/// there. If no part has a candidate that reaches a floor, the whole has none. No candidate reaches
-/// the floor 0 exactly if there is no candidate.
+/// States that the optimum of all settings is that of the best part, and has the same total there;
+/// the best part is the first of those with the greatest total. If no part has a candidate that
+/// reaches a floor, the whole has none. No candidate reaches the floor 0 exactly if there is no
+/// candidate.
 ///
 /// A setting's index in the whole is its index in its part, counted on from where the part begins.
 pub fn the_best_part_has_the_optimum()

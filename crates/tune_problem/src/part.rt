@@ -4,7 +4,7 @@ ghost use Rattle.tune_problem.specs.Parts.{IsPart, part_first, part_end};
 
 /// A part of the settings of a template, which are split into `parts` parts of nearly equal size.
 ///
-/// Of N settings, counted from 0, part I of K has those at index `(I - 1) * N / K` and after, below
+/// Of N settings, counted from 0, part I of K begins at index `(I - 1) * N / K` and ends before
 /// `I * N / K`; quotients are rounded down. It is a part if I is 1 to K and K is at most N, so no
 /// part is empty.
 #[derive(Clone, Copy, Debug, PartialEq, Eq)]

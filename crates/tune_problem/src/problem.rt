@@ -17,8 +17,7 @@ use rc_asm::AsmKind;
 use rc_instr::{OutOfMemory, Warrior};
 use std::alloc::Global;
 
-/// Assembles the template with the values of setting `vector`, which is below the count of
-/// settings of the inputs.
+/// Assembles the template with the values of setting `vector`, which must be below `part_size`.
 ///
 /// Returns `None` if the text does not assemble with these values, or not to a warrior that fits
 /// the rules, and `OutOfMemory` if memory runs out: that says nothing about the setting.
@@ -115,7 +114,7 @@ pub fn fight_count(inputs: &Inputs) -> u32
     inputs.schedule().fights().len() as u32
 }
 
-/// Returns the number of settings of the part that is tuned, 1 to 1000000.
+/// Returns the number of settings of the part that is tuned, 1 to 1000000: `Inputs::count`.
 pub fn part_size(inputs: &Inputs) -> u32
     ensures count { result ≡ (problem_of inputs.now).count }
     ensures few { result ≤ MOST_SETTINGS }
@@ -123,7 +122,8 @@ pub fn part_size(inputs: &Inputs) -> u32
     inputs.count()
 }
 
-/// Returns the index of the start setting, or 0 if the part does not have it.
+/// Returns the index of the start setting, or 0 if the part does not have it:
+/// `Inputs::start_number`.
 pub fn start_setting(inputs: &Inputs) -> u32
     ensures start { result ≡ (problem_of inputs.now).start }
     ensures inside { result < (problem_of inputs.now).count }

@@ -1,4 +1,4 @@
-//! The first of the ranking: the settings that a search keeps.
+//! Rankings: the settings that a search keeps.
 ghost use Rattle.std.specs.Prelude.{◌≡◌, ◌≤◌, ◌∷◌, ◌++◌, [], take, drop, length, OnErr, OnOk};
 ghost use Rattle.tune_problem.specs.Ranking.{beats_lead, contends, first_of, next_ranking, ranked};
 

@@ -1,4 +1,4 @@
-//! Statements: what the text of a certificate spells, whichever answer it has.
+//! Statements: certificates with either answer.
 
 use crate::cert::Rows;
 use crate::watcher::Best;

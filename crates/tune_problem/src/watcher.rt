@@ -15,8 +15,8 @@ pub struct Standing {
     pub best: Option<Best>,
 }
 
-/// A setting and its total. A ranking is a list of these: the greatest total first, then the
-/// smaller index.
+/// A setting and its total. Most often that is the best one, or the best so far; a ranking is a
+/// list of these, the greatest total first, then the smaller index.
 #[derive(Clone, Copy, Debug, PartialEq, Eq)]
 pub struct Best {
     /// The index of the setting, from 0.
@@ -31,11 +31,11 @@ pub trait Watcher {
     /// mean. Searches and checks do not call it.
     fn begin(&mut self, inputs: &Inputs);
 
-    /// Called after each setting.
+    /// Called by a search after each setting, and by a check after each row that is right.
     fn see(&mut self, standing: Standing);
 
     /// Called after each fight with the number of fights played so far. The settings that are done
-    /// and the best are still those of the last `see`.
+    /// and the best are still those of the last `see`; before the first `see` there are none.
     fn hear(&mut self, fights: u64);
 
     /// Called by the runs of `tune_runs` when the search or the check has ended, before anything is

@@ -102,8 +102,8 @@ pub record IsBestShown (t : Texts) (parts number : ℕ) (best : Best) : Type 0 w
   pub shown : AreShown t parts cert outcome
   pub first : IsBestPart parts outcome number best
 
--- The best setting of a part is the optimum of all settings. Its index among all is counted on from
--- where its part begins.
+-- The best setting of a part is the optimum of all settings. Its index among all is its index in
+-- the part plus the index at which the part begins.
 abbrev pub IsBestOfAll : Texts → (parts number : ℕ) → Best → Type 0
 IsBestOfAll t parts number best = (i : InputsView) × Means (of_part t 1 1) i × IsBest (problem_of i) (in_whole i number parts best)
 

@@ -138,7 +138,8 @@ AcceptsFor t demand cert answer =
 abbrev pub IsAccepted : Texts → List ℕ → Answer → Type 0
 IsAccepted t cert answer = (demand : Demand) × AcceptsFor t demand cert answer
 
--- What shows the outcome of a tuning: a check accepts these bytes with it, or no setting assembles.
+-- An answer of a tuning is shown if a check accepts these bytes with it. That none reaches a floor
+-- is also shown if no setting assembles.
 abbrev pub IsShown : Texts → List ℕ → Answer → Type 0
 IsShown t cert (TheBest best) = Accepts t cert best.vector best.total ⊎ IsAccepted t cert (TheBest best)
 IsShown t cert (NoneFrom floor) = IsAccepted t cert (NoneFrom floor) ⊎ HasNoCandidate t

@@ -1,6 +1,6 @@
--- Texts mean something: a fight text the fight of two warriors, the texts of a tuning its inputs. A
--- result line, a report and a check line say what came of them. A run over bytes writes exactly the
--- text that the definitions give, or refuses with the first fault that applies.
+-- A fight text means a fight of two warriors; the texts of a tuning mean its inputs. A result line,
+-- a report and a check line say what came of them. A run over bytes writes exactly the text that
+-- the definitions give, or refuses with the first fault that applies.
 pub mod Runs
 pub mod FightLines
 pub mod FightText

@@ -9,7 +9,8 @@ use Rattle.tune_runs.specs.Report.{number_line}
 use Rattle.tune_runs.specs.Runs.{template_fault, Writes, Writer}
 use Rattle.tune_runs.specs.declared.fault.RunFault.{RunFault}
 
--- ` VALUES START` and a line feed: the number of a constant's values, and the one to begin with.
+-- ` VALUES START` and a line feed: the number of a constant's values, and its value in the start
+-- setting.
 unfoldable pub span_text : Span → List ℕ
 span_text s = codes " " ++ decimal s.count ++ codes " " ++ signed_decimal (span_value s s.start) ++ codes "\n"
 

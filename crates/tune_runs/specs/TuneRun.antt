@@ -117,7 +117,8 @@ WritesOptimum t method report =
 abbrev pub IsTuningFrom : Texts → Aim → Method → InputsView → Findings → Type 0
 IsTuningFrom t aim method i f = Means t i × IsSearchFrom (problem_of i) aim method f × (0 < f.candidates)
 
--- What its certificate says: which setting is the best, or that none reaches the floor.
+-- What the certificate of a tuning with this floor says: which setting is the best, or that none
+-- reaches the floor.
 abbrev pub answer_of : (floor : ℕ) → Option Best → Answer
 answer_of floor None = NoneFrom floor
 answer_of floor (Some best) = TheBest best

@@ -36,12 +36,12 @@ pub fn duel_run<W: Write>(
 
     ensures run { IsRun (duel_output (duel_given given.now)) result out.old out.new }
 {
-    let line = duel_line(alloc, given)?;
+    let line = duel_result_line(alloc, given)?;
     out.write_all(line.as_slice())?;
     Ok(())
 }
 
-fn duel_line(alloc: Global, given: &DuelTexts<'_>) -> Result<Vec<u8>, RunFault>
+fn duel_result_line(alloc: Global, given: &DuelTexts<'_>) -> Result<Vec<u8>, RunFault>
     ensures { Returns (λ line. (tt, line.items)) result (duel_output (duel_given given.now)) }
 {
     let fight = fight_of(alloc, given)?;

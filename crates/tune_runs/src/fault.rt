@@ -26,7 +26,7 @@ use tune_template::{TemplateFault, TemplateKind};
 /// | a tuning | `TooManyOpponents`, `Template`, `Opponent`, `Schedule`, `Part`, `NoCandidate` |
 /// | a check | `TooManyOpponents`, `Template`, `Opponent`, `Schedule`, `Part` |
 ///
-/// No fault within another is an `OutOfMemory`: that is `RunFault::OutOfMemory`.
+/// Out of memory is always `RunFault::OutOfMemory`, and never a fault within another.
 #[derive(Clone, Copy, Debug, PartialEq, Eq, Error)]
 pub enum RunFault {
     /// The fight text is malformed at this line, from 1.
@@ -35,7 +35,8 @@ pub enum RunFault {
     /// A number of the rules is out of range.
     #[error("{0}")]
     Rules(RulesError),
-    /// A load file is malformed, or its warrior breaks the rules. Its lines count from 1 within it.
+    /// A load file is malformed, or its warrior breaks the rules. `fault` counts lines from 1
+    /// within the load file.
     #[error("{fault}")]
     Load { side: Side, fault: LoadFault },
     /// The position is nearer to address 0 than the distance of the rules.

@@ -17,7 +17,7 @@ use rc_instr::{Outlet, Rules, Warrior, read_loadfile};
 use std::alloc::Global;
 use std::io::Write;
 
-// A fight whose warriors keep its rules, and whose position keeps their distance.
+// A fight whose warriors fit its rules, and whose position keeps the distance (`KeepsRules`).
 #[derive(Drop)]
 pub(crate) struct NamedFight {
     pub(crate) rules: Rules,
@@ -35,21 +35,21 @@ pub(crate) struct NamedFight {
 /// # Errors
 ///
 /// The first that applies: `FightText` with the first bad line, `Rules` if a number of the rules is
-/// out of range, `Load` if the candidate's load file, then the opponent's, is not the load file of
-/// a warrior that fits the rules, `Position` if the warriors are nearer than the distance. Nothing
-/// is written then. `Write` if the writer failed: an unknown part of the line may be out.
-/// `OutOfMemory` if an allocation failed: nothing is written.
+/// out of range, `Load` for the first load file, the candidate's before the opponent's, that is
+/// malformed or whose warrior does not fit the rules, `Position` if the warriors are nearer than
+/// the distance. Nothing is written then. `Write` if the writer failed: an unknown part of the line
+/// may be out. `OutOfMemory` if an allocation failed: nothing is written.
 pub fn fight_run<W: Write>(alloc: Global, text: &[u8], out: &mut Outlet<W>) -> Result<(), RunFault>
     requires { out.old.failed ≡ false }
 
     ensures run { IsRun (fight_output text.now) result out.old out.new }
 {
-    let line = fight_line(alloc, text)?;
+    let line = fight_result_line(alloc, text)?;
     out.write_all(line.as_slice())?;
     Ok(())
 }
 
-fn fight_line(alloc: Global, text: &[u8]) -> Result<Vec<u8>, RunFault>
+fn fight_result_line(alloc: Global, text: &[u8]) -> Result<Vec<u8>, RunFault>
     ensures { Returns (λ line. (tt, line.items)) result (fight_output text.now) }
 {
     let fight = read_fight(alloc, text)?;

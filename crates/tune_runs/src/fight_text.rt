@@ -1,4 +1,5 @@
-//! Parses fight texts.
+//! Parses fight texts: the lines `rules M C P L D`, `fight POSITION FIRST` and `candidate`, a load
+//! file, the line `opponent`, a load file.
 ghost use Rattle.std.specs.Prelude.{◌≡◌, ◌+◌, ◌==◌, length, position, MatchOption, MatchResult, Some, None, Ok, Err, true};
 ghost use Rattle.mars_core.specs.declared.side.Side.{Side};
 ghost use Rattle.rc_instr.specs.Rules.{rules_view};

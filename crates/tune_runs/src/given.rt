@@ -7,7 +7,7 @@ use mars_core::Side;
 use rc_instr::{Rules, RulesError};
 use tune_problem::Part;
 
-/// The five numbers of rules, in any range.
+/// The five numbers of rules, not yet checked.
 #[derive(Clone, Copy)]
 pub struct RawRules {
     /// The size of the core in cells.

@@ -70,7 +70,7 @@ pub(crate) fn opponent_of(
     }
 }
 
-// Assembles all opponents, at most `MOST_OPPONENTS`, up to the first that does not assemble.
+// Assembles the opponents, at most `MOST_OPPONENTS`. Stops at the first that does not assemble.
 fn opponents_of(alloc: Global, sources: &[Vec<u8>], rules: &Rules) -> Result<Vec<Warrior>, RunFault>
     requires few { length sources.now ≤ MOST_OPPONENTS }
     ensures warriors { Returns (λ ws. ws.items) result (opponents_from rules.now 0 (map (λ s. s.items) sources.now)) }

@@ -27,7 +27,7 @@ pub fn texts_have_one_meaning()
     ensures faults { (t : Texts) (e : RunFault) → meaning_of t ≡ Err e → IsTrue (is_text_fault e) ⊎ (e ≡ RunFault.Part) }
 {}
 
-/// States of whatever a search may find: the text of its certificate spells that certificate, and
+/// States that, whatever a search finds, the text of its certificate spells that certificate, and
 /// the right verdict on this text is Accepted, with its best setting and total.
 pub fn a_written_certificate_is_accepted()
     ensures spelled { (t : Texts) (method : Method) (i : InputsView) (f : Found) → MayFind t method i f → Spells (written f) (cert_of f) }
@@ -80,14 +80,14 @@ pub fn an_accepted_certificate_names_the_optimum()
 
 /// States that accepted certificates of parts name the optimum of the whole. Suppose that each part
 /// has a line of acceptance, or no candidate. Then the best setting of the first part with the
-/// greatest total is the optimum of all settings, with this total. Its index in the whole is
-/// counted on from where its part begins.
+/// greatest total is the optimum of all settings, with this total. Its index in the whole is its
+/// index in the part plus the index at which the part begins.
 ///
-/// A part in which no setting reaches a floor counts as one without a best setting, if the floor is
-/// at most the greatest total, or one more in a later part. If no part has a setting that reaches a
-/// floor, the whole has none. If no part has a candidate, the whole has none.
+/// A part may also be shown to have no setting that reaches a floor. The floor must be at most the
+/// greatest total; in a part after the best one it may be one more. If no part has a setting that
+/// reaches a floor, the whole has none. If no part has a candidate, the whole has none.
 pub fn accepted_parts_name_the_optimum()
-    // A line of acceptance names what its certificate is accepted with.
+    // If a check accepts, its line names the setting and the total of the right verdict.
     ensures line { (t : Texts) (bytes : List ℕ) (out : Writer) → Checks t bytes true out
         → (best total : ℕ) × Accepts t bytes best total × Gets out (verdict_line None (Verdict.Accepted best total)) }
     // So does the first line of a check with a demand.

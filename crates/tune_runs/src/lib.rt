@@ -1,7 +1,9 @@
-//! Runs over bytes: from the texts of a fight, an assembly or a tuning to the bytes that it writes.
+//! Runs over bytes: from the texts of a fight, an assembly, a tuning or a check to the bytes
+//! written.
 //!
 //! `laws` has the certified optimum: a tuning's report and any certificate that a check accepts for
-//! the same texts name one setting and one total. In this API a setting is called a vector.
+//! the same texts name one setting and one total. Fields and the line `vectors` call a setting a
+//! vector.
 //!
 //! | Run | What it writes |
 //! |---|---|
@@ -9,14 +11,17 @@
 //! | `asm_run`, `setting_run` | a load file: of a Redcode text, or of one setting of a template |
 //! | `settings_run` | the number of a template's settings, and its constants |
 //!
-//! A tuning and a check have a run for the best setting alone, and one that also has a ranking or a
-//! floor: the tuning's `Aim`, the check's `Demand`.
+//! For the best setting alone there are two runs of a tuning and three of a check. One more of each
+//! has a ranking or a floor as well: a tuning has an `Aim`, a check a `Demand`. In names `by` says
+//! that a run takes a method, `from` an aim, `for` a demand. `tune_run` and `check_run` have no
+//! watcher, and `tune_run` no method: it drops settings, and takes only the capacity. With part 1 of
+//! 1 the other runs of a tuning, and `check_for_run`, are of all settings too.
 //!
-//! | What is tuned or checked | The best setting alone | With a ranking or a floor |
+//! | Run of | The best setting alone | With a ranking or a floor |
 //! |---|---|---|
-//! | a tuning of all settings | `tune_run` | `tune_from_run`, of part 1 of 1 |
+//! | a tuning of all settings | `tune_run` | `tune_from_run` |
 //! | a tuning of a part, by a method | `tune_by_run` | `tune_from_run` |
-//! | a check of a tuning of all settings | `check_run` | `check_for_run`, of part 1 of 1 |
+//! | a check of a tuning of all settings | `check_run` | `check_for_run` |
 //! | a check of a tuning of a part | `check_part_run` | `check_for_run` |
 //! | a check of a share of the rows | `check_share_run` | `check_for_run`, with a share |
 #![tactic(auto)]

@@ -29,7 +29,8 @@ fn add_constant_line(text: &mut Vec<u8>, name: &[u8], span: Span) -> Result<(), 
     add_span(text, span)
 }
 
-// Appends how many values a constant has, and the one of the start setting, as in ` 19 3045`.
+// Appends the number of a constant's values and its value in the start setting, as in ` 19 3045`,
+// and ends the line.
 #[tactic(auto, unfolding(crate::specs::SettingsRun::span_text))]
 fn add_span(text: &mut Vec<u8>, span: Span) -> Result<(), OutOfMemory>
     ensures { OnOk result (text.new.items ≡ text.old.items ++ span_text span) }

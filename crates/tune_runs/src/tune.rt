@@ -37,8 +37,9 @@ use tune_search::{Findings, Method, search_from};
 /// The first that applies: `TooManyOpponents` for more than 64, `Template` with the fault of its
 /// text, `Opponent` with the index of the first that does not assemble and its fault, `Schedule`
 /// with the fault of its text, `NoCandidate` if no setting assembles. Nothing is written then.
-/// `Write` if a writer failed: an unknown part of its text may be out, and after the certificate's
-/// writer the report's gets nothing. `OutOfMemory` if an allocation failed: nothing is written.
+/// `Write` if a writer failed: an unknown part of its text may be out, and if it was the
+/// certificate's writer, the report's gets nothing. `OutOfMemory` if an allocation failed: nothing
+/// is written.
 pub fn tune_run<W: Write, V: Write>(
     alloc: Global,
     template: &[u8],
@@ -115,8 +116,8 @@ pub fn tune_by_run<T: Watcher, W: Write, V: Write>(
     )
 }
 
-/// Does what `tune_by_run` does for an aim: ranks the settings that total `floor` or more, and
-/// keeps the first `keep` of them, 1 to 1000.
+/// Does what `tune_by_run` does, but with an aim: ranks the settings that total `floor` or more,
+/// and keeps the first `keep` of them, 1 to 1000.
 ///
 /// If `keep` is above 1, the report has a line for each kept setting after its six lines: `rank I
 /// setting W total T NAME=value ..`. If no setting totals `floor` F or more, the certificate has
@@ -126,7 +127,7 @@ pub fn tune_by_run<T: Watcher, W: Write, V: Write>(
 ///
 /// # Errors
 ///
-/// Those of `tune_by_run`: `NoCandidate` only if no setting assembles.
+/// Those of `tune_by_run`. That no setting reaches the floor is not a fault.
 pub fn tune_from_run<T: Watcher, W: Write, V: Write>(
     alloc: Global,
     given: &TuneTexts<'_>,
@@ -151,7 +152,7 @@ pub fn tune_from_run<T: Watcher, W: Write, V: Write>(
     write_both(alloc, aim.floor, &found, text.as_slice(), report, cert)
 }
 
-// Searches, and tells `watcher` of the inputs, how far the search is, and when it is over.
+// Searches. `watcher` gets the inputs before the search, its progress, and its end.
 fn find<T: Watcher>(
     alloc: Global,
     inputs: &Inputs,

@@ -3,8 +3,8 @@ use Rattle.std.specs.Prelude.{ℕ, Bool, List, nat_eq}
 use Rattle.tune_search.specs.declared.fought.Fought.{Fought}
 use Rattle.std.specs.Cmp.Lexicographic.{pointwise}
 
--- Load files, each with the fought setting whose warrior it is, the last used first; and how many
--- there may be.
+-- Load files of warriors, each with the fought setting that makes it, the last used first; and how
+-- many there may be.
 pub record CacheView : Type 0 where
   pub known : List (List ℕ × Fought)
   pub capacity : ℕ

@@ -52,7 +52,7 @@ IsFull p rows best = (u : ℕ) × (row : List (ℕ × ℕ)) × (slice_get rows u
 abbrev pub work_from : Findings → Work
 work_from f = record { version = f.version; rows = f.rows; copied = f.copied; fights = f.fights; candidates = f.candidates }
 
--- What a search by a method finds that is asked for the first of the ranking.
+-- What a search by a method finds if it is asked for the first of the ranking.
 pub record IsSearchFrom (p : Problem) (aim : Aim) (method : Method) (f : Findings) : Type 0 where
   -- the ranking has the first of all settings that reach the floor, as many as the aim keeps
   pub ranking : IsRanking p aim Any f.ranking

@@ -90,7 +90,7 @@ pub record IsWorkOf (p : Problem) (aim : Aim) (method : Method) (work : Work) : 
   -- every listed fight was played once, except those of the copied row
   pub fights : work.fights + copied_fights work.rows work.copied ≡ listed_fights work.rows
 
--- What a search by a method finds that is asked for the best setting.
+-- What a search by a method finds if it is asked for the best setting.
 pub record IsSearch (p : Problem) (method : Method) (f : Found) : Type 0 where
   -- the best setting is the optimum, and the rows are a valid certificate of it
   pub optimum : IsOptimum p f.best

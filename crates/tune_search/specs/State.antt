@@ -53,7 +53,7 @@ listing_of_challenge p c = played p c.entrant.now.warrior (fights_of_challenge p
 abbrev pub cap_of_challenge : Problem → Challenge → ℕ
 cap_of_challenge p c = cap_of p c.entrant.now.warrior (fights_of_challenge p c)
 
--- Fights with points, by the index of the fight.
+-- Compares fights with points by the index of the fight, and then by the points.
 abbrev pub by_index : ℕ × ℕ → ℕ × ℕ → Ordering
 by_index x y = ordering_then (nat_cmp x.0 y.0) (nat_cmp x.1 y.1)
 

@@ -10,8 +10,8 @@ use std::alloc::{AllocError, AllocFailed, Global};
 use std::marker::Model;
 use std::num::NonZeroUsize;
 
-// A bounded map from load files to the fought settings whose warriors they are. With capacity 0 it
-// stays empty, although `settings` could hold one.
+// A bounded map from the load file of a warrior to the fought setting that makes it. With capacity
+// 0 it stays empty, although `settings` could hold one.
 #[derive(Drop)]
 pub(crate) struct Cache {
     settings: LruCache<Vec<u8>, Fought>,

@@ -9,7 +9,7 @@ use tune_problem::{Found, Ranking, Rows};
 /// What a search with an aim finds.
 #[derive(Debug, Drop)]
 pub struct Findings {
-    /// The version of a certificate: 1 if every fight has the weight 1, and otherwise 2.
+    /// The version of its certificate: 1 if every fight has the weight 1, and otherwise 2.
     pub version: u32,
     /// The first settings of the ranking that total the floor or more, at most as many as the aim
     /// keeps, each with its total. The greatest total is first, then the smaller index.

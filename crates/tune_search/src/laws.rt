@@ -14,6 +14,7 @@ ghost use Rattle.tune_problem.specs.Exact.{IsExact, listed_ranking};
 
 use crate::findings::Findings;
 use crate::method::Method;
+// What a search with a floor certifies if no setting reaches it.
 pub use tune_problem::laws::a_certificate_below_a_floor_is_right;
 use tune_problem::{Aim, Best, Found};
 
@@ -67,7 +68,7 @@ pub fn a_floor_hides_only_what_is_below_it()
         → first_of f.ranking ≡ best_from aim.floor g }
 {}
 
-/// States that the ranking after any number of visits is the first of the settings visited.
+/// States that the ranking after any number of visits has the first of the settings visited.
 pub fn a_ranking_has_the_first_settings()
     ensures { (p : Problem) (aim : Aim) (k : ℕ) → IsAim aim → k ≤ p.count → p.start < p.count → IsRankingBy p aim k (ranking_after p aim k) }
 {}

@@ -1,4 +1,8 @@
 //! The search for the optimum of a tuning, and for the first of the ranking of its settings.
+//!
+//! `search` finds the optimum by `Method::Dropping`. `search_by` also takes a method and a watcher,
+//! `search_from` an aim: how many settings are ranked, and a floor. Fields named `vector` have the
+//! index of a setting.
 #![tactic(auto)]
 
 mod cache;

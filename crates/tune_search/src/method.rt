@@ -8,8 +8,8 @@ use tune_problem::{Aim, Best, contends};
 /// How a search goes. Both methods find the same setting, with the same total.
 #[derive(Clone, Copy, Debug, PartialEq, Eq)]
 pub enum Method {
-    /// Drops a setting once it cannot be the best, and remembers up to `capacity` settings, 1 to
-    /// 65536, so that equal warriors share their fights.
+    /// Drops a setting once it cannot be one of those that are asked for, and remembers up to
+    /// `capacity` settings, 1 to 65536, so that equal warriors share their fights.
     Dropping { capacity: u32 },
     /// Plays every fight of every setting that assembles.
     PlayingAll,

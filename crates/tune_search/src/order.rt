@@ -34,7 +34,7 @@ pub(crate) fn all_in_order(alloc: Global, fights: u32) -> Result<Vec<u32>, Alloc
     Ok(order)
 }
 
-// At the first visit, replaces `order` by the order of `fights`, sorted by rising points.
+// At the first visit, replaces `order` by the indices of `fights`, by rising points.
 pub(crate) fn learn_order(
     alloc: Global,
     order: &mut Vec<u32>,

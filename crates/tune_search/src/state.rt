@@ -23,6 +23,7 @@ use tune_problem::{
     start_setting,
 };
 
+// A search between two visits.
 #[derive(Drop)]
 pub(crate) struct State {
     pub(crate) method: Method,
@@ -72,8 +73,8 @@ impl State {
         })
     }
 
-    // Visits the setting that comes after `visits` others. Writes its row if it assembles: a
-    // setting with the load file of one in the cache shares its fights, any other is fought, and
+    // Visits the setting that comes after `visits` others. Writes its row if it assembles. If its
+    // load file is in the cache, it shares the fights of the setting there; else it is fought, and
     // `watcher` hears of each fight.
     pub(crate) fn visit<T: Watcher>(
         &mut self,

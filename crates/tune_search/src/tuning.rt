@@ -15,15 +15,15 @@ use mars_core::{Arena, PackedCells};
 use std::alloc::Global;
 use tune_problem::{Aim, Best, Found, Inputs, Silent, Standing, Watcher, part_size};
 
-/// Finds the optimum: the first setting of the template with the greatest total in the fights of
-/// the schedule. Plays only fights that can matter.
+/// Finds the optimum: the first setting of the part that is tuned with the greatest total in the
+/// fights of the schedule. Plays only fights that can matter.
 ///
-/// Visits the start setting first, then the others in order. The fights of the start setting go by
-/// index, and those of the others by the points that it made in them, the fewest first, and by
-/// index where these are equal; all by index if it does not assemble. A setting is dropped as soon
-/// as its cap does not beat the lead, the best setting visited so far. The cap is the scores that
-/// it has and 3 times the weight of each fight left. It does not beat the lead if it is less than
-/// the lead's total, or equal and the lead has the smaller index.
+/// Visits the start setting first, then the others in order. The start setting plays its fights by
+/// index. The others play those first in which it made the fewest points, and equal ones by index;
+/// if it does not assemble, they too play by index. A setting is dropped as soon as its cap does
+/// not beat the lead, the best setting visited so far. The cap is the scores that it has and 3
+/// times the weight of each fight left. It does not beat the lead if it is less than the lead's
+/// total, or equal and the lead has the smaller index.
 ///
 /// Remembers up to `capacity` fought settings, 1 to 65536, and forgets the one used least recently
 /// to make room. A setting v with the warrior of a remembered setting u is not fought, and u
@@ -81,12 +81,12 @@ pub fn search_by<T: Watcher>(
 /// `keep`-th setting of the ranking so far, if that many are ranked. The start setting plays all
 /// its fights, since the others learn their order from them. A setting that shares the fights of
 /// another is ranked with the total of the other. A floor drops settings before the ranking does,
-/// and so saves fights. `search_by` is this search with keep 1 and the floor 0, and tells `watcher`
-/// the same.
+/// and so saves fights. `search_by` is this search with keep 1 and the floor 0, and its watcher
+/// gets the same.
 ///
 /// # Errors
 ///
-/// Those of `search`: `NoCandidate` only if no setting assembles.
+/// Those of `search`. That no setting reaches the floor is not a fault.
 pub fn search_from<T: Watcher>(
     alloc: Global,
     inputs: &Inputs,

@@ -60,7 +60,7 @@ pub(crate) fn check_old<F: Files>(
     }
 }
 
-// Returns whether a word is a name of the file that was found. A name of no file is not.
+// Returns whether a word is a name of the file that was found. A word that names no file is not.
 fn is_word<F: Files>(rt: &F, words: &TuneWords<'_>, found: &Metadata) -> bool {
     let names = [words.template, words.schedule, words.cert];
     let opponents = words.opponents.as_slice();
@@ -77,7 +77,7 @@ fn begins_at<F: Files>(rt: &F, alloc: Global, name: &str) -> io::Result<bool> {
     begins_with(alloc, &mut file, BEGINNING)
 }
 
-// What the file says.
+// What the text of the file is made from.
 #[derive(Clone, Copy)]
 pub(crate) struct Tuning<'a> {
     pub(crate) words: &'a TuneWords<'a>,
@@ -216,7 +216,7 @@ fn add_digest(
     add_line(text, word, line.as_str())
 }
 
-// Adds a line of a word and what it says, which cannot hold the end of a line.
+// Adds the line `WORD SAID`. Fails if `said` has a line feed.
 fn add_line(text: &mut Vec<u8>, word: &str, said: &str) -> io::Result<()> {
     if said.as_bytes().contains(&b'\n') {
         return Err(io::Error::from(io::ErrorKind::InvalidInput));

@@ -42,7 +42,7 @@ impl Write for Fake {
     }
 }
 
-// Returns an outlet over such a writer.
+// Returns an outlet over a new `Fake`.
 pub(crate) fn outlet(
     alloc: Global,
     most: usize,

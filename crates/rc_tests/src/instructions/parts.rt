@@ -28,10 +28,13 @@ const ALWAYS_F: [Modifier; 4] = [Modifier::F; 4];
 
 const ALWAYS_B: [Modifier; 4] = [Modifier::B; 4];
 
+// I, but AB if only A or both operands are immediate, and B if only B is.
 const WHOLE: [Modifier; 4] = [Modifier::I, Modifier::AB, Modifier::B, Modifier::AB];
 
+// F, with the same exceptions.
 const BOTH: [Modifier; 4] = [Modifier::F, Modifier::AB, Modifier::B, Modifier::AB];
 
+// B, but AB if A is immediate.
 const LESS: [Modifier; 4] = [Modifier::B, Modifier::AB, Modifier::B, Modifier::AB];
 
 // An opcode, and its default modifiers in the order of `defaults_of`.

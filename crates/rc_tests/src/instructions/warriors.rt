@@ -17,7 +17,8 @@ fn cells(alloc: Global, length: u32, numbers: (u16, u16)) -> Result<Vec<Instruct
     Ok(code)
 }
 
-// Returns how a warrior of such cells is refused in a core of 16 cells with length 4.
+// Makes a warrior of `cells(length, numbers)` by rules with a core of 16 cells and length 4, and
+// returns the refusal.
 fn refused(alloc: Global, length: u32, start: u32, numbers: (u16, u16)) -> Result<Refused, Fail> {
     let rules = Rules::try_new(16, 20, 4, 4, 4)?;
     match Warrior::try_new(cells(alloc, length, numbers)?, start, &rules) {

@@ -6,6 +6,25 @@ use rc_text::{Kind, Token};
 use std::alloc::Global;
 use std::test::Fail;
 
+// Expands `source` under the standard rules with the constant K = 7. Returns its lines as text, or
+// the text of its fault. Out of memory is an error.
+pub(crate) fn lines_of(alloc: Global, source: &[u8]) -> Result<Vec<u8>, Fail> {
+    let names = constant_name(alloc)?;
+    let constants = Constants {
+        names: &names,
+        values: &[7],
+    };
+    match expand(alloc, source, &constants, &Rules::standard()) {
+        Ok(expanded) => lines_text(alloc, source, expanded.lines.as_slice()),
+        Err(fault) => {
+            if fault.kind == ExpandKind::OutOfMemory {
+                return Err(Fail::from(fault));
+            }
+            Ok(format!(in alloc; "{fault}")?.into_bytes())
+        }
+    }
+}
+
 // Appends each token after a blank: a decimal as its value, a name with its counters.
 fn push_tokens(
     alloc: Global,
@@ -25,7 +44,7 @@ fn push_tokens(
     Ok(())
 }
 
-// Returns the text that a line of such a word prints: a minus for code.
+// Returns how a word is printed: code as a minus.
 fn word_text(word: LineWord) -> &'static [u8] {
     match word {
         LineWord::Bare => b"",
@@ -53,23 +72,4 @@ fn lines_text(alloc: Global, source: &[u8], lines: &[Line]) -> Result<Vec<u8>, F
         push_line(alloc, &mut out, source, line)?;
     }
     Ok(out)
-}
-
-// Expands `source` under the standard rules with the constant K = 7. Returns its lines as text, or
-// the text of its fault. Out of memory is an error.
-pub(crate) fn lines_of(alloc: Global, source: &[u8]) -> Result<Vec<u8>, Fail> {
-    let names = constant_name(alloc)?;
-    let constants = Constants {
-        names: &names,
-        values: &[7],
-    };
-    match expand(alloc, source, &constants, &Rules::standard()) {
-        Ok(expanded) => lines_text(alloc, source, expanded.lines.as_slice()),
-        Err(fault) => {
-            if fault.kind == ExpandKind::OutOfMemory {
-                return Err(Fail::from(fault));
-            }
-            Ok(format!(in alloc; "{fault}")?.into_bytes())
-        }
-    }
 }

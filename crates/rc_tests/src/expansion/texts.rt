@@ -1,5 +1,5 @@
 //! Texts, and the lines that they expand to or their faults.
-use crate::assembly::lines::lines_of;
+use crate::expansion::lines::lines_of;
 use crate::fixtures::{Case, push_times};
 use std::test::Fail;
 
@@ -245,7 +245,7 @@ fn a_constant_is_not_defined_again(rt: HostRuntime) -> Result<(), Fail> {
     Ok(())
 }
 
-// A text at a limit: `piece`, `count` times, then `back`. Its lines, or its fault, begin with
+// A text at a limit, or nearly: `piece`, `count` times, then `back`. Its lines, or its fault, begin with
 // `begins`.
 struct Limit {
     name: &'static str,
