@@ -7,8 +7,9 @@ build, plays the fights with it too, after the series of pairs.py. README.md say
 import math, os, pathlib, subprocess, tempfile, time
 
 from author.lib import tuning_files
-from author.lib.endings import Fault, number_from, run_tool
-from author.lib.program import Rules, add_program, module_parser, program_of
+from author.lib.endings import Fault, run_tool
+from author.lib.program import Rules, program_of
+from author.lib.words import add_program, module_parser, number_from
 from pmars.games import Game
 
 from .pairs import mean_and_least, print_folders, processor_time

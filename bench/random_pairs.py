@@ -8,8 +8,9 @@ all pairs and of those without a tie: the program cuts ties short, and pMARS doe
 """
 import random, tempfile
 
-from author.lib.endings import number_from, run_tool
-from author.lib.program import Rules, add_program, module_parser, program_of
+from author.lib.endings import run_tool
+from author.lib.program import Rules, program_of
+from author.lib.words import add_program, module_parser, number_from
 from pmars.games import Game
 from pmars.random_warriors import random_load
 

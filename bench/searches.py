@@ -7,8 +7,9 @@ The exit status is 3 if a search fails, or if two find different settings.
 """
 import argparse, pathlib, subprocess, sys, tempfile, time
 
-from author.lib.endings import Fault, number_from, run_tool
-from author.lib.program import add_program, module_parser, program_of
+from author.lib.endings import Fault, run_tool
+from author.lib.program import program_of
+from author.lib.words import add_program, module_parser, number_from
 
 ROOT = pathlib.Path(__file__).resolve().parent.parent
 AUTHOR, WARRIORS = ROOT / "author", sorted((ROOT / "examples/warriors").glob("*.red"))

@@ -6,7 +6,8 @@ depend on it.
 import os, pathlib, tempfile
 
 from author.lib.endings import run_tool
-from author.lib.program import program_word, run_program
+from author.lib.program import run_program
+from author.lib.words import program_word
 
 from . import cert_inputs, inputs
 from .inputs import RULES

@@ -7,7 +7,7 @@ to be answered as a rule of this file says, which follows from `docs/FORMATS.md`
 import concurrent.futures, os
 
 from author.lib.endings import run_tool
-from author.lib.program import program_word
+from author.lib.words import program_word
 
 from . import inputs
 from .inputs import FILES, RULES

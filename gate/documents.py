@@ -7,7 +7,7 @@ document for the lines of a merge that nobody has settled.
 import os, pathlib, re, shutil, subprocess, tempfile
 
 from author.lib.endings import run_tool
-from author.lib.program import program_word
+from author.lib.words import program_word
 
 from .play import end, play
 from .tally import compare, tally

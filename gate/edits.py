@@ -23,8 +23,8 @@ The libraries under the crates must be built. A round that was judged as it shou
 import concurrent.futures, hashlib, importlib.util, os, pathlib, re, shutil, subprocess
 import sys, tempfile
 
-from author.lib.endings import Fault, number_from, run_tool
-from author.lib.program import module_parser
+from author.lib.endings import Fault, run_tool
+from author.lib.words import module_parser, number_from
 
 from .functions import functions_of
 

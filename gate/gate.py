@@ -7,7 +7,7 @@ try the program. The last line sums the steps up. If `rt ci` fails, nothing else
 import os, pathlib, re, resource, shutil, subprocess, sys, tempfile, time
 
 from author.lib.endings import run_tool
-from author.lib.program import module_parser
+from author.lib.words import module_parser
 
 ROOT = pathlib.Path(__file__).resolve().parent.parent
 EDITS = "gate.edits"

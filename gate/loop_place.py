@@ -8,7 +8,7 @@ place is judged, and none is counted.
 import pathlib, struct, subprocess
 
 from author.lib.endings import run_tool
-from author.lib.program import program_word
+from author.lib.words import program_word
 
 from .tally import tally
 

@@ -10,7 +10,7 @@ keeps its permissions; a new one has those that the umask leaves. Expected value
 import os, pathlib, pty, resource, shutil, signal, subprocess, tempfile, threading, time
 
 from author.lib.endings import run_tool
-from author.lib.program import program_word
+from author.lib.words import program_word
 
 from . import inputs
 from .inputs import RULES

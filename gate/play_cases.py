@@ -4,8 +4,10 @@ gate/cases/README.md says what a case has. One that says anything else, or no `s
 """
 import concurrent.futures, os, pathlib, re, shlex, string, tempfile, tomllib
 
-from author.lib.endings import Fault, naming, run_tool
-from author.lib.program import add_built, module_parser, program_of
+from author.lib.endings import Fault, run_tool
+from author.lib.program import program_of
+from author.lib.words import add_built, module_parser
+from author.lib.writing import naming
 
 from . import inputs
 from .play import Place, end

@@ -8,8 +8,8 @@ the ranking has lost its last fight.
 import concurrent.futures, itertools, os, random
 
 from author.lib.endings import run_tool
-from author.lib.program import program_word
 from author.lib.tuning_files import Certificate, Template, read_schedule
+from author.lib.words import program_word
 
 from .play import in_folder
 from .ranking_model import Aim, Search, Table, first_too_high, listed, rank_line, row_line

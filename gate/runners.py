@@ -8,7 +8,7 @@ import itertools, pathlib, re, subprocess, sys, tempfile
 
 import gate
 from author.lib.endings import Fault, run_tool
-from author.lib.program import module_parser
+from author.lib.words import module_parser
 from pmars.compare import Programs
 
 from .gate import STEPS

@@ -2,7 +2,7 @@
 import itertools, os, pathlib, signal, subprocess, sys, time
 
 from author.lib.endings import run_tool
-from author.lib.program import program_word
+from author.lib.words import program_word
 
 from . import inputs
 from .inputs import RULES

@@ -8,7 +8,7 @@ of a run is played by `gate/cases/explanations.toml`. Expected values follow fro
 import os, pty, re, select, tempfile, time
 
 from author.lib.endings import run_tool
-from author.lib.program import program_word
+from author.lib.words import program_word
 
 from . import inputs, pipes
 from .inputs import RULES

@@ -11,8 +11,9 @@ PMARS is a server build of pMARS 0.9.2; `make pmars` builds one, and prints its 
 """
 import itertools, pathlib, random, sys, tempfile, time
 
-from author.lib.endings import number_from, run_tool
-from author.lib.program import Rules, add_program, module_parser, program_of, run_program
+from author.lib.endings import run_tool
+from author.lib.program import Rules, program_of, run_program
+from author.lib.words import add_program, module_parser, number_from
 
 from .games import LONGEST, Game, fights_of, run
 from .known import FIGHTS, RULES, TEXTS, WAITS

@@ -5,8 +5,10 @@ zsh and fish, examples and documents, the licences, what was proved with which k
 """
 import gzip, hashlib, io, pathlib, re, shutil, subprocess, tarfile, tempfile
 
-from author.lib.endings import Fault, run_tool, whole_file
-from author.lib.program import BUILT, module_parser
+from author.lib.endings import Fault, run_tool
+from author.lib.program import BUILT
+from author.lib.words import module_parser
+from author.lib.writing import whole_file
 
 from . import manual
 

@@ -8,7 +8,8 @@ import importlib, pathlib, re
 from typing import NamedTuple
 
 from author.lib.endings import Fault, run_tool
-from author.lib.program import add_built, module_parser, program_of, run_program
+from author.lib.program import program_of, run_program
+from author.lib.words import add_built, module_parser
 
 NAME = "cwtune"
 AUTHOR = pathlib.Path(__file__).resolve().parents[1] / "author"

@@ -9,7 +9,7 @@ failed`; the exit status is 1 if a trial failed.
 import contextlib, hashlib, importlib, pathlib, re, shutil, subprocess, tarfile, tempfile
 
 from author.lib.endings import Fault, run_tool
-from author.lib.program import program_word
+from author.lib.words import program_word
 from gate.tally import compare, tally
 
 from . import dist, manual

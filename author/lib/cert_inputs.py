@@ -76,35 +76,35 @@ def read(cert):
     return found if found.cert == digest_of(cert) else f"{name} is of another certificate"
 
 
-def settle(asked):
-    """Fills in the rules and the files that the words of a command leave out, and refuses those
-    that are not of the tuning. Returns why what is of the tuning is not known, or an empty text.
+def settle(args):
+    """Fills in the rules and the files that were not given, from CERT.inputs, and refuses those
+    given that differ from it. Returns why CERT.inputs could not be used, or an empty text.
 
-    Words that a command does not have, or that no file is found for, are left alone.
+    Words that a command does not have, or for which no file is found, are left alone.
     """
-    found = read(asked.cert)
-    if getattr(asked, "hill", None):
-        fill_rules(asked, HILLS[asked.hill])
+    found = read(args.cert)
+    if getattr(args, "hill", None):
+        fill_rules(args, HILLS[args.hill])
     if isinstance(found, str):
-        fill_rules(asked, Rules())
+        fill_rules(args, Rules())
         return found
-    fill_rules(asked, found.rules)
-    refuse_rules(asked, found.rules)
+    fill_rules(args, found.rules)
+    refuse_rules(args, found.rules)
     for kind in KINDS[:2]:
-        if hasattr(asked, kind):
-            setattr(asked, kind, settled(found, kind, 0, getattr(asked, kind)))
-    if hasattr(asked, "opponents"):
-        asked.opponents = settled_opponents(found, asked.opponents)
+        if hasattr(args, kind):
+            setattr(args, kind, settled(found, kind, 0, getattr(args, kind)))
+    if hasattr(args, "opponents"):
+        args.opponents = settled_opponents(found, args.opponents)
     return ""
 
 
 def print_note(unknown):
-    """Says on standard error what follows from what `settle` returned, if that is not empty."""
+    """Notes on standard error that nothing was compared, and why, if `settle` returned a reason."""
     if unknown:
         say("note", f"{unknown}, so files and rules cannot be compared with the tuning's", 0)
 
 
-def refuse_others(asked, cert, part, method):
+def refuse_others(args, cert, part, method):
     """Refuses `cert` if its CERT.inputs says that it is of another part or of another tuning, or is
     not that of `cert`. Without a CERT.inputs nothing is known."""
     if not os.path.exists(name_of(cert)):
@@ -117,18 +117,18 @@ def refuse_others(asked, cert, part, method):
             raise Fault(f"it is of part {found.part}", 2)
         if found.method != method:
             raise Fault(f"its method is `{found.method}`, not `{method}`", 2)
-        refuse_rules(asked, found.rules)
+        refuse_rules(args, found.rules)
         for kind in KINDS[:2]:
-            settled(found, kind, 0, getattr(asked, kind))
-        settled_opponents(found, asked.opponent)
+            settled(found, kind, 0, getattr(args, kind))
+        settled_opponents(found, args.opponent)
     except Fault as fault:
         raise Fault(f"{cert} is not of part {part} of what is merged: {fault}", 2) from None
 
 
-def refuse_rules(asked, rules):
+def refuse_rules(args, rules):
     for name, number in rules._asdict().items():
-        if getattr(asked, name, number) != number:
-            raise Fault(f"--{name} is {getattr(asked, name)}, but the tuning had {number}", 2)
+        if getattr(args, name, number) != number:
+            raise Fault(f"--{name} is {getattr(args, name)}, but the tuning had {number}", 2)
 
 
 def settled(found, kind, index, given):

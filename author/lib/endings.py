@@ -1,5 +1,5 @@
-"""How the commands end after a fault or as a `cwtune` ended, write files and read numbers."""
-import argparse, contextlib, io, os, pathlib, shutil, signal, subprocess, sys
+"""How the commands end: after a fault, as a run of `cwtune` ended, or by a signal."""
+import io, os, signal, subprocess, sys
 
 WORDS = {1: "refused", 2: "error", 3: "failed"}
 
@@ -77,7 +77,8 @@ def say(word, message, status):
 
 
 def status_of(code):
-    """Returns the status of a command whose `cwtune` ended with this one: 3 after a signal."""
+    """Returns the status of a command whose `cwtune` ended with this one: 1 and 2 stay, all else is
+    3."""
     return code if code in (1, 2) else 3
 
 
@@ -111,52 +112,3 @@ def counted(number, noun):
 def end_by_kill_as_by_interrupt():
     """Lets what `kill` sends end the command as Ctrl-C does."""
     signal.signal(signal.SIGTERM, signal.default_int_handler)
-
-
-def number_from(low, high=None):
-    """Returns a reader of the numbers from `low` to `high` for argparse."""
-    limits = f"{low} or more" if high is None else f"{low} to {high}"
-
-    def read(word):
-        number = int(word)
-        if number < low or high is not None and number > high:
-            raise argparse.ArgumentTypeError(f"{word} is not {limits}")
-        return number
-
-    read.__name__ = "number"
-    return read
-
-
-@contextlib.contextmanager
-def naming(path):
-    """Turns an error of the system into a fault that names `path`."""
-    try:
-        yield
-    except OSError as error:
-        raise Fault(f"{path}: {error.strerror}", 3) from None
-
-
-@contextlib.contextmanager
-def whole_file(path, mode="w"):
-    """Opens a new file beside `path`, which replaces `path` once all is written to it.
-
-    After a fault `path` is as it was. A device or a pipe is opened itself.
-    """
-    real = pathlib.Path(os.path.realpath(path))
-    with naming(path):
-        if real.exists() and not real.is_file():
-            with open(path, mode) as file:
-                yield file
-            return
-        new = real.with_name(f"{real.name}.{os.getpid()}.new")
-        try:
-            with new.open(mode) as file:
-                yield file
-                file.flush()
-                os.fsync(file.fileno())
-            if real.exists():
-                shutil.copymode(real, new)
-            new.replace(real)
-        finally:
-            with contextlib.suppress(OSError):
-                new.unlink()

@@ -5,8 +5,8 @@ Example: cwtune-files my.red fights.csv my.cert
 import pathlib
 
 from .endings import counted
-from .program import command_parser
 from .tuning_files import Rows, Template, read_schedule
+from .words import command_parser
 
 
 def describe(path):

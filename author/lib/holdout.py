@@ -17,11 +17,12 @@ import math, pathlib, random, tempfile
 from typing import NamedTuple
 
 from . import cert_inputs, tuning_files
-from .endings import Fault, counted, fault_of, number_from
+from .endings import Fault, counted, fault_of
 from .mean_error import error_of_mean
-from .program import (EXPLAIN, add_opponents_of_tuning, add_program, add_rules, add_words,
-                      command_parser, rules_of, run_program)
+from .program import EXPLAIN, rules_of, run_program
 from .series import refuse_distance, refuse_fights
+from .words import (add_opponents_of_tuning, add_program, add_rules, add_words, command_parser,
+                    number_from)
 
 
 class Fresh(NamedTuple):
@@ -55,22 +56,22 @@ class Fresh(NamedTuple):
         return f"{sum(flat)} of {3 * len(flat)} ({said})" if alike else said
 
 
-def schedule_of(asked):
+def schedule_of(args):
     """Returns the text of a schedule of fresh fights."""
-    dice, low = random.Random(asked.seed), asked.distance
+    dice, low = random.Random(args.seed), args.distance
     return tuning_files.schedule_text(
-        tuning_files.Fight(k, dice.randint(low, asked.core - low), "co"[i % 2])
-        for k in range(len(asked.opponents)) for i in range(asked.rounds))
+        tuning_files.Fight(k, dice.randint(low, args.core - low), "co"[i % 2])
+        for k in range(len(args.opponents)) for i in range(args.rounds))
 
 
-def opponent_weights_of(asked, fights):
+def opponent_weights_of(args, fights):
     """Returns how much each opponent counts: by its fights' weights; without a schedule alike."""
-    if not asked.schedule:
-        return [1] * len(asked.opponents)
-    if any(fight.opponent >= len(asked.opponents) for fight in fights):
-        raise Fault(f"{asked.schedule} has fights against more opponents than were given", 2)
+    if not args.schedule:
+        return [1] * len(args.opponents)
+    if any(fight.opponent >= len(args.opponents) for fight in fights):
+        raise Fault(f"{args.schedule} has fights against more opponents than were given", 2)
     return [sum(fight.weight for fight in fights if fight.opponent == k)
-            for k in range(len(asked.opponents))]
+            for k in range(len(args.opponents))]
 
 
 def run(*words):
@@ -81,16 +82,16 @@ def run(*words):
     return done.stdout
 
 
-def play(asked, rules, opponent_weights, folder, *text):
+def play(args, rules, opponent_weights, folder, *text):
     """Returns what a warrior makes in the fresh fights. `text` are words of `cwtune asm`."""
-    load = run(asked.program, "asm", *EXPLAIN, *rules, *text)
+    load = run(args.program, "asm", *EXPLAIN, *rules, *text)
     template, schedule, cert = (pathlib.Path(folder, name) for name in ("t.red", "s.csv", "cert"))
     template.write_bytes(b";@tune ONE 0 0 1 0\n" + load)
-    schedule.write_text(schedule_of(asked))
-    run(asked.program, "tune", *EXPLAIN, *rules, template, schedule, cert, *asked.opponents)
+    schedule.write_text(schedule_of(args))
+    run(args.program, "tune", *EXPLAIN, *rules, template, schedule, cert, *args.opponents)
     made = tuning_files.Certificate(cert).points(0)
-    rounds = range(asked.rounds)
-    points = [[made[k * asked.rounds + i] for i in rounds] for k in range(len(asked.opponents))]
+    rounds = range(args.rounds)
+    points = [[made[k * args.rounds + i] for i in rounds] for k in range(len(args.opponents))]
     return Fresh(points, opponent_weights)
 
 
@@ -136,46 +137,46 @@ def make_parser():
 def read_words():
     """Returns the words of the command, and why what is of the tuning is not known."""
     parser = make_parser()
-    asked = parser.parse_intermixed_args()
-    unknown = cert_inputs.settle(asked)
-    if not asked.opponents:
+    args = parser.parse_intermixed_args()
+    unknown = cert_inputs.settle(args)
+    if not args.opponents:
         parser.error(f"give OPPONENT..: {unknown or 'the opponents of the tuning are not there'}")
-    refuse_fights(parser, "--rounds", asked.rounds, len(asked.opponents))
-    refuse_distance(parser, rules_of(asked))
-    return asked, unknown
+    refuse_fights(parser, "--rounds", args.rounds, len(args.opponents))
+    refuse_distance(parser, rules_of(args))
+    return args, unknown
 
 
 def main():
-    asked, unknown = read_words()
-    found = tuning_files.Certificate(asked.cert)
-    template = tuning_files.Template(asked.template).of(found)
-    fights = found.fights(asked.schedule)
-    rules, weights = rules_of(asked).words(), opponent_weights_of(asked, fights)
-    full, dropped, exact = found.ranked(fights)
+    args, unknown = read_words()
+    cert = tuning_files.Certificate(args.cert)
+    template = tuning_files.Template(args.template).of(cert)
+    fights = cert.fights(args.schedule)
+    rules, weights = rules_of(args).words(), opponent_weights_of(args, fights)
+    full, dropped, exact = cert.ranked(fights)
     with tempfile.TemporaryDirectory() as folder:
         made = {}
-        for rank, (total, v) in enumerate(full[:asked.top], 1):
-            made[v] = play(asked, rules, weights, folder, "--setting", str(v), asked.template)
+        for rank, (total, v) in enumerate(full[:args.top], 1):
+            made[v] = play(args, rules, weights, folder, "--setting", str(v), args.template)
             name = f"setting {v}, rank {rank}" if rank <= exact else f"setting {v}"
             print_line(name, total, fights.greatest, made[v], template.constants(v))
-        best = made[found.best]
-        if asked.against:
-            other = play(asked, rules, weights, folder, "--", asked.against)
-            print(f"{asked.against}: fresh {other}")
-            print_gain(asked.against, found.best, best.minus(other))
-        elif found.points(start := template.start) is None:
+        best = made[cert.best]
+        if args.against:
+            other = play(args, rules, weights, folder, "--", args.against)
+            print(f"{args.against}: fresh {other}")
+            print_gain(args.against, cert.best, best.minus(other))
+        elif cert.points(start := template.start) is None:
             print(f"START, setting {start}: does not assemble")
-        elif start == found.best:
+        elif start == cert.best:
             print(f"setting {start} is START: the tuning found nothing better")
         else:
-            other = made.get(start) or play(asked, rules, weights, folder, "--setting", str(start),
-                                            asked.template)
-            print_line(f"START, setting {start}", found.total_of(start, fights), fights.greatest,
+            other = made.get(start) or play(args, rules, weights, folder, "--setting", str(start),
+                                            args.template)
+            print_line(f"START, setting {start}", cert.total_of(start, fights), fights.greatest,
                        other, template.constants(start))
-            print_gain("START", found.best, best.minus(other))
+            print_gain("START", cert.best, best.minus(other))
     if dropped:
         verb = "was" if dropped == 1 else "were"
-        so = ", so" if exact < asked.top else ";"
+        so = ", so" if exact < args.top else ";"
         print(f"{counted(dropped, 'setting')} {verb} dropped{so} "
-              f"{tuning_files.said_of_ranks(exact, asked.top)}")
+              f"{tuning_files.said_of_ranks(exact, args.top)}")
     cert_inputs.print_note(unknown)

@@ -12,9 +12,10 @@ Example: cwtune-landscape my.red my.cert totals.png --effects effects.png
 import itertools, math, sys
 
 from . import cert_inputs, tuning_files
-from .endings import Fault, whole_file
+from .endings import Fault
 from .mean_error import error_of_mean
-from .program import add_words, command_parser
+from .words import add_words, command_parser
+from .writing import whole_file
 
 MOST_MAPS = 36
 GREY = "#cccccc"
@@ -36,20 +37,20 @@ def load_pyplot():
 class Table:
     """The totals of the settings that played all fights, and the caps of those that were dropped.
 
-    Where one of the lists `totals` and `caps` has a number the other is not a number; both, if the
-    setting does not assemble. `best` is the setting of the certificate.
+    For each setting one of `totals` and `caps` is a number and the other NaN; both are NaN if it
+    does not assemble. `best` is the setting of the certificate.
     """
 
-    def __init__(self, template, found, fights, opponent):
-        self.template, self.best = template, found.best
+    def __init__(self, template, cert, fights, opponent):
+        self.template, self.best = template, cert.best
         self.fights = fights
         counted = None if opponent is None else {
             i for i, fight in enumerate(fights) if fight.opponent == opponent}
         self.greatest = fights.greatest if counted is None else 3 * sum(
             fights[i].weight for i in counted)
         self.totals, self.caps = [], []
-        for v in range(len(found.rows)):
-            points = found.points(v)
+        for v in range(len(cert.rows)):
+            points = cert.points(v)
             cap = self.cap(points, counted)
             played = points is not None and (
                 len(points) == len(fights) if counted is None else counted <= points.keys())
@@ -174,25 +175,25 @@ def draw_effects(plot, table):
     return figure
 
 
-def axes_of(parser, asked, names):
+def axes_of(parser, args, names):
     """Returns the indices of the constants of the axes: from left to right, then upwards."""
-    if asked.axes is None:
+    if args.axes is None:
         return len(names) - 1, len(names) - 2
-    wanted = asked.axes.split(",")
+    wanted = args.axes.split(",")
     if len(wanted) != 2 or wanted[0] == wanted[1] or not set(wanted) <= set(names):
         parser.error(f"--axes takes two of the constants {', '.join(names)}, as in A,B")
     return names.index(wanted[0]), names.index(wanted[1])
 
 
-def refuse_opponent(parser, asked, fights):
+def refuse_opponent(parser, args, fights):
     """Refuses an opponent whose fights are not known, or that has none."""
-    if asked.opponent is None:
+    if args.opponent is None:
         return
-    if not asked.schedule:
+    if not args.schedule:
         parser.error("--opponent needs --schedule")
     opponents = sorted({fight.opponent for fight in fights})
-    if asked.opponent not in opponents:
-        parser.error(f"--opponent {asked.opponent}: the opponents of the schedule are "
+    if args.opponent not in opponents:
+        parser.error(f"--opponent {args.opponent}: the opponents of the schedule are "
                      f"{', '.join(map(str, opponents))}")
 
 
@@ -222,25 +223,25 @@ def save(figure, title, path):
 
 def main():
     parser = make_parser()
-    asked = parser.parse_args()
-    for picture in filter(None, [asked.picture, asked.effects]):
+    args = parser.parse_args()
+    for picture in filter(None, [args.picture, args.effects]):
         if picture[-4:] not in (".png", ".svg"):
             parser.error(f"the picture's name has to end with .png or .svg: {picture}")
-    template = tuning_files.Template(asked.template)
-    found = tuning_files.Certificate(asked.cert)
-    unknown = cert_inputs.settle(asked)
-    if not template.of(found).names:
+    template = tuning_files.Template(args.template)
+    cert = tuning_files.Certificate(args.cert)
+    unknown = cert_inputs.settle(args)
+    if not template.of(cert).names:
         parser.error("the template has no constants to draw")
-    fights = found.fights(asked.schedule)
-    refuse_opponent(parser, asked, fights)
-    axes = axes_of(parser, asked, template.names)
-    table, plot = Table(template, found, fights, asked.opponent), load_pyplot()
-    title = (f"best {found.best}: {template.constants(found.best)}, total {found.total} of "
+    fights = cert.fights(args.schedule)
+    refuse_opponent(parser, args, fights)
+    axes = axes_of(parser, args, template.names)
+    table, plot = Table(template, cert, fights, args.opponent), load_pyplot()
+    title = (f"best {cert.best}: {template.constants(cert.best)}, total {cert.total} of "
              f"{fights.greatest}")
-    if asked.opponent is not None:
-        title += f"\nthe fights against opponent {asked.opponent}"
+    if args.opponent is not None:
+        title += f"\nthe fights against opponent {args.opponent}"
     alone = len(template.names) == 1
-    save(draw_line(plot, table) if alone else draw_maps(plot, table, *axes), title, asked.picture)
-    if asked.effects:
-        save(draw_effects(plot, table), title, asked.effects)
+    save(draw_line(plot, table) if alone else draw_maps(plot, table, *axes), title, args.picture)
+    if args.effects:
+        save(draw_effects(plot, table), title, args.effects)
     cert_inputs.print_note(unknown)

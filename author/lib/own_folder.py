@@ -5,7 +5,8 @@ it and of what, so that no folder of somebody else is touched.
 """
 import fcntl, json, os, pathlib, re
 
-from .endings import Fault, naming, whole_file
+from .endings import Fault
+from .writing import naming, whole_file
 
 
 class OwnFolder:

@@ -8,8 +8,9 @@ Example: cwtune-scores my.cert
 import concurrent.futures, os
 
 from . import cert_inputs, tuning_files
-from .endings import Fault, counted, number_from, say
-from .program import add_program, add_rules, add_words, command_parser, load_of, rules_of
+from .endings import Fault, counted, say
+from .program import load_of, rules_of
+from .words import add_program, add_rules, add_words, command_parser, number_from
 
 # With more settings than this none is assembled, to save time.
 MOST_ASSEMBLED = 2000
@@ -32,17 +33,17 @@ def print_scores(title, points, fights):
               f"{score} of {most}{left}")
 
 
-def print_start(found, fights, template):
+def print_start(cert, fights, template):
     """Prints what START made, and how much less than the best."""
-    total = found.total_of(template.start, fights)
-    said = "" if total is None else f", total {total}, {found.total - total} less than the best"
+    total = cert.total_of(template.start, fights)
+    said = "" if total is None else f", total {total}, {cert.total - total} less than the best"
     print_scores(f"START, setting {template.start}{said} {template.constants(template.start)}",
-                 found.points(template.start), fights)
+                 cert.points(template.start), fights)
 
 
-def print_best(found, fights, template, most):
+def print_best(cert, fights, template, most):
     """Prints the first settings of the ranking, as far as the certificate shows it."""
-    full, dropped, exact = found.ranked(fights)
+    full, dropped, exact = cert.ranked(fights)
     print(f"{counted(len(full), 'setting')} played all fights, {dropped} "
           f"{'was' if dropped == 1 else 'were'} dropped" if dropped
           else f"best of {counted(len(full), 'setting')}")
@@ -56,12 +57,15 @@ def print_best(found, fights, template, most):
 class Warriors:
     """Which settings make one warrior: by their rows, and else by what they assemble to."""
 
-    def __init__(self, found, asked):
-        self.found, self.loads = found, {}
-        if len(found.rows) <= MOST_ASSEMBLED:
-            words = [*rules_of(asked).words(), "--setting"]
-            alone = [v for v, row in enumerate(found.rows) if row[0] == "cap"]
-            load = lambda v: load_of(asked.program, *words, str(v), asked.template)[0]
+    def __init__(self, cert, args):
+        self.cert, self.loads = cert, {}
+        if len(cert.rows) <= MOST_ASSEMBLED:
+            words = [*rules_of(args).words(), "--setting"]
+            alone = [v for v, row in enumerate(cert.rows) if row[0] == "cap"]
+
+            def load(v):
+                return load_of(args.program, *words, str(v), args.template)[0]
+
             try:
                 with concurrent.futures.ThreadPoolExecutor(os.cpu_count()) as pool:
                     self.loads = dict(zip(alone, pool.map(load, alone)))
@@ -70,9 +74,9 @@ class Warriors:
 
     def are_one(self, settings):
         """Returns whether these settings make one warrior, or None if that is not known."""
-        if any(self.found.rows[v][0] == "refused" for v in settings):
+        if any(self.cert.rows[v][0] == "refused" for v in settings):
             return False
-        twins = sorted({self.found.twin(v) for v in settings})
+        twins = sorted({self.cert.twin(v) for v in settings})
         if len(twins) == 1:
             return True
         loads = {self.loads.get(v) for v in twins}
@@ -80,8 +84,8 @@ class Warriors:
 
 
 def print_idle(template, warriors):
-    """Prints for each constant in how many choices of the others all its values make one
-    warrior."""
+    """Prints for each constant for how many settings of the others its value makes no difference to
+    the warrior."""
     print("for how many choices of the other constants all values of one make the same warrior")
     for k, name in enumerate(template.names):
         groups = {}
@@ -114,19 +118,19 @@ def make_parser():
 
 def main():
     parser = make_parser()
-    asked = parser.parse_intermixed_args()
-    unknown = cert_inputs.settle(asked)
-    if asked.schedule is None:
+    args = parser.parse_intermixed_args()
+    unknown = cert_inputs.settle(args)
+    if args.schedule is None:
         parser.error(f"give SCHEDULE: {unknown or 'the schedule of the tuning is not there'}")
-    found = tuning_files.Certificate(asked.cert)
-    fights = found.fights(asked.schedule)
-    template = tuning_files.Template(asked.template).of(found) if asked.template else None
-    constants = f" {template.constants(found.best)}" if template else ""
-    print_scores(f"best setting {found.best}, total {found.total} of {fights.greatest}{constants}",
-                 found.points(found.best), fights)
+    cert = tuning_files.Certificate(args.cert)
+    fights = cert.fights(args.schedule)
+    template = tuning_files.Template(args.template).of(cert) if args.template else None
+    constants = f" {template.constants(cert.best)}" if template else ""
+    print_scores(f"best setting {cert.best}, total {cert.total} of {fights.greatest}{constants}",
+                 cert.points(cert.best), fights)
     if template:
-        print_start(found, fights, template)
-    print_best(found, fights, template, asked.top)
+        print_start(cert, fights, template)
+    print_best(cert, fights, template, args.top)
     if template:
-        print_idle(template, Warriors(found, asked))
+        print_idle(template, Warriors(cert, args))
     cert_inputs.print_note(unknown)

@@ -14,11 +14,11 @@ Example: cwtune-seek my.red fights.csv dwarf.red scanner.red > better.red
 import itertools, math, pathlib, random, re, sys, tempfile
 from typing import NamedTuple
 
-from .endings import Fault, counted, end_as, end_by_kill_as_by_interrupt, number_from
+from .endings import Fault, counted, end_as, end_by_kill_as_by_interrupt
 from .grid import Grid
-from .program import (NO_CANDIDATE, add_program, add_rules, add_words, command_parser, rules_of,
-                      run_program)
+from .program import NO_CANDIDATE, rules_of, run_program
 from .tuning_files import MOST_SETTINGS
+from .words import add_program, add_rules, add_words, command_parser, number_from
 
 # How `cwtune-study` reads this command's lines: START's total, if it assembles, and the number of
 # fights.
@@ -93,14 +93,13 @@ class Climb:
 
     def __init__(self, tunings, setting):
         self.tunings, self.grid = tunings, tunings.grid
-        self.setting, self.total, self.first = setting, None, None
+        self.setting, self.total = setting, None
 
     def go(self, choices):
         """Plays the fights of the first setting, and then tunes one choice of constants after the
         other until none of them gains."""
         alone = self.tunings.best(self.setting, ())
         self.total = alone and alone.total
-        self.first = self.total
         said = f"total {self.total} of {self.tunings.greatest}" if alone else "does not assemble:"
         print(f"start: {said} {self.grid.constants_of(self.setting)}", file=sys.stderr, flush=True)
         idle = 0

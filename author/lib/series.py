@@ -2,9 +2,10 @@
 
 Example: cwtune-series 4321 20 3 > fights.csv
 """
-from .endings import counted, number_from
-from .program import MEANING, Rules, add_hill, command_parser, rules_of
+from .endings import counted
+from .program import Rules, rules_of
 from .tuning_files import MOST_FIGHTS, MOST_OPPONENTS, Fight, schedule_text
+from .words import MEANING, add_hill, command_parser, number_from
 
 
 def series(seed, rounds, core, distance):
@@ -16,8 +17,8 @@ def series(seed, rounds, core, distance):
 
 
 def refuse_fights(parser, name, each, opponents):
-    """Refuses `each` fights against each of the opponents, the number of the option `name`, if a
-    schedule cannot have so many."""
+    """Refuses `each` fights against each opponent if that is more than a schedule may have. `name`
+    is the option that gave `each`."""
     if each * opponents > MOST_FIGHTS:
         parser.error(f"{name} {each} against {counted(opponents, 'opponent')}: more than "
                      f"{MOST_FIGHTS} fights")
@@ -30,7 +31,7 @@ def refuse_distance(parser, rules):
 
 
 def refuse_seed(parser, name, seed, rules):
-    """Refuses a first position, that of the option `name`, at which pMARS begins no series."""
+    """Refuses a `seed` at which pMARS begins no series. `name` is the option that gave it."""
     low, high = rules.distance, rules.core - rules.distance
     if not low <= seed <= high:
         parser.error(f"{name} {seed} is not {low} to {high}, the positions that pMARS takes")
@@ -54,11 +55,11 @@ def make_parser():
 
 def main():
     parser = make_parser()
-    asked = parser.parse_args()
-    rules = rules_of(asked)
+    args = parser.parse_args()
+    rules = rules_of(args)
     refuse_distance(parser, rules)
-    refuse_seed(parser, "SEED", asked.seed, rules)
-    refuse_fights(parser, "ROUNDS", asked.rounds, asked.opponents)
-    fights = list(series(asked.seed, asked.rounds, rules.core, rules.distance))
-    print(schedule_text(Fight(k, *fight) for k in range(asked.opponents) for fight in fights),
+    refuse_seed(parser, "SEED", args.seed, rules)
+    refuse_fights(parser, "ROUNDS", args.rounds, args.opponents)
+    fights = list(series(args.seed, args.rounds, rules.core, rules.distance))
+    print(schedule_text(Fight(k, *fight) for k in range(args.opponents) for fight in fights),
           end="")

@@ -22,15 +22,15 @@ Example: cwtune-spread --jobs 4 my.red fights.csv my.cert dwarf.red scanner.red
 import contextlib, os, shutil, sys, time
 
 from . import cert_inputs, spread_parts, spread_shares, tuning_files
-from .endings import (Fault, end_as, end_by_kill_as_by_interrupt, naming, number_from,
-                      whole_file)
-from .program import (EXPLAIN, add_program, add_rules, add_words, command_parser, rules_of,
-                      run_program)
+from .endings import Fault, end_as, end_by_kill_as_by_interrupt
+from .program import EXPLAIN, rules_of, run_program
 from .spread_folder import Folder
 from .spread_jobs import Here, Hosts
 from .spread_parts import Part
 from .spread_progress import PartsProgress, SharesProgress
 from .spread_report import best_of, index_of, ranks_of, report_of, write_whole
+from .words import add_program, add_rules, add_words, command_parser, number_from
+from .writing import naming, whole_file
 
 NO_SUCH_PART = b"error: --part I/K: the template has fewer than K settings\n"
 MOST = 2 ** 32 - 1

@@ -13,8 +13,8 @@ import json, os, re, shutil
 from typing import NamedTuple
 
 from .cert_inputs import sha256_of
-from .endings import whole_file
 from .own_folder import OwnFolder
+from .writing import whole_file
 
 
 class Copy(NamedTuple):

@@ -183,8 +183,8 @@ class Parts(Folder):
 
     def prepare(self, number):
         """Writes the template of a part: its START is the setting of the part that is the fewest
-        steps from START. The others play first the fights in which it made the fewest points, and
-        so are dropped sooner if it is like START. A text that would be too long stays as it is."""
+        steps from START. The other settings of the part first play the fights that this one lost,
+        so they are dropped sooner. A text that would be too long stays as it is."""
         nearest = self.template.nearest_start(settings_of(number, self.pieces, self.count))
         text = self.template.with_start(nearest)
         if len(text) > MOST_BYTES:

@@ -1,8 +1,9 @@
 """Puts the parts of a tuning together: the report and the certificate of the whole template."""
 import contextlib
 
-from .endings import Fault, counted, naming
+from .endings import Fault, counted
 from .spread_parts import Part
+from .writing import naming
 
 
 def best_of(parts):

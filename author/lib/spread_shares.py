@@ -30,8 +30,8 @@ def is_verdict(text, status, number, shares, keep=1):
 def verdict_of(lines, cert):
     """Returns what the whole check prints from what all shares printed.
 
-    Of several rejections it is the first in the order of a check: the refused and the cap rows come
-    before the rows that refer to others, so each share looks at its own in this order.
+    Of several rejections it is the first in the order of a check, which looks at refused and cap
+    rows first and at `same` rows last. Each share does so with its own.
     """
     rejected = [REJECTED.fullmatch(line) for line in lines]
     rejected = [(int(found[1]), found[2]) for found in rejected if found]

@@ -16,12 +16,13 @@ Example: cwtune-study my.red opponents/ STEP=5:7995:10 GATE=-3500:-500:500
 import json, math, os, pathlib, sys
 
 from . import seek, study_fresh, study_inputs, study_report
-from .endings import Fault, end_by_kill_as_by_interrupt, number_from
+from .endings import Fault, end_by_kill_as_by_interrupt
 from .grid import Grid
-from .program import Rules, add_program, add_rules, command_parser, rules_of
+from .program import Rules, rules_of
 from .study_folder import Folder
 from .study_result import report_of
 from .tuning_files import MOST_FIGHTS, MOST_SETTINGS, Certificate, read_schedule
+from .words import add_program, add_rules, command_parser, number_from
 
 NUMBER = number_from(1, MOST_FIGHTS)
 

@@ -11,10 +11,11 @@ import contextlib, json, os, pathlib, re, shlex, subprocess, sys, time
 
 from . import spread_parts, spread_shares
 from .cert_inputs import digest_of
-from .endings import Fault, end_as, whole_file
+from .endings import Fault, end_as
 from .own_folder import OwnFolder
 from .program import FOUND
 from .spread_jobs import end_with_parent
+from .writing import whole_file
 
 AUTHOR = pathlib.Path(__file__).resolve().parents[1]
 FILES = ("template.red warrior.red start.red schedule.csv box.red best.cert best.cert.inputs "

@@ -2,9 +2,9 @@
 
 In a heat all play in the same positions. The better half goes on and plays as many fights more,
 until two are left; the winner is the one with the most points. Luck in these fights helped to pick
-it, so in the last heat it plays as many more, which nobody was picked by, and so does START. In the
-folder `fresh/` are the load files of those that play (W.red of setting W, start.red), the schedules
-(H.csv of heat H), and the certificates (W-H.cert).
+it, so it and START play a last heat of as many new fights, which picked nobody. In the folder
+`fresh/` are the load files of those that play (W.red of setting W, start.red), the schedules (H.csv
+of heat H), and the certificates (W-H.cert).
 """
 import itertools, sys, time
 

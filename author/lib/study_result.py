@@ -16,16 +16,16 @@ class Box:
 
     def __init__(self, folder):
         self.template = Template(folder / "box.red")
-        self.found = Certificate(str(folder / "best.cert"))
+        self.cert = Certificate(str(folder / "best.cert"))
         self.fights = read_schedule(folder / "schedule.csv")
-        self.full, *_ = self.found.ranked(self.fights)
+        self.full, *_ = self.cert.ranked(self.fights)
 
     def values(self, v):
         return dict(zip(self.template.names, self.template.settings[v]))
 
     def totals(self):
         """Returns the total of each setting, not a number for one that does not assemble."""
-        return landscape.Table(self.template, self.found, self.fights, None).totals
+        return landscape.Table(self.template, self.cert, self.fights, None).totals
 
     def landscape(self, winner):
         """Returns the totals over the first two constants, with the others as the winner has them:
@@ -120,5 +120,5 @@ def report_of(study, sought, spread, winner, points, last):
 def tuned_of(grid, box, sought):
     """Returns the total of START in the tuning: that of the climb, or of the box."""
     if grid.start_values in box.template.settings:
-        return box.found.total_of(box.template.settings.index(grid.start_values), box.fights)
+        return box.cert.total_of(box.template.settings.index(grid.start_values), box.fights)
     return sought["start"]

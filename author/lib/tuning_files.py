@@ -165,7 +165,10 @@ class Certificate(Rows):
         settings were dropped; and how many of the first are exact: no cap of a dropped setting
         beats them."""
         totals = [(self.total_of(v, fights), v) for v in range(len(self.rows))]
-        rank = lambda pair: (-pair[0], pair[1])
+
+        def rank(pair):
+            return -pair[0], pair[1]
+
         full = sorted((pair for pair in totals if pair[0] is not None), key=rank)
         dropped = [(cap(self.points(v), fights), v) for total, v in totals
                    if total is None and self.points(v) is not None]

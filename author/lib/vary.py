@@ -1,9 +1,9 @@
 """Makes a template of an ordinary warrior: constants of the text get a range.
 
-The line `NAME EQU number` becomes the range line of NAME, and its number the START of that line, so
-that one text stays good for pMARS and every template is made from it. All other lines stay as they
-are. The template is printed only if its START is the warrior of the text. Without a range the
-numbers of the text that can have one are listed.
+The line `NAME EQU number` becomes the range line of NAME, and its number the START of that line.
+So the author keeps one text, which pMARS reads, and makes every template from it. All other lines
+stay as they are. The template is printed only if its START is the warrior of the text. Without a
+range the numbers of the text that can have one are listed.
 
 Example: cwtune-vary my.red STEP=5:4000:10 FIRST=0:20:1 > my-template.red
 """
@@ -12,9 +12,9 @@ from typing import NamedTuple
 
 from .endings import Fault, counted
 from .grid import is_range_line
-from .program import (add_program, add_rules, assembled, command_parser, refuse_another,
-                      rules_of)
+from .program import assembled, refuse_another, rules_of
 from .tuning_files import MOST_CONSTANTS, MOST_SETTINGS
+from .words import add_program, add_rules, command_parser
 
 NAME = r"[A-Za-z_][A-Za-z0-9_]*"
 EQU_LINE = re.compile(rf"\s*({NAME}):?\s+equ\b(.*)", re.IGNORECASE | re.DOTALL)
@@ -143,17 +143,17 @@ def template_of(path, text, ranges):
     return "\n".join(line for pieces in lines for line in pieces)
 
 
-def refuse_ranges(asked, text):
+def refuse_ranges(args, text):
     """Refuses ranges whose start setting is another warrior than the text.
 
     For this each constant has its START alone, as `cwtune` takes at most a million settings.
     """
     starts = [Range(equ.name, range(equ.value, equ.value + 1)) for equ in equs_of(text)
-              if equ.name in {wanted.name for wanted in asked.ranges}]
-    template = template_of(asked.warrior, text, starts).encode("latin-1")
-    rules = rules_of(asked).words()
-    wanted = assembled(asked.program, asked.warrior, *rules, "--", asked.warrior)
-    refuse_another("with range lines", template, wanted, asked.program, *rules, "--setting=start")
+              if equ.name in {wanted.name for wanted in args.ranges}]
+    template = template_of(args.warrior, text, starts).encode("latin-1")
+    rules = rules_of(args).words()
+    wanted = assembled(args.program, args.warrior, *rules, "--", args.warrior)
+    refuse_another("with range lines", template, wanted, args.program, *rules, "--setting=start")
 
 
 def print_size(settings):
@@ -173,37 +173,37 @@ def make_parser():
     return parser
 
 
-def warrior_text(parser, asked):
+def warrior_text(parser, args):
     """Returns the text of the warrior. Refuses a template, and ranges that no template has."""
-    names = [wanted.name for wanted in asked.ranges]
+    names = [wanted.name for wanted in args.ranges]
     if twice := [name for k, name in enumerate(names) if name in names[:k]]:
         parser.error(f"{twice[0]} has two ranges")
     if len(names) > MOST_CONSTANTS:
         parser.error(f"a template has at most {MOST_CONSTANTS} constants")
-    with open(asked.warrior, "rb") as file:
+    with open(args.warrior, "rb") as file:
         text = file.read().decode("latin-1")
     if any(is_range_line(line.encode("latin-1")) for line in text.split("\n")):
-        raise Fault(f"{asked.warrior}: it has range lines, so it is a template already")
+        raise Fault(f"{args.warrior}: it has range lines, so it is a template already")
     return text
 
 
-def made_of(asked, text):
+def made_of(args, text):
     """Returns the template of a text, whose start setting is the warrior of the text."""
-    template = template_of(asked.warrior, text, asked.ranges)
-    refuse_ranges(asked, text)
+    template = template_of(args.warrior, text, args.ranges)
+    refuse_ranges(args, text)
     return template.encode("latin-1")
 
 
 def main():
     parser = make_parser()
-    asked = parser.parse_intermixed_args()
-    text = warrior_text(parser, asked)
-    if not asked.ranges:
+    args = parser.parse_intermixed_args()
+    text = warrior_text(parser, args)
+    if not args.ranges:
         numbers = list(listed(text))
         for line in numbers:
             print(line)
         if not numbers:
             print("note: no line `NAME EQU number`", file=sys.stderr)
         return
-    sys.stdout.buffer.write(made_of(asked, text))
-    print_size(math.prod(len(wanted.values) for wanted in asked.ranges))
+    sys.stdout.buffer.write(made_of(args, text))
+    print_size(math.prod(len(wanted.values) for wanted in args.ranges))

@@ -13,8 +13,8 @@ import argparse, re, sys
 from . import cert_inputs, tuning_files
 from .endings import Fault
 from .grid import is_range_line
-from .program import (WORDS, add_program, add_rules, add_words, assembled, command_parser,
-                      refuse_another, rules_of)
+from .program import assembled, refuse_another, rules_of
+from .words import WORDS, add_program, add_rules, add_words, command_parser
 
 HEAD = b";redcode"
 # pMARS 0.9.2 reads no longer lines.
@@ -69,12 +69,12 @@ def setting_of(template, word):
     return setting
 
 
-def total_of_start(found, template, schedule):
-    """Returns the total of START, or None if it was dropped, or if there are weights and no
-    schedule is known."""
-    if found.version == 2 and schedule is None:
+def total_of_start(cert, template, schedule):
+    """Returns the total of START, or None if it was dropped, or if the certificate has weights and
+    there is no schedule."""
+    if cert.version == 2 and schedule is None:
         return None
-    return found.total_of(template.start, found.fights(schedule))
+    return cert.total_of(template.start, cert.fights(schedule))
 
 
 def print_foreign(text):
@@ -101,27 +101,27 @@ def make_parser():
 
 def main():
     parser = make_parser()
-    asked = parser.parse_args()
-    if asked.cert is None and asked.setting is None:
+    args = parser.parse_args()
+    if args.cert is None and args.setting is None:
         parser.error("CERT is missing: give it, or --setting W")
-    if asked.cert is not None and asked.setting is not None:
+    if args.cert is not None and args.setting is not None:
         parser.error("give CERT or --setting, and not both")
-    template, totals = tuning_files.Template(asked.template), (None, None)
-    asked.schedule, unknown = None, ""
-    if asked.cert is None:
-        setting = setting_of(template, asked.setting)
+    template, totals = tuning_files.Template(args.template), (None, None)
+    args.schedule, unknown = None, ""
+    if args.cert is None:
+        setting = setting_of(template, args.setting)
     else:
-        found = tuning_files.Certificate(asked.cert)
-        unknown = cert_inputs.settle(asked)
-        template.of(found)
-        setting = found.best
-        totals = found.total, total_of_start(found, template, asked.schedule)
-    with open(asked.template, "rb") as file:
+        cert = tuning_files.Certificate(args.cert)
+        unknown = cert_inputs.settle(args)
+        template.of(cert)
+        setting = cert.best
+        totals = cert.total, total_of_start(cert, template, args.schedule)
+    with open(args.template, "rb") as file:
         text = text_of(file.read(), template, setting, totals)
-    rules = rules_of(asked).words()
-    wanted = assembled(asked.program, f"setting {setting}", *rules, f"--setting={setting}", "--",
-                       asked.template)
-    refuse_another("with the values as EQU lines", text, wanted, asked.program, *rules)
+    rules = rules_of(args).words()
+    wanted = assembled(args.program, f"setting {setting}", *rules, f"--setting={setting}", "--",
+                       args.template)
+    refuse_another("with the values as EQU lines", text, wanted, args.program, *rules)
     print_foreign(text)
     sys.stdout.buffer.write(text)
     cert_inputs.print_note(unknown)

@@ -22,7 +22,7 @@ def run(*words, folder=TUNING, python=sys.executable):
     return done.returncode, done.stdout, re.sub(r"(?s)^usage:.*?\n(?=\S)", "", done.stderr)
 
 
-def said(*words, **more):
+def printed(*words, **more):
     """Returns all that a command prints, and its status if that is not 0."""
     status, out, err = run(*words, **more)
     return out + err + (f"status {status}\n" if status else "")

@@ -1,16 +1,16 @@
 """Plays `cwtune-spread` with GNU parallel, and with what the jobs of a cluster leave."""
-import argparse, os, subprocess
+import argparse, os
 from unittest import mock
 
 from author.lib.spread_jobs import Hosts
 from gate.inputs import RULES
 from gate.tally import compare
 
-from .commands import EXAMPLES, played
-from .spread_place import DECOY, RANKED, Place, write_ranked
+from .commands import played
+from .spread_place import DECOY, RANKED, SpreadPlace, write_ranked
 
 
-class Folder:
+class FolderStub:
     """What `Hosts` needs to know of a folder."""
 
     pid, copies, AFTER, SENT, KINDS = 1, [], "", [], []
@@ -41,25 +41,17 @@ def hosts(place):
             "others\n"), place.spread("--hosts=hosts", "--parts=3", *DECOY))
         # More numbers than the pipe takes before the stand-in ends.
         args = argparse.Namespace(hosts=place.folder / "hosts", jobs=1)
-        jobs = Hosts(args, Folder(place.folder), range(1, 20000))
+        jobs = Hosts(args, FolderStub(place.folder), range(1, 20000))
     while jobs.are_running():
         jobs.ended()
     yield compare("numbers that it does not read", "GNU parallel ended with status 9", jobs.fault)
-
-
-def run_jobs(place, count, *words):
-    """Runs the parts as jobs of a cluster do."""
-    for job in range(1, count + 1):
-        env = {**os.environ, "CWTUNE": place.program, "SLURM_ARRAY_TASK_ID": str(job),
-               "SLURM_ARRAY_TASK_COUNT": str(count)}
-        subprocess.run(["sh", str(EXAMPLES / "slurm.sh"), *words], cwd=place.folder, env=env)
 
 
 def merged(place):
     """Runs the parts as jobs of a cluster do, and puts them together."""
     unbroken = place.found(DECOY, place.spread("--parts=3", *DECOY))
     place.clear()
-    run_jobs(place, 3, *DECOY)
+    place.run_jobs(3, *DECOY)
     yield compare("--merge finds what an unbroken run finds", unbroken,
                   place.found(DECOY, place.spread("--merge=3", *DECOY)))
     place.clear()
@@ -92,7 +84,7 @@ def merged(place):
 
 def damaged(place):
     """Damages what a job of a cluster left, with and without its CERT.I.inputs."""
-    run_jobs(place, 3, *DECOY)
+    place.run_jobs(3, *DECOY)
     cert = place.read("CERT.2")
     rows = cert.splitlines(keepends=True)
     texts = {"changed": cert.replace(b":0", b":1", 1), "cut": cert[:-9], "empty": b"",
@@ -139,7 +131,7 @@ def merged_rankings(place):
     write_ranked(place)
     tuned = place.found(RANKED, place.tune(*RANKED))
     words = [*RANKED[len(RULES):], *RULES]
-    run_jobs(place, 4, *words)
+    place.run_jobs(4, *words)
     below = [path.name for path in place.folder.glob("CERT.?")
              if b"\nnone,-,4\n" in path.read_bytes()]
     yield compare("some jobs end below START", True, 1 <= len(below) <= 3)
@@ -151,13 +143,13 @@ def merged_rankings(place):
     place.clear()
     yield compare("--merge --keep of parts without", (2, "", said, None), (
         *place.spread("--merge=4", "--keep=4", *RANKED), place.read("CERT")))
-    run_jobs(place, 4, *words, "--keep=4")
+    place.run_jobs(4, *words, "--keep=4")
     ranked = place.tune("--keep=4", *RANKED)
     place.clear()
     yield compare("--merge --keep", ranked[1].splitlines()[6:],
                   place.spread("--merge=4", "--keep=4", *RANKED)[1].splitlines()[6:])
     place.clear()
-    run_jobs(place, 4, *words, "--floor=5")
+    place.run_jobs(4, *words, "--floor=5")
     said = ("error: the part from setting 0 on is below the floor 5, but the greatest total found "
             "is 0: a greater one may be there\n")
     yield compare("--merge of parts that are all below", (2, "", said, None), (
@@ -165,5 +157,5 @@ def merged_rankings(place):
 
 
 def trials(program):
-    return played("cwtune-spread", lambda folder: Place(program, folder), [
+    return played("cwtune-spread", lambda folder: SpreadPlace(program, folder), [
         hosts, merged, damaged, merged_rankings])

@@ -3,36 +3,44 @@ import os, pathlib, tempfile
 
 from gate.tally import compare
 
-from .commands import TUNING, said
+from .commands import TUNING, printed
 
-# Files that are refused, beside those of examples/tuning/.
-BAD = {
+# Files of the trials beside those of examples/tuning/. Most are refused.
+FILES = {
     "binary": bytes(range(256)),
     "empty": b"",
+    # A byte more than a template may have.
     "long": b";" * 65537,
-    "six.csv": b"opponent,position,first\n0,3670,c\n0,5123,o\n1,2085,c\n1,6100,o\n",
+    # A schedule of four fights, which is not that of step.cert, and one of two.
+    "other.csv": b"opponent,position,first\n0,3670,c\n0,5123,o\n1,2085,c\n1,6100,o\n",
+    "two.csv": b"opponent,position,first\n0,3670,c\n0,5123,o\n",
+    # Not certificates: a row of two fields, a row that refers to none, a best setting without a
+    # row, a setting in place of a dash, and a dash in place of a setting.
     "row.cert": b"cwcert,1,1\nbest,0,3\ncap,0\n",
     "twin.cert": b"cwcert,1,2\nbest,0,3\ncap,0,0:3\nsame,1,2\n",
     "best.cert": b"cwcert,1,1\nbest,1,3\ncap,0,0:3\n",
-    "two.csv": b"opponent,position,first\n0,3670,c\n0,5123,o\n",
-    # A setting with the cap 3 is before one with the total 3, and after it.
+    "half.cert": b"cwcert,1,2\nnone,0,4\ncap,0,0:0\nsame,1,0\n",
+    "dash.cert": b"cwcert,1,2\nbest,-,4\ncap,0,0:0\nsame,1,0\n",
+    # A certificate without a best setting.
+    "below.cert": b"cwcert,1,2\nnone,-,4\ncap,0,0:0\nsame,1,0\n",
+    # Rankings that are exact for the first one, since a setting with the cap 3 is before the one
+    # with the total 3, and for the first two, since it is after it.
     "one.cert": b"cwcert,1,4\nbest,1,4\ncap,0,0:0\ncap,1,0:3 1:1\ncap,2,0:3 1:0\n"
                 b"cap,3,0:1 1:0\n",
     "two.cert": b"cwcert,1,4\nbest,1,4\ncap,0,0:3 1:0\ncap,1,0:3 1:1\ncap,2,0:1 1:0\n"
                 b"cap,3,0:0\n",
-    "below.cert": b"cwcert,1,2\nnone,-,4\ncap,0,0:0\nsame,1,0\n",
-    "half.cert": b"cwcert,1,2\nnone,0,4\ncap,0,0:0\nsame,1,0\n",
-    "dash.cert": b"cwcert,1,2\nbest,-,4\ncap,0,0:0\nsame,1,0\n",
+    # Wrong rows: the total is 16, setting 0 totals more than the best one, a fight does not exist.
     "total.cert": (TUNING / "step.cert").read_bytes().replace(b"best,3,16", b"best,3,17"),
-    # Setting 0 totals more than the best setting that is named.
     "lead.cert": b"cwcert,1,2\nbest,1,3\ncap,0,0:3 1:3\ncap,1,0:3 1:0\n",
     "minus.cert": b"cwcert,1,2\nbest,0,4\ncap,0,0:3 1:1\ncap,1,-9:0\n",
+    # Templates of two settings and of one, and one whose picture would have 37 maps.
     "two.red": b";@tune K 0 1 1 0\nJMP 1-K\n",
-    "plain.cert": b"cwcert,1,1\nbest,0,3\ncap,0,0:3\n",
     "plain.red": b"MOV 0, 1\n",
+    "plain.cert": b"cwcert,1,1\nbest,0,3\ncap,0,0:3\n",
+    "maps.red": b";@tune A 0 36 1 0\n;@tune B 0 0 1 0\n;@tune C 0 0 1 0\nMOV 0, 1\n",
     "maps.cert": b"cwcert,1,37\nbest,0,3\ncap,0,0:3\n" + b"".join(
         b"same,%d,0\n" % v for v in range(1, 37)),
-    "maps.red": b";@tune A 0 36 1 0\n;@tune B 0 0 1 0\n;@tune C 0 0 1 0\nMOV 0, 1\n",
+    # Not templates: a range line of four words, two of one constant, 10 ** 12 settings.
     "range.red": b"NOP\n;@tune K 0 5 1\n",
     "twice.red": b";@tune K 0 5 1 1\n;@tune K 0 5 1 1\nMOV 0, K\n",
     "ranges.red": b"".join(b";@tune %c 0 9999 1 0\n" % name for name in b"ABC"),
@@ -55,7 +63,7 @@ REFUSALS = [
       for name in ["binary", "empty", "step.cert"]),
     *((f"cwtune-scores step.cert {name}",
        f"error: step.cert is not a certificate of the schedule {name}", 2)
-      for name in ["six.csv", "weighted.csv"]),
+      for name in ["other.csv", "weighted.csv"]),
     *((f"cwtune-scores {name} two.csv",
        f"error: {name} is not a certificate of the schedule two.csv", 2)
       for name in ["lead.cert", "minus.cert"]),
@@ -104,8 +112,8 @@ REFUSALS = [
     ("cwtune-landscape none step.cert x.png", f"failed: none: {NO_FILE}", 3),
     ("cwtune-landscape step.red binary x.png", "refused: binary: not a certificate", 1),
     ("cwtune-landscape step.red total.cert x.png", f"error: total.cert: {WRONG_ROWS}", 2),
-    ("cwtune-landscape step.red step.cert x.png --schedule six.csv",
-     "error: step.cert is not a certificate of the schedule six.csv", 2),
+    ("cwtune-landscape step.red step.cert x.png --schedule other.csv",
+     "error: step.cert is not a certificate of the schedule other.csv", 2),
     *((f"cwtune-landscape step.red step.cert {name}",
        f"cwtune-landscape: error: the picture's name has to end with .png or .svg: {name}", 2)
       for name in ["x.jpg", "x", "png"]),
@@ -124,11 +132,11 @@ def trials(python, draws):
     with tempfile.TemporaryDirectory() as folder:
         for path in TUNING.iterdir():
             pathlib.Path(folder, path.name).write_bytes(path.read_bytes())
-        for name, text in BAD.items():
+        for name, text in FILES.items():
             pathlib.Path(folder, name).write_bytes(text)
         files = sorted(os.listdir(folder))
         for words, line, status in REFUSALS + NOT_DRAWN * draws:
-            came = said(*words.split(), folder=folder, python=python)
+            came = printed(*words.split(), folder=folder, python=python)
             yield compare(words, f"{line}\nstatus {status}\n", came)
         yield compare("refusals write no file", files, sorted(os.listdir(folder)))
         yield from shown(folder)
@@ -138,16 +146,17 @@ def shown(folder):
     """Shows certificates that are not refused: one without a best setting, one whose template has
     one setting, and two whose rankings are exact for the first one and for the first two."""
     yield compare("cwtune-files below.cert", "below.cert: certificate, version 1, of 2 settings: "
-                  "none reaches the floor 4\n", said("cwtune-files", "below.cert", folder=folder))
+                  "none reaches the floor 4\n",
+                  printed("cwtune-files", "below.cert", folder=folder))
     yield compare("cwtune-files plain.cert", "plain.cert: certificate, version 1, of 1 setting: "
-                  "best 0 total 3\n", said("cwtune-files", "plain.cert", folder=folder))
+                  "best 0 total 3\n", printed("cwtune-files", "plain.cert", folder=folder))
     for name, words, said_of in [
         ("one.cert", [], ["only the first of the ranking is exact; cwtune tune --keep 10 makes the "
                           "first 10 exact", "setting 1: total 4"]),
         ("two.cert", ["--top=2"], ["the first 2 of the ranking are exact", "setting 1: total 4",
                                    "setting 0: total 3"]),
     ]:
-        out = said("cwtune-scores", name, "two.csv", *words, folder=folder)
+        out = printed("cwtune-scores", name, "two.csv", *words, folder=folder)
         yield compare(f"the ranking of {name}", [
             "3 settings played all fights, 1 was dropped", *said_of],
             [line.strip() for line in out.splitlines()[2:-1]])

@@ -1,20 +1,21 @@
 """Runs the commands for authors on the examples and compares with the results in expected/.
 
-Also gives them what they have to refuse, and kills `cwtune-spread` and starts it again. With
---plain no picture is drawn, which needs matplotlib. With --store the results replace those stored;
-look at the difference before you keep them. A picture is compared by its words and numbers, and by
-how many grey marks it has. Prints what failed, and as its last line `N passed, N failed`; the exit
-status is 1 if a run failed.
+Also gives them what they have to refuse, kills `cwtune-spread` and starts it again, and plays the
+trials of the other modules here. With --plain no picture is drawn, which needs matplotlib. With
+--store the results replace those stored; look at the difference before you keep them. A picture is
+compared by its words and numbers, and by how many grey marks it has. Prints what failed, and as its
+last line `N passed, N failed`; the exit status is 1 if a run failed.
 """
 import contextlib, os, pathlib, re, shutil, signal, subprocess, sys, tempfile, time
 
 from author.lib.endings import Fault, run_tool
-from author.lib.program import add_built, module_parser, program_of
+from author.lib.program import program_of
+from author.lib.words import add_built, module_parser
 from gate.tally import compare, tally
 
 from . import (merging, origins, refusals, reporting, sharing, spreading, studying, varying,
                warriors)
-from .commands import AUTHOR, TUNING, command, run, said
+from .commands import AUTHOR, TUNING, command, run, printed
 
 EXPECTED = pathlib.Path(__file__).resolve().parent / "expected"
 
@@ -173,7 +174,7 @@ def main():
     signal.signal(signal.SIGINT, signal.default_int_handler)
     signal.pthread_sigmask(signal.SIG_SETMASK, [])
     python = sys.executable
-    results = {name: said(*words.split()) for name, words in PLAIN.items()}
+    results = {name: printed(*words.split()) for name, words in PLAIN.items()}
     if not asked.plain:
         python = with_matplotlib()
         results |= {name: draw(python, words) for name, words in PICTURES.items()}

@@ -1,13 +1,13 @@
 """Plays the checks of `cwtune-spread`, in shares: kills them and starts them again, damages what
 they check, and gives them what they have to refuse.
 """
-import os, random, re, signal, subprocess
+import random, re, signal, subprocess
 
 from gate import inputs
 from gate.tally import compare
 
-from .commands import EXAMPLES, SECONDS, played
-from .spread_place import DECOY, SMALL, Place
+from .commands import SECONDS, played
+from .spread_place import DECOY, SMALL, SpreadPlace
 
 ONLY = ["--check-only", *DECOY]
 
@@ -177,19 +177,10 @@ def liars(place):
                                                         "--check-only", *SMALL))
 
 
-def run_jobs(place, *words):
-    """Checks three shares as jobs of a cluster do."""
-    for job in "123":
-        env = {**os.environ, "CWTUNE": place.program, "SLURM_ARRAY_TASK_ID": job,
-               "SLURM_ARRAY_TASK_COUNT": "3"}
-        subprocess.run(["sh", str(EXAMPLES / "slurm.sh"), "--check", *words], cwd=place.folder,
-                       env=env)
-
-
 def merged(place):
     """Puts shares together that were checked as jobs of a cluster do."""
     cert, line = tuned(place)
-    run_jobs(place, *DECOY)
+    place.run_jobs(3, "--check", *DECOY)
     yield compare("--check-only --merge", (0, line, ""), place.spread("--merge=3", *ONLY))
     yield compare("of another number of shares", (
         3, "", "failed: no result for shares 1, 2, 3, 4 of 4\n"), place.spread("--merge=4", *ONLY))
@@ -200,16 +191,16 @@ def merged(place):
     none = (3, "", "failed: no result for shares 1, 2, 3 of 3\n")
     yield compare("of another certificate", none, place.spread("--merge=3", *ONLY))
     place.tune("--keep=2", *DECOY)
-    run_jobs(place, *DECOY, "--keep=2")
+    place.run_jobs(3, "--check", *DECOY, "--keep=2")
     yield compare("--merge --keep", (*place.verdict(["--keep=2", *DECOY]), ""),
                   place.spread("--merge=3", "--keep=2", *ONLY))
     yield compare("of checks of a ranking that is not asked for", none,
                   place.spread("--merge=3", *ONLY))
-    run_jobs(place, *DECOY)
+    place.run_jobs(3, "--check", *DECOY)
     yield compare("of checks without the ranking that is asked for", none,
                   place.spread("--merge=3", "--keep=2", *ONLY))
 
 
 def trials(program):
-    return played("checks of cwtune-spread", lambda folder: Place(program, folder), [
+    return played("checks of cwtune-spread", lambda folder: SpreadPlace(program, folder), [
         verdicts, after_kills, kept_shares, other_folders, with_a_tuning, liars, merged])

@@ -1,5 +1,5 @@
 """A folder in which `cwtune-spread` is played, with templates, a schedule and opponents."""
-import signal, subprocess, time
+import os, signal, subprocess, time
 
 from gate import inputs, play
 from gate.inputs import RULES
@@ -13,7 +13,7 @@ RANKED = [*RULES, "steps.red", "both.csv", "CERT", "dat.red", "imp.red"]
 SCHEDULE = b"opponent,position,first\n0,3670,c\n1,2085,o\n2,4621,c\n"
 
 
-class Place(play.Place):
+class SpreadPlace(play.Place):
     """A folder with inputs, in which `cwtune-spread` and the program are run."""
 
     def __init__(self, program, folder):
@@ -26,6 +26,13 @@ class Place(play.Place):
 
     def words(self, words):
         return command("cwtune-spread", "--program", self.program, *words)
+
+    def run_jobs(self, count, *words):
+        """Runs the parts, or with --check the shares, as jobs of a cluster do."""
+        for job in range(1, count + 1):
+            env = {**os.environ, "CWTUNE": self.program, "SLURM_ARRAY_TASK_ID": str(job),
+                   "SLURM_ARRAY_TASK_COUNT": str(count)}
+            subprocess.run(["sh", str(EXAMPLES / "slurm.sh"), *words], cwd=self.folder, env=env)
 
     def spread(self, *words):
         """Returns status, standard output and standard error, the usage lines left out."""

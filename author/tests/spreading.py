@@ -9,7 +9,7 @@ from gate.play import shown
 from gate.tally import compare
 
 from .commands import SECONDS, played, run
-from .spread_place import BENCHMARK, DECOY, RANKED, SCHEDULE, SMALL, Place, write_ranked
+from .spread_place import BENCHMARK, DECOY, RANKED, SCHEDULE, SMALL, SpreadPlace, write_ranked
 
 
 def after_kills(place):
@@ -339,6 +339,6 @@ def progress(place):
 
 
 def trials(program):
-    return played("cwtune-spread", lambda folder: Place(program, folder), [
+    return played("cwtune-spread", lambda folder: SpreadPlace(program, folder), [
         after_kills, other_inputs, damaged_parts, folders, templates, faults, methods, liars,
         floors, rankings, explained, notes, progress])

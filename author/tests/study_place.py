@@ -22,7 +22,7 @@ OPPONENTS = {"dat.red": "DAT 0\n", "imp.red": "MOV 0, 1\n", "two.red": "SPL 0\nM
 FEW = ["--hill=nano", "--rounds=3", "--fresh=10", "--jobs=1"]
 
 
-class Place(play.Place):
+class StudyPlace(play.Place):
     """A folder with a template, a warrior and a folder of opponents."""
 
     def __init__(self, program, folder):

@@ -8,7 +8,7 @@ from gate.tally import compare
 
 from . import study_refused
 from .commands import AUTHOR, SECONDS, played, run
-from .study_place import OPPONENTS, TEMPLATE, Place
+from .study_place import OPPONENTS, TEMPLATE, StudyPlace
 
 STAGES = ["inputs", "schedule", "box", "best", "fresh 1", "fresh 2", "fresh 3", "fresh 4",
           "winner", "report"]
@@ -178,5 +178,5 @@ def after_kills(place):
 
 
 def trials(program):
-    return played("cwtune-study", lambda folder: Place(program, folder), [
+    return played("cwtune-study", lambda folder: StudyPlace(program, folder), [
         finds, varies, seeks, study_refused.foreign, study_refused.refusals])

@@ -9,7 +9,8 @@ too. Needs `cc` and a system with LD_PRELOAD.
 import concurrent.futures, os, pathlib, subprocess, tempfile
 
 from author.lib.endings import run_tool
-from author.lib.program import module_parser, program_of
+from author.lib.program import program_of
+from author.lib.words import module_parser
 
 from ..tally import tally
 from .runs import library_of

@@ -8,7 +8,7 @@ refused, too. Needs `cc` and a system with LD_PRELOAD.
 import concurrent.futures, os, tempfile
 
 from author.lib.endings import run_tool
-from author.lib.program import program_word
+from author.lib.words import program_word
 
 from . import once_each
 from ..play import end

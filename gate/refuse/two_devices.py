@@ -6,7 +6,7 @@ file, which is not overwritten. Needs `cc` and a system with LD_PRELOAD.
 import os, tempfile
 
 from author.lib.endings import run_tool
-from author.lib.program import program_word
+from author.lib.words import program_word
 
 from ..play import end, play
 from ..tally import compare, tally

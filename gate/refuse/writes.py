@@ -11,7 +11,7 @@ too. Needs `cc` and a system with LD_PRELOAD.
 import concurrent.futures, os, signal, tempfile
 
 from author.lib.endings import run_tool
-from author.lib.program import program_word
+from author.lib.words import program_word
 
 from ..play import Place, end, play
 from ..tally import tally

@@ -1,0 +1,94 @@
+"""The words of the commands: parsers, the files and options that several have, and numbers."""
+import argparse, shutil
+
+from .program import BUILT, FOUND, HILLS, Rules, program_of
+
+STATUS = ("Exit status: 0 done; 1 a file is refused; 2 usage error, or two files do not fit "
+          "together;\n3 I/O error, or a run without a result.")
+
+WORDS = {"template": "a Redcode text with range lines", "cert": "the certificate of a tuning",
+         "schedule": "the fights of the tuning", "opponent": "the opponents, in the tuning's order"}
+MEANING = {"core": "the core size", "cycles": "the most cycles of a fight",
+           "tasks": "the most tasks of a warrior", "length": "the most instructions of a warrior",
+           "distance": "the least distance of two warriors"}
+
+
+def command_parser(text):
+    """Returns the parser of a command: the first part of a text says what the command does, and the
+    others, an example last, follow the options. The exit status is added if no part has it."""
+    about, *more, example = text.strip().split("\n\n")
+    status = [] if "Exit status" in text else [STATUS]
+    return argparse.ArgumentParser(description=about, epilog="\n\n".join([*more, *status, example]),
+                                   allow_abbrev=False,
+                                   formatter_class=argparse.RawDescriptionHelpFormatter)
+
+
+def module_parser(module, text):
+    """Returns the parser of a module that is run by `python3 -m`: its docstring is its help."""
+    about, _, rest = text.strip().partition("\n\n")
+    return argparse.ArgumentParser(prog=f"python3 -m {module}", description=about, epilog=rest,
+                                   formatter_class=argparse.RawDescriptionHelpFormatter)
+
+
+def number_from(low, high=None):
+    """Returns a reader of the numbers from `low` to `high` for argparse."""
+    limits = f"{low} or more" if high is None else f"{low} to {high}"
+
+    def read(word):
+        number = int(word)
+        if number < low or high is not None and number > high:
+            raise argparse.ArgumentTypeError(f"{word} is not {limits}")
+        return number
+
+    read.__name__ = "number"
+    return read
+
+
+def add_built(parser):
+    """Adds a program as a word of a module."""
+    parser.add_argument("program", nargs="?", default=BUILT, metavar="PROGRAM",
+                        help="the program cwtune [default: the one built here]")
+
+
+def program_word(module, text):
+    """Reads the words of a module that takes a program alone. Returns the program."""
+    parser = module_parser(module, text)
+    add_built(parser)
+    return program_of(parser.parse_args().program)
+
+
+def add_words(parser, *names):
+    """Adds the files of a tuning to the words of a command."""
+    for name in names:
+        parser.add_argument(name, metavar=name.upper(), help=WORDS[name],
+                            nargs="+" if name == "opponent" else None)
+
+
+def add_opponents_of_tuning(parser):
+    parser.add_argument("opponents", metavar="OPPONENT", nargs="*", default=[],
+                        help=WORDS["opponent"] + " [default: those of the tuning]")
+
+
+def program_at(word):
+    """Returns the path of the program that --program names: a file, or a name on the PATH."""
+    return shutil.which(word) or word
+
+
+def add_program(parser):
+    parser.add_argument("--program", type=program_at, default=FOUND, metavar="FILE",
+                        help="the program cwtune [default: the one built here, else on the PATH]")
+
+
+def add_hill(parser, default="94nop"):
+    parser.add_argument("--hill", choices=HILLS, metavar="HILL",
+                        help=f"the rules of this hill: {', '.join(HILLS)} [default: {default}]")
+
+
+def add_rules(parser, of_tuning=False):
+    """Adds the options of the rules. With `of_tuning` the tuning's rules are the defaults."""
+    group = parser.add_argument_group("rules")
+    add_hill(group, "the rules of the tuning, else 94nop" if of_tuning else "94nop")
+    whose = "that of the tuning" if of_tuning else "that of the hill"
+    for name, number in Rules()._asdict().items():
+        group.add_argument(f"--{name}", type=int, metavar="N",
+                           help=f"{MEANING[name]} [default: {whose}, else {number}]")
