@@ -10,7 +10,10 @@ from .mean_error import error_of_mean
 from .study_page import decimal, text
 
 WIDTH = 360
+# Where an axis from left to right begins and ends.
 LEFT, RIGHT = 44, 350
+# The most points of a line that are drawn as dots too, and the most values of an axis that all have
+# a tick.
 MOST_DOTS = 120
 MOST_NAMED = 7
 # The height of two bars with a name above them.

@@ -1,0 +1,82 @@
+"""The options of `cwtune-spread`."""
+import os
+
+from .tuning_files import MOST_KEPT
+from .words import add_program, add_rules, add_words, number_from
+
+# The most parts and the most shares that the program takes.
+MOST = 2 ** 32 - 1
+
+
+def add_options(parser):
+    """Adds all options and words of the command."""
+    parser.add_argument("--progress", action="store_true",
+                        help="print a line a minute on standard error, if it is not a terminal")
+    parser.add_argument("--explain", action="store_true",
+                        help="explain a refusal, say what is ignored in the template, and print "
+                        "the total of START, as at a terminal")
+    add_program(parser)
+    add_search(parser)
+    add_check(parser)
+    add_jobs(parser)
+    add_rules(parser)
+    add_words(parser, "template", "schedule")
+    parser.add_argument("cert", metavar="CERT", help="the file to which the certificate is "
+                        "written, or with --check-only the certificate")
+    add_words(parser, "opponent")
+
+
+def add_jobs(parser):
+    """Adds the options of where the jobs run, and of how they are split."""
+    group = parser.add_argument_group("jobs")
+    group.add_argument("--jobs", type=number_from(1), default=os.cpu_count(), metavar="N",
+                       help="jobs that run side by side, on each host "
+                       "[default: the processors of this one]")
+    group.add_argument("--parts", type=number_from(1), metavar="K",
+                       help="parts to split the settings into [default: 16 for each job]")
+    group.add_argument("--shares", type=number_from(1, MOST), metavar="K",
+                       help="shares to split a check into [default: 8 for each job]")
+    group.add_argument("--hosts", metavar="FILE", help="run on these hosts, a line each, over "
+                       "ssh (--sshloginfile of GNU parallel; `:` is this one)")
+    group.add_argument("--anew", action="store_true",
+                       help="throw away what is done, and begin again")
+    group.add_argument("--merge", type=number_from(1), metavar="K", help="run nothing, and put "
+                       "together what K jobs of a cluster wrote: CERT.1 .. CERT.K, or with "
+                       "--check-only CERT.1.check .. CERT.K.check")
+
+
+def add_search(parser):
+    """Adds the options of how a part is tuned."""
+    group = parser.add_argument_group("search")
+    group.add_argument("--keep", type=number_from(1, MOST_KEPT), default=1,
+                       metavar="K", help="take the first K of the ranking in place of the best "
+                       "setting, as `--keep` of `cwtune tune` and `cwtune check` [default: 1]")
+    methods = group.add_mutually_exclusive_group()
+    methods.add_argument("--all", action="store_true",
+                         help="play every fight of every setting, as `cwtune tune --all`")
+    methods.add_argument("--cache", type=int, default=4096, metavar="N",
+                         help="how many settings are remembered in each part [default: 4096]")
+
+
+def add_check(parser):
+    """Adds the options of a check."""
+    group = parser.add_argument_group("check")
+    checks = group.add_mutually_exclusive_group()
+    checks.add_argument("--check", action="store_true",
+                        help="check the certificate, in shares, before it is written")
+    checks.add_argument("--check-only", action="store_true",
+                        help="tune nothing, and check CERT, in shares")
+    group.add_argument("--work", metavar="FOLDER",
+                       help="where the shares that are done stay [default: CERT.shares]")
+
+
+def refuse_idle(parser, args):
+    """Refuses options that would do nothing beside the others."""
+    idle = [("--merge", name) for name in ["parts", "hosts"] if args.merge]
+    idle += [("--check-only", name) for name in ["parts", "all"] if args.check_only]
+    for option, name in idle:
+        if getattr(args, name):
+            parser.error(f"argument {option}: not allowed with argument --{name}")
+    for name in ["shares", "work"]:
+        if getattr(args, name) and not (args.check or args.check_only):
+            parser.error(f"argument --{name}: needs --check or --check-only")
