@@ -1,11 +1,13 @@
 -- How runs of tunings end.
-use Rattle.std.proofs.Common.{◌≡◌, ◌≢◌, ◌⊎◌, Bool, false, inl, inr, refl, sym, Result, Ok, Err, IsErrOf, IsTrue, ◌∙◌}
+use Rattle.std.proofs.Common.{◌≡◌, ◌≢◌, ◌⊎◌, Bool, false, inl, inr, refl, sym, Result, Ok, Err, IfErr, IsErrOf, IsTrue, ◌∙◌}
 use Rattle.rc_instr.specs.Outlet.{OutletView}
 use Rattle.tune_problem.specs.Inputs.{InputsView}
-use Rattle.tune_problem.specs.Problem.{problem_of}
+use Rattle.tune_problem.specs.Problem.{Problem, problem_of}
 use Rattle.tune_search.specs.Found.{NoneAssembles}
+use Rattle.tune_search.specs.declared.fault.SearchFault.{SearchFault}
+use Rattle.tune_search.specs.declared.fault.SearchFault.TheVariants.{NoCandidate as NoneFound, OutOfMemory as SearchMemory}
 use Rattle.tune_runs.specs.Runs.{IsOutOfMemory, Writer}
-use Rattle.tune_runs.specs.TuneRun.{Texts, meaning_of, HasNoCandidate, IsTuneRun}
+use Rattle.tune_runs.specs.TuneRun.{Texts, fault_of, meaning_of, HasNoCandidate, IsTuneRun}
 use Rattle.tune_runs.specs.declared.fault.RunFault.{RunFault}
 use Rattle.tune_runs.specs.declared.fault.RunFault.TheVariants.{NoCandidate, Write, OutOfMemory}
 
@@ -32,6 +34,12 @@ refused_tuning X r e t Wrote report cert is whole_report whole_cert other says =
   before = inl refl;
   flushed = rw is tt;
 }
+
+-- a search that ends without a result
+pub search_ended : {A : Type 0} (r : Result A RunFault) (p : Problem) (e : RunFault) (s : SearchFault) → r ≡ Err e → e ≡ fault_of s
+    → (s ≡ NoneFound → NoneAssembles p) → IfErr r (λ e. (e ≡ OutOfMemory) ⊎ ((e ≡ NoCandidate) × NoneAssembles p))
+search_ended r p e NoneFound is of none = rw is (inr (of, none refl))
+search_ended r p e SearchMemory is of none = rw is (inl of)
 
 -- what a search without a result says of the texts
 pub search_other : (e : RunFault) (P : Type 0) → (e ≡ OutOfMemory) ⊎ ((e ≡ NoCandidate) × P) → e ≢ Write
