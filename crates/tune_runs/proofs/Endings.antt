@@ -1,5 +1,6 @@
 -- How runs of tunings end.
-use Rattle.std.proofs.Common.{◌≡◌, ◌≢◌, ◌⊎◌, Bool, false, inl, inr, refl, sym, Result, Ok, Err, IfErr, IsErrOf, IsTrue, ◌∙◌}
+use Rattle.std.proofs.Common.{◌≡◌, ◌≢◌, ◌⊎◌, Bool, false, inl, inr, refl, sym, Result, Ok, Err, IfErr, IsErrAnd, IsErrOf, IsTrue, ◌∙◌}
+use Rattle.std.proofs.lemmas.Result.{err_from_is_err_and}
 use Rattle.rc_instr.specs.Outlet.{OutletView}
 use Rattle.tune_problem.specs.Inputs.{InputsView}
 use Rattle.tune_problem.specs.Problem.{Problem, problem_of}
@@ -36,10 +37,14 @@ refused_tuning X r e t Wrote report cert is whole_report whole_cert other says =
 }
 
 -- a search that ends without a result
-pub search_ended : {A : Type 0} (r : Result A RunFault) (p : Problem) (e : RunFault) (s : SearchFault) → r ≡ Err e → e ≡ fault_of s
+ended_by : {A : Type 0} (r : Result A RunFault) (p : Problem) (e : RunFault) (s : SearchFault) → r ≡ Err e → e ≡ fault_of s
     → (s ≡ NoneFound → NoneAssembles p) → IfErr r (λ e. (e ≡ OutOfMemory) ⊎ ((e ≡ NoCandidate) × NoneAssembles p))
-search_ended r p e NoneFound is of none = rw is (inr (of, none refl))
-search_ended r p e SearchMemory is of none = rw is (inl of)
+ended_by r p e NoneFound is of none = rw is (inr (of, none refl))
+ended_by r p e SearchMemory is of none = rw is (inl of)
+
+pub search_ended : {A : Type 0} (r : Result A RunFault) (p : Problem) (s : SearchFault) → IsErrAnd r (λ e. e ≡ fault_of s)
+    → (s ≡ NoneFound → NoneAssembles p) → IfErr r (λ e. (e ≡ OutOfMemory) ⊎ ((e ≡ NoCandidate) × NoneAssembles p))
+search_ended r p s is none = let q = err_from_is_err_and r is in ended_by r p q.0 s q.1 q.2 none
 
 -- what a search without a result says of the texts
 pub search_other : (e : RunFault) (P : Type 0) → (e ≡ OutOfMemory) ⊎ ((e ≡ NoCandidate) × P) → e ≢ Write

@@ -1,9 +1,7 @@
-use Rattle.std.proofs.lemmas.Result.{err_from_is_err_and}
 use Rattle.tune_problem.specs.Problem.{problem_of}
 use Rattle.tune_runs.proofs.Endings.{search_ended}
 use Rattle.tune_runs.proofs.tune.find.Goals as goal
 
 pub returns-in_err-searched-clause-none : goal.returns-in_err-searched-clause-none
 returns-in_err-searched-clause-none g c =
-    let p = err_from_is_err_and c.from_residual.result c.from_residual.ensures.1 in
-    search_ended c.from_residual.result (problem_of c.args.inputs.now) p.0 c.in_err-searched.field-0.0 p.1 p.2 c.in_err-searched.ensures
+    search_ended c.from_residual.result (problem_of c.args.inputs.now) c.in_err-searched.field-0.0 c.from_residual.ensures.1 c.in_err-searched.ensures
