@@ -1,5 +1,4 @@
-//! What the commands work with: how they read rules and files, and the lines on standard error with
-//! which they end. At the end of the file is what they do with CERT and CERT.inputs.
+//! What the commands work with, and the lines on standard error with which they end.
 ghost use Rattle.std.specs.Prelude.{◌≡◌, ◌≢◌, ◌↔◌, IfOk, IfErr};
 ghost use Rattle.tune_runs.specs.Given.{rules_given};
 ghost use Rattle.cwtune.specs.Commands.{IsEndingOf};
@@ -10,9 +9,7 @@ use crate::files::digest::Digested;
 use crate::files::inputs_file::{Barred, Tuning, check_old, name_beside, write_inputs};
 use crate::files::other_inputs::differences;
 use crate::files::reading::{TuneFiles, read_file};
-use crate::telling::fault_line::{
-    tell_cert_fault, tell_file_fault, tell_run_fault, tell_text_fault,
-};
+use crate::telling::fault_line::{say_cert, say_file, say_run, say_text};
 use crate::telling::refusal::Refused;
 use crate::telling::tell;
 use crate::telling::witness::Witness;
@@ -80,18 +77,18 @@ impl<F: Files, T: Witness, V: Write> Host<'_, F, T, V> {
         })
     }
 
-    // Writes the line of the fault of a run, and returns the ending.
+    // Names the fault of a run.
     pub(crate) fn end(&mut self, fault: RunFault) -> Ending
         ensures { IsEndingOf fault result }
     {
-        tell_run_fault(self.err, fault);
+        say_run(self.err, fault);
         match fault {
             RunFault::Write | RunFault::OutOfMemory => Ending::Failed,
             _ => Ending::Refused,
         }
     }
 
-    // Writes the line of the fault of a run, and lets the witness explain it.
+    // Names the fault of a run, and lets the witness explain it.
     pub(crate) fn refuse(&mut self, refused: &Refused<'_>, fault: RunFault) -> Ending
         ensures { IsEndingOf fault result }
     {
@@ -100,7 +97,7 @@ impl<F: Files, T: Witness, V: Write> Host<'_, F, T, V> {
         ending
     }
 
-    // Writes the line of the fault of a tuning or a check. `Part` is a usage error.
+    // Names the fault of a tuning or a check. That there is no such part is a usage error.
     pub(crate) fn refuse_tuning(
         &mut self,
         words: &TuneWords<'_>,
@@ -120,8 +117,7 @@ impl<F: Files, T: Witness, V: Write> Host<'_, F, T, V> {
         self.refuse(&Refused::Tuning { words, texts }, fault)
     }
 
-    // Writes the line of the fault of a fight of two texts, with the file of the text that does not
-    // assemble.
+    // Names the fault of a fight of two texts, with the file of the text that does not assemble.
     pub(crate) fn refuse_duel(
         &mut self,
         words: &DuelWords<'_>,
@@ -132,9 +128,9 @@ impl<F: Files, T: Witness, V: Write> Host<'_, F, T, V> {
     {
         let refused = Refused::Duel { words, texts };
         match fault {
-            RunFault::Asm(fault) => tell_text_fault(self.err, "Candidate", words.candidate, fault),
+            RunFault::Asm(fault) => say_text(self.err, "Candidate", words.candidate, fault),
             RunFault::Opponent { index: _, fault } => {
-                tell_text_fault(self.err, "Opponent", words.opponent, fault);
+                say_text(self.err, "Opponent", words.opponent, fault);
             }
             _ => return self.refuse(&refused, fault),
         }
@@ -146,24 +142,22 @@ impl<F: Files, T: Witness, V: Write> Host<'_, F, T, V> {
     pub(crate) fn end_without_memory(&mut self) -> Ending
         ensures { result ≡ Ending.Failed }
     {
-        tell_run_fault(self.err, RunFault::OutOfMemory);
+        say_run(self.err, RunFault::OutOfMemory);
         Ending::Failed
     }
 
-    // Writes the line of a file that could not be read or created, and lets the witness say why; or
-    // the line that memory ran out. `action` is the verb.
+    // Names a file that could not be read or created, and lets the witness say why; or says that
+    // memory ran out. `action` is the verb.
     pub(crate) fn fail(&mut self, action: &str, name: &str, error: &io::Error) -> Ending
         ensures { result ≡ Ending.Failed }
     {
         if error.kind() == io::ErrorKind::OutOfMemory {
             return self.end_without_memory();
         }
-        tell_file_fault(self.err, action, name);
+        say_file(self.err, action, name);
         self.witness.after_file_error(self.alloc, name, error);
         Ending::Failed
     }
-
-    // ---- CERT and CERT.inputs
 
     // Says why the file CERT is not opened.
     pub(crate) fn end_unopened(&mut self, name: &str, unopened: &NotOpened<'_>) -> Ending
@@ -175,12 +169,12 @@ impl<F: Files, T: Witness, V: Write> Host<'_, F, T, V> {
             NotOpened::Unread { name, error } => return self.fail("read", *name, error),
             NotOpened::Uncreated(error) => return self.fail("create", name, error),
         };
-        tell_cert_fault(self.err, reason, name);
+        say_cert(self.err, reason, name);
         Ending::Misused
     }
 
     // Returns the name of CERT.inputs, after a check that it is not a file of the tuning or another
-    // text. Returns `None` if CERT is not a regular file: it gets no CERT.inputs.
+    // text. A certificate that is not a regular file has no such file.
     pub(crate) fn inputs_beside<R: Files + Drop>(
         &mut self,
         words: &TuneWords<'_>,
@@ -188,7 +182,7 @@ impl<F: Files, T: Witness, V: Write> Host<'_, F, T, V> {
     ) -> Result<Option<String>, Ending>
         ensures { IfErr result (λ e. e ≢ Ending.Refused) }
     {
-        if !cert.is_regular() {
+        if !cert.is_whole() {
             return Ok(None);
         }
         let Ok(name) = name_beside(self.alloc, words.cert) else {

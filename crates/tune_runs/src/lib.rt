@@ -28,7 +28,6 @@
 
 mod asm;
 mod check;
-mod decimals;
 mod duel;
 mod fault;
 mod fight;

@@ -9,8 +9,8 @@ ghost use Rattle.mars_core.specs.declared.arena.Outcome.{Outcome};
 ghost use Rattle.tune_cert.specs.declared.verdict.Reason.{Reason};
 ghost use Rattle.tune_runs.specs.CheckRun.{reason_text, best_text, rejected_line, verdict_line, share_words, accepted_words, none_text, answer_text, judgement_lines};
 
-use crate::decimals::add_decimal;
 use crate::report::add_ranking;
+use itoa::Buffer;
 use mars_core::Outcome;
 use rc_instr::OutOfMemory;
 use std::alloc::Global;
@@ -25,7 +25,7 @@ pub(crate) fn result_line(alloc: Global, outcome: Outcome) -> Result<Vec<u8>, Ou
     let mut line = Vec::new(alloc);
     line.extend_from_slice(points_word(outcome.points))?;
     line.extend_from_slice(b" turns ")?;
-    add_decimal(&mut line, outcome.turns)?;
+    line.extend_from_slice(Buffer::new().format(outcome.turns).as_bytes())?;
     line.extend_from_slice(b"\n")?;
     Ok(line)
 }
@@ -83,9 +83,9 @@ fn add_share(line: &mut Vec<u8>, share: Share) -> Result<(), OutOfMemory>
     ensures { OnOk result (line.new.items ≡ line.old.items ++ share_words share.number share.shares) }
 {
     line.extend_from_slice(b"accepted share ")?;
-    add_decimal(line, share.number)?;
+    line.extend_from_slice(Buffer::new().format(share.number).as_bytes())?;
     line.extend_from_slice(b"/")?;
-    add_decimal(line, share.shares)?;
+    line.extend_from_slice(Buffer::new().format(share.shares).as_bytes())?;
     Ok(())
 }
 
@@ -104,7 +104,7 @@ fn add_none(line: &mut Vec<u8>, floor: u32) -> Result<(), OutOfMemory>
     ensures { OnOk result (line.new.items ≡ line.old.items ++ none_text floor) }
 {
     line.extend_from_slice(b" none below ")?;
-    add_decimal(line, floor)?;
+    line.extend_from_slice(Buffer::new().format(floor).as_bytes())?;
     line.extend_from_slice(b"\n")?;
     Ok(())
 }
@@ -141,9 +141,9 @@ fn add_best(line: &mut Vec<u8>, best: u32, total: u32) -> Result<(), OutOfMemory
     ensures { OnOk result (line.new.items ≡ line.old.items ++ best_text best total) }
 {
     line.extend_from_slice(b" best ")?;
-    add_decimal(line, best)?;
+    line.extend_from_slice(Buffer::new().format(best).as_bytes())?;
     line.extend_from_slice(b" total ")?;
-    add_decimal(line, total)?;
+    line.extend_from_slice(Buffer::new().format(total).as_bytes())?;
     line.extend_from_slice(b"\n")?;
     Ok(())
 }
@@ -169,7 +169,7 @@ fn rejected_line(alloc: Global, row: u64, reason: Reason) -> Result<Vec<u8>, Out
 {
     let mut line = Vec::new(alloc);
     line.extend_from_slice(b"rejected row ")?;
-    add_decimal(&mut line, row)?;
+    line.extend_from_slice(Buffer::new().format(row).as_bytes())?;
     line.extend_from_slice(b" ")?;
     line.extend_from_slice(reason_word(reason))?;
     line.extend_from_slice(b"\n")?;

@@ -8,7 +8,7 @@ ghost use Rattle.tune_problem.specs.Optimum.{candidates_of, greatest_of};
 ghost use Rattle.tune_cert.specs.Judgement.{AreSettings};
 ghost use Rattle.tune_runs.specs.Report.{number_line, of_line, constant_text, constants_text, constants_or_none, constants_line, best_lines, none_lines, rank_line, rank_lines, named_setting, named_ranking, report_text, report_from, IsSettingOf};
 
-use crate::decimals::add_decimal;
+use itoa::Buffer;
 use rc_instr::OutOfMemory;
 use std::alloc::Global;
 use tune_cert::greatest_total;
@@ -125,7 +125,8 @@ fn add_number_in(text: &mut Vec<u8>, word: &[u8], number: u32) -> Result<(), Out
     ensures { OnOk result (text.new.items ≡ text.old.items ++ word.now ++ decimal number) }
 {
     text.extend_from_slice(word)?;
-    add_decimal(text, number)
+    text.extend_from_slice(Buffer::new().format(number).as_bytes())?;
+    Ok(())
 }
 
 // Appends the line of a word and a number.
@@ -134,7 +135,7 @@ pub(crate) fn add_number(text: &mut Vec<u8>, word: &[u8], number: u32) -> Result
     ensures { OnOk result (text.new.items ≡ text.old.items ++ number_line word.now number) }
 {
     text.extend_from_slice(word)?;
-    add_decimal(text, number)?;
+    text.extend_from_slice(Buffer::new().format(number).as_bytes())?;
     text.extend_from_slice(b"\n")?;
     Ok(())
 }
@@ -145,9 +146,9 @@ fn add_of_line(text: &mut Vec<u8>, word: &[u8], part: u64, whole: u64) -> Result
     ensures { OnOk result (text.new.items ≡ text.old.items ++ of_line word.now part whole) }
 {
     text.extend_from_slice(word)?;
-    add_decimal(text, part)?;
+    text.extend_from_slice(Buffer::new().format(part).as_bytes())?;
     text.extend_from_slice(b" of ")?;
-    add_decimal(text, whole)?;
+    text.extend_from_slice(Buffer::new().format(whole).as_bytes())?;
     text.extend_from_slice(b"\n")?;
     Ok(())
 }
@@ -160,7 +161,8 @@ fn add_constant(text: &mut Vec<u8>, name: &[u8], value: i64) -> Result<(), OutOf
     text.extend_from_slice(b" ")?;
     text.extend_from_slice(name)?;
     text.extend_from_slice(b"=")?;
-    add_decimal(text, value)
+    text.extend_from_slice(Buffer::new().format(value).as_bytes())?;
+    Ok(())
 }
 
 fn add_values(text: &mut Vec<u8>, names: &[Vec<u8>], values: &[i64]) -> Result<(), OutOfMemory>

@@ -2,8 +2,8 @@
 ghost use Rattle.std.specs.Prelude.{◌≡◌, ◌++◌, map, IfOk, OnOk};
 ghost use Rattle.tune_runs.specs.SettingsRun.{span_text, constant_line, constant_lines, settings_text};
 
-use crate::decimals::add_decimal;
 use crate::report::add_number;
+use itoa::Buffer;
 use rc_instr::OutOfMemory;
 use std::alloc::Global;
 use tune_template::{Span, Template};
@@ -36,9 +36,9 @@ fn add_span(text: &mut Vec<u8>, span: Span) -> Result<(), OutOfMemory>
     ensures { OnOk result (text.new.items ≡ text.old.items ++ span_text span) }
 {
     text.extend_from_slice(b" ")?;
-    add_decimal(text, span.count)?;
+    text.extend_from_slice(Buffer::new().format(span.count).as_bytes())?;
     text.extend_from_slice(b" ")?;
-    add_decimal(text, span.value_at(span.start))?;
+    text.extend_from_slice(Buffer::new().format(span.value_at(span.start)).as_bytes())?;
     text.extend_from_slice(b"\n")?;
     Ok(())
 }

@@ -24,8 +24,8 @@ use tune_problem::Aim;
 use tune_runs::{Method, TuneTexts, tune_from_run};
 
 // Runs the command on files. Checks the rules, reads the files, and opens CERT before their texts
-// are judged; if CERT is another word's file, nothing is written. A regular file gets its new text,
-// whole and on the disk, before the report begins.
+// are judged; if CERT is another word's file, nothing is written. The file gets its new text, whole
+// and on the disk, before the report begins.
 pub(crate) fn tune<F: Files, T: Witness, W: Write, V: Write>(
     host: &mut Host<'_, F, T, V>,
     words: &TuneWords<'_>,
@@ -49,9 +49,16 @@ pub(crate) fn tune<F: Files, T: Witness, W: Write, V: Write>(
     let texts = files.texts(&rules, words.part);
     let method = method_meant(method);
     let aim = aim_meant(demand);
-    let ended = tune_into(host, words, &texts, method, aim, out, &mut cert);
-    host.end_files(words, &texts, method, cert, beside);
-    ended
+    match tune_into(host, words, &texts, method, aim, out, &mut cert) {
+        Ok(()) => {
+            host.end_files(words, &texts, method, cert, beside);
+            Ok(())
+        }
+        Err(ending) => {
+            host.end_files(words, &texts, method, cert, beside);
+            Err(ending)
+        }
+    }
 }
 
 // Runs the tuning of texts that were read. The certificate goes to any writer; a tuning that is

@@ -5,8 +5,7 @@ ghost use Rattle.cwtune.specs.CertFile.{BeginsAsCert, names_twice};
 
 use crate::files::beginning::begins_with;
 use crate::files::digest::{Digested, Digesting};
-use crate::files::replacing::{Replacement, replacement_at};
-use crate::files::same_file::is_file_at;
+use crate::files::replacing::{Place, place_at};
 use crate::words::command_line::TuneWords;
 use std::alloc::Global;
 use std::fs::{Metadata, OpenFile, OpenOptions};
@@ -34,56 +33,52 @@ pub(crate) enum NotOpened<'a> {
 // The file CERT. A regular file has its old text until the new one is flushed.
 #[derive(Drop)]
 pub(crate) struct CertFile<R: Files> {
-    kind: FileKind<R>,
+    way: Way<R>,
     failure: Option<io::Error>,
 }
 
-// What kind of file CERT is, and what its text is written to.
+// How a text gets into CERT.
 #[derive(Drop)]
-enum FileKind<R: Files> {
-    // Not a regular file. It is open, and the text goes into it as it comes.
+enum Way<R: Files> {
+    // As it comes, into an open file that is not a regular one.
     Stream(R::File),
-    // A regular file, or none yet: it gets the text as a whole.
-    Regular(RegularFile<R>),
+    // As a whole, in the place of a regular file or of none.
+    Whole(Whole<R>),
 }
 
-// A regular file that gets its text as a whole, and the digest of this text.
+// A text that gets its name when it is whole.
 #[derive(Drop)]
-struct RegularFile<R: Files> {
-    replacement: Replacement<R>,
+struct Whole<R: Files> {
+    place: Place<R>,
     digesting: Digesting,
-    // Whether the file has the whole text.
-    is_replaced: bool,
+    is_named: bool,
 }
 
-impl<R: Files> RegularFile<R> {
-    fn new(replacement: Replacement<R>) -> RegularFile<R> {
-        RegularFile {
-            replacement,
+impl<R: Files> Whole<R> {
+    fn new(place: Place<R>) -> Whole<R> {
+        Whole {
+            place,
             digesting: Digesting::new(),
-            is_replaced: false,
+            is_named: false,
         }
     }
 
     fn write(&mut self, piece: &[u8]) -> io::Result<()> {
-        self.replacement.write(piece)?;
+        self.place.write(piece)?;
         self.digesting.add(piece);
         Ok(())
     }
 
     fn finish(&mut self) -> io::Result<()> {
-        self.replacement.finish()?;
-        self.is_replaced = true;
+        self.place.finish()?;
+        self.is_named = true;
         Ok(())
     }
 }
 
 impl<R: Files> CertFile<R> {
-    fn new(kind: FileKind<R>) -> CertFile<R> {
-        CertFile {
-            kind,
-            failure: None,
-        }
+    fn new(way: Way<R>) -> CertFile<R> {
+        CertFile { way, failure: None }
     }
 
     // Returns what the system said when the text could not be written.
@@ -91,21 +86,21 @@ impl<R: Files> CertFile<R> {
         self.failure
     }
 
-    // Returns whether CERT is a regular file, or is made as one.
-    pub(crate) fn is_regular(&self) -> bool {
-        match self.kind {
-            FileKind::Regular(_) => true,
-            FileKind::Stream(_) => false,
+    // Returns whether the text replaces a regular file or makes one.
+    pub(crate) fn is_whole(&self) -> bool {
+        match self.way {
+            Way::Whole(_) => true,
+            Way::Stream(_) => false,
         }
     }
 
     fn write_piece(&mut self, piece: &[u8]) -> io::Result<usize>
         ensures { IfOk result (λ n. n ≤ length piece.now) }
     {
-        match &mut self.kind {
-            FileKind::Stream(file) => file.write(piece),
-            FileKind::Regular(file) => {
-                file.write(piece)?;
+        match &mut self.way {
+            Way::Stream(file) => file.write(piece),
+            Way::Whole(whole) => {
+                whole.write(piece)?;
                 Ok(piece.len())
             }
         }
@@ -113,9 +108,9 @@ impl<R: Files> CertFile<R> {
 
     // Ends the text. A stream has no more to do.
     fn finish(&mut self) -> io::Result<()> {
-        match &mut self.kind {
-            FileKind::Stream(_) => Ok(()),
-            FileKind::Regular(file) => file.finish(),
+        match &mut self.way {
+            Way::Stream(_) => Ok(()),
+            Way::Whole(whole) => whole.finish(),
         }
     }
 }
@@ -123,8 +118,8 @@ impl<R: Files> CertFile<R> {
 impl<R: Files + Drop> CertFile<R> {
     // Returns the size and the digest of the text if a regular file has it now.
     pub(crate) fn digested(self) -> Option<Digested> {
-        match self.kind {
-            FileKind::Regular(file) if file.is_replaced => Some(file.digesting.end()),
+        match self.way {
+            Way::Whole(whole) if whole.is_named => Some(whole.digesting.end()),
             _ => None,
         }
     }
@@ -166,7 +161,7 @@ pub(crate) fn open_cert<'a, R: Files + Copy>(
     open_other(rt, alloc, words)
 }
 
-// Opens CERT, which no other word spells.
+// Opens CERT, which is not another word.
 fn open_other<'a, R: Files + Copy>(
     rt: R,
     alloc: Global,
@@ -184,8 +179,8 @@ fn open_checked<R: Files + Copy>(rt: R, alloc: Global, name: &str) -> io::Result
     match fs::metadata(&rt, name) {
         Ok(found) => open_found(rt, alloc, name, &found),
         Err(error) if error.kind() == io::ErrorKind::NotFound => {
-            let replacement = replacement_at(rt, alloc, name, None)?;
-            Ok(CertFile::new(FileKind::Regular(RegularFile::new(replacement))))
+            let place = place_at(rt, alloc, name, None)?;
+            Ok(CertFile::new(Way::Whole(Whole::new(place))))
         }
         Err(error) => Err(error),
     }
@@ -200,22 +195,22 @@ fn open_found<R: Files + Copy>(
 ) -> io::Result<CertFile<R>> {
     let file = open_beyond_streams(&rt, name)?;
     if !found.is_file() {
-        return Ok(CertFile::new(FileKind::Stream(file)));
+        return Ok(CertFile::new(Way::Stream(file)));
     }
     drop(file);
-    let replacement = replacement_at(rt, alloc, name, Some(found.mode()))?;
-    Ok(CertFile::new(FileKind::Regular(RegularFile::new(replacement))))
+    let place = place_at(rt, alloc, name, Some(found.mode()))?;
+    Ok(CertFile::new(Way::Whole(Whole::new(place))))
 }
 
-// Opens a file for writing, and returns a copy of the handle. If a standard stream is closed, the
-// first handle may get its number, and a report or a fault line would go into the file; a copy
-// never does.
+// Opens a file for writing. The handle is a copy, which the system never numbers as a standard
+// stream: if one of them is closed, the file would be in its place, and a report or a fault line
+// would go into it.
 fn open_beyond_streams<F: Files>(rt: &F, name: &str) -> io::Result<F::File> {
     let file = OpenOptions::new().write(true).open(rt, name)?;
     file.try_clone()
 }
 
-// Returns whether CERT is also given as the template, the schedule or an opponent.
+// Returns whether the word CERT is another word of the files, too.
 fn is_named_twice(words: &TuneWords<'_>) -> bool
     ensures { result ≡ names_twice words.now }
 {
@@ -225,7 +220,7 @@ fn is_named_twice(words: &TuneWords<'_>) -> bool
 }
 
 // Checks that CERT is no other word's file, and that it has no text, or one that begins as a
-// certificate does. A file that is not regular, such as a terminal, has no text to lose.
+// certificate does. What is not a regular file, as a terminal, has no text to lose.
 fn check_old<'a, F: Files>(
     rt: &F,
     alloc: Global,
@@ -260,24 +255,25 @@ fn is_other_file<'a, F: Files>(
     words: &TuneWords<'a>,
     found: &Metadata,
 ) -> Result<bool, NotOpened<'a>> {
-    if is_name_of(rt, words.template, found)? || is_name_of(rt, words.schedule, found)? {
+    if is_file_at(rt, words.template, found)? || is_file_at(rt, words.schedule, found)? {
         return Ok(true);
     }
     for name in words.opponents.as_slice() {
-        if is_name_of(rt, *name, found)? {
+        if is_file_at(rt, *name, found)? {
             return Ok(true);
         }
     }
     Ok(false)
 }
 
-fn is_name_of<'a, F: Files>(
+// Returns whether a name is another one of the file that was found.
+fn is_file_at<'a, F: Files>(
     rt: &F,
     name: &'a str,
     found: &Metadata,
 ) -> Result<bool, NotOpened<'a>> {
-    match is_file_at(rt, name, found) {
-        Ok(is_same) => Ok(is_same),
+    match fs::metadata(rt, name) {
+        Ok(other) => Ok(other.dev() == found.dev() && other.ino() == found.ino()),
         Err(error) => Err(unread(name, error)),
     }
 }

@@ -4,8 +4,7 @@
 
 use crate::files::beginning::begins_with;
 use crate::files::digest::Digested;
-use crate::files::replacing::replacement_at;
-use crate::files::same_file::is_file_at;
+use crate::files::replacing::place_at;
 use crate::words::command_line::{TuneWords, VERSION};
 use std::alloc::{AllocError, Global};
 use std::fs::Metadata;
@@ -60,16 +59,19 @@ pub(crate) fn check_old<F: Files>(
     }
 }
 
-// Returns whether a word is a name of the file that was found. A word that names no file is not.
+// Returns whether a word is a name of the file that was found.
 fn is_word<F: Files>(rt: &F, words: &TuneWords<'_>, found: &Metadata) -> bool {
     let names = [words.template, words.schedule, words.cert];
     let opponents = words.opponents.as_slice();
-    names
-        .iter()
-        .any(|name| is_file_at(rt, *name, found).unwrap_or(false))
-        || opponents
-            .iter()
-            .any(|name| is_file_at(rt, *name, found).unwrap_or(false))
+    names.iter().any(|name| is_file_at(rt, *name, found))
+        || opponents.iter().any(|name| is_file_at(rt, *name, found))
+}
+
+fn is_file_at<F: Files>(rt: &F, name: &str, found: &Metadata) -> bool {
+    match fs::metadata(rt, name) {
+        Ok(other) => other.dev() == found.dev() && other.ino() == found.ino(),
+        Err(_) => false,
+    }
 }
 
 fn begins_at<F: Files>(rt: &F, alloc: Global, name: &str) -> io::Result<bool> {
@@ -77,7 +79,7 @@ fn begins_at<F: Files>(rt: &F, alloc: Global, name: &str) -> io::Result<bool> {
     begins_with(alloc, &mut file, BEGINNING)
 }
 
-// What the text of the file is made from.
+// What the file says.
 #[derive(Clone, Copy)]
 pub(crate) struct Tuning<'a> {
     pub(crate) words: &'a TuneWords<'a>,
@@ -109,9 +111,9 @@ fn replace_inputs<R: Files + Copy>(
 ) -> io::Result<()> {
     let text = inputs_text(&rt, alloc, tuning, cert)?;
     let mode = mode_of(&rt, name)?;
-    let mut replacement = replacement_at(rt, alloc, name, mode)?;
-    replacement.write(text.as_slice())?;
-    replacement.finish()
+    let mut place = place_at(rt, alloc, name, mode)?;
+    place.write(text.as_slice())?;
+    place.finish()
 }
 
 // Out of line, so that the hot loop begins at a multiple of 32 (docs/HOT_LOOP.md, "To move it").
@@ -216,7 +218,7 @@ fn add_digest(
     add_line(text, word, line.as_str())
 }
 
-// Adds the line `WORD SAID`. Fails if `said` has a line feed.
+// Adds a line of a word and what it says, which cannot hold the end of a line.
 fn add_line(text: &mut Vec<u8>, word: &str, said: &str) -> io::Result<()> {
     if said.as_bytes().contains(&b'\n') {
         return Err(io::Error::from(io::ErrorKind::InvalidInput));

@@ -15,34 +15,34 @@ const MOST_LINKS: u32 = 40;
 // The most names that are tried for a file beside another.
 const MOST_NAMES: u32 = 1000;
 
-// A replacement under way: an unfinished file with the new text, and the name that it will get.
+// A file that gets a new text, or is made with it.
 #[derive(Drop)]
-pub(crate) struct Replacement<R: Files> {
+pub(crate) struct Place<R: Files> {
     rt: R,
     // The name of the file, links followed.
     name: PathBuf,
-    // The name of the unfinished file, beside it. The text is there until it is whole.
+    // A name beside it that no file has. The text is there until it is whole.
     beside: String,
     // The permissions of the file, if there is one.
     mode: Option<u32>,
-    // The unfinished file, from the first piece of the text to the last step or a failure.
+    // The file beside it, from the first piece of the text to the last step or a failure.
     file: Option<R::File>,
 }
 
 // Finds the file that `name` leads to, and tries to make a file beside it, which is removed again.
 // `mode` is the permissions of the file, if there is one. No file has the empty name.
-pub(crate) fn replacement_at<R: Files + Copy>(
+pub(crate) fn place_at<R: Files + Copy>(
     rt: R,
     alloc: Global,
     name: &str,
     mode: Option<u32>,
-) -> io::Result<Replacement<R>> {
+) -> io::Result<Place<R>> {
     if name.is_empty() {
         return Err(io::Error::from(io::ErrorKind::NotFound));
     }
     let name = beyond_links(&rt, alloc, name)?;
     let beside = unused_name(&rt, alloc, name.as_str(), mode)?;
-    Ok(Replacement {
+    Ok(Place {
         rt,
         name,
         beside,
@@ -51,9 +51,9 @@ pub(crate) fn replacement_at<R: Files + Copy>(
     })
 }
 
-impl<R: Files> Replacement<R> {
-    // Writes a piece of the text to the unfinished file, which the first piece makes. If that
-    // fails, removes it.
+impl<R: Files> Place<R> {
+    // Writes a piece of the text to the file beside it, which the first piece makes. If that fails,
+    // removes it.
     pub(crate) fn write(&mut self, piece: &[u8]) -> io::Result<()> {
         let mut file = match self.file.take() {
             Some(file) => file,
@@ -68,8 +68,7 @@ impl<R: Files> Replacement<R> {
         written
     }
 
-    // Flushes the unfinished file to the disk and renames it to `name`. If that fails, removes it.
-    // Does nothing if no piece was written.
+    // Flushes the file beside it to the disk and gives it the name. If that fails, removes it.
     pub(crate) fn finish(&mut self) -> io::Result<()> {
         let Some(file) = self.file.take() else {
             return Ok(());
@@ -114,7 +113,7 @@ fn follow<F: Files>(rt: &F, alloc: Global, path: &mut PathBuf) -> io::Result<boo
     Ok(true)
 }
 
-// Checks whether reading a link failed because the name is not a link, or no file has it.
+// Checks whether reading a link failed because the name is not of a link, or of no file.
 fn is_no_link(kind: io::ErrorKind) -> bool {
     kind == io::ErrorKind::InvalidInput || kind == io::ErrorKind::NotFound
 }

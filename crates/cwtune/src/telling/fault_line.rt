@@ -1,6 +1,5 @@
 //! Lines of faults: `refused: ` and the names of the fault from outside in, `failed: ` and what
-//! failed, or `error: CERT ` and why the file is not opened. `host` and `program` write the other
-//! lines `error: `.
+//! failed, or `error: CERT ` and why the file is not opened.
 //!
 //! A line is written in pieces and takes no memory, so that it can report that memory ran out. The
 //! names are those of the variants, so renaming a variant changes a line.
@@ -18,39 +17,34 @@ use tune_runs::RunFault;
 use tune_template::TemplateFault;
 
 // Writes the line of a fault: `failed: Write`, `failed: OutOfMemory`, or `refused: ` and its names.
-pub(crate) fn tell_run_fault<V: Write>(err: &mut Outlet<V>, fault: RunFault) {
+pub(crate) fn say_run<V: Write>(err: &mut Outlet<V>, fault: RunFault) {
     match fault {
         RunFault::Write | RunFault::OutOfMemory => tell(err, &["failed:"]),
         _ => tell(err, &["refused:"]),
     }
-    tell_names(err, fault);
+    say_fault(err, fault);
     tell(err, &["\n"]);
 }
 
 // Writes the line of a text of a fight that does not assemble: `refused: SIDE FILE line N` and the
 // names of the fault. `side` is `Candidate` or `Opponent`.
-pub(crate) fn tell_text_fault<V: Write>(
-    err: &mut Outlet<V>,
-    side: &str,
-    file: &str,
-    fault: AsmFault,
-) {
+pub(crate) fn say_text<V: Write>(err: &mut Outlet<V>, side: &str, file: &str, fault: AsmFault) {
     tell(err, &["refused: ", side, " ", file]);
-    tell_asm_names(err, fault);
+    say_asm(err, fault);
     tell(err, &["\n"]);
 }
 
 // Writes the line of a file: `failed: read NAME` or `failed: create NAME`.
-pub(crate) fn tell_file_fault<V: Write>(err: &mut Outlet<V>, action: &str, name: &str) {
+pub(crate) fn say_file<V: Write>(err: &mut Outlet<V>, action: &str, name: &str) {
     tell(err, &["failed: ", action, " ", name, "\n"]);
 }
 
 // Writes why the file CERT is not opened: `error: CERT`, the reason, and the file.
-pub(crate) fn tell_cert_fault<V: Write>(err: &mut Outlet<V>, reason: &str, name: &str) {
+pub(crate) fn say_cert<V: Write>(err: &mut Outlet<V>, reason: &str, name: &str) {
     tell(err, &["error: CERT ", reason, " ", name, "\n"]);
 }
 
-// What `write!` writes to: each piece of text goes on at once.
+// What `write!` writes to: each piece of text is told at once.
 #[derive(Drop)]
 struct Teller<'a, V: Write> {
     err: &'a mut Outlet<V>,
@@ -71,109 +65,109 @@ fn side_name(side: Side) -> &'static str {
 }
 
 // Writes a space, then a word.
-fn tell_word<V: Write>(err: &mut Outlet<V>, word: &str) {
+fn say<V: Write>(err: &mut Outlet<V>, word: &str) {
     tell(err, &[" ", word]);
 }
 
 // Writes ` line N`.
-fn tell_line_number<V: Write>(err: &mut Outlet<V>, line: u64) {
-    tell_word(err, "line");
-    tell_word(err, Buffer::new().format(line))
+fn say_line<V: Write>(err: &mut Outlet<V>, line: u64) {
+    say(err, "line");
+    say(err, Buffer::new().format(line))
 }
 
 // Writes a space, then the name of the variant `fault`, which holds no value.
-fn tell_variant<V: Write, D: Debug + Drop>(err: &mut Outlet<V>, fault: &D) {
+fn say_name<V: Write, D: Debug + Drop>(err: &mut Outlet<V>, fault: &D) {
     let mut teller = Teller { err };
     let _ = write!(teller, " {fault:?}");
 }
 
-fn tell_expand_names<V: Write>(err: &mut Outlet<V>, kind: ExpandKind) {
+fn say_expand<V: Write>(err: &mut Outlet<V>, kind: ExpandKind) {
     match kind {
         ExpandKind::Text(fault) => {
-            tell_word(err, "Text");
-            tell_variant(err, &fault)
+            say(err, "Text");
+            say_name(err, &fault)
         }
-        _ => tell_variant(err, &kind),
+        _ => say_name(err, &kind),
     }
 }
 
 // Writes ` line N`, then the names of the fault.
-pub(crate) fn tell_asm_names<V: Write>(err: &mut Outlet<V>, fault: AsmFault) {
-    tell_line_number(err, fault.line);
+pub(crate) fn say_asm<V: Write>(err: &mut Outlet<V>, fault: AsmFault) {
+    say_line(err, fault.line);
     match fault.kind {
         AsmKind::Expand(kind) => {
-            tell_word(err, "Expand");
-            tell_expand_names(err, kind)
+            say(err, "Expand");
+            say_expand(err, kind)
         }
         AsmKind::Value(fault) => {
-            tell_word(err, "Value");
-            tell_variant(err, &fault)
+            say(err, "Value");
+            say_name(err, &fault)
         }
         AsmKind::Warrior(error) => {
-            tell_word(err, "Warrior");
-            tell_variant(err, &error)
+            say(err, "Warrior");
+            say_name(err, &error)
         }
-        kind => tell_variant(err, &kind),
+        kind => say_name(err, &kind),
     }
 }
 
-fn tell_load_names<V: Write>(err: &mut Outlet<V>, fault: LoadFault) {
+fn say_load<V: Write>(err: &mut Outlet<V>, fault: LoadFault) {
     match fault {
         LoadFault::Malformed { line } => {
-            tell_word(err, "Malformed");
-            tell_line_number(err, line)
+            say(err, "Malformed");
+            say_line(err, line)
         }
         LoadFault::Warrior(error) => {
-            tell_word(err, "Warrior");
-            tell_variant(err, &error)
+            say(err, "Warrior");
+            say_name(err, &error)
         }
-        LoadFault::OutOfMemory => tell_variant(err, &fault),
+        LoadFault::OutOfMemory => say_name(err, &fault),
     }
 }
 
-fn tell_template_names<V: Write>(err: &mut Outlet<V>, fault: TemplateFault) {
-    tell_word(err, "Template");
-    tell_line_number(err, fault.line);
-    tell_variant(err, &fault.kind)
+fn say_template<V: Write>(err: &mut Outlet<V>, fault: TemplateFault) {
+    say(err, "Template");
+    say_line(err, fault.line);
+    say_name(err, &fault.kind)
 }
 
-fn tell_schedule_names<V: Write>(err: &mut Outlet<V>, fault: ScheduleFault) {
-    tell_word(err, "Schedule");
-    tell_word(err, "row");
-    tell_word(err, Buffer::new().format(fault.row));
-    tell_variant(err, &fault.kind)
+fn say_schedule<V: Write>(err: &mut Outlet<V>, fault: ScheduleFault) {
+    say(err, "Schedule");
+    say(err, "row");
+    say(err, Buffer::new().format(fault.row));
+    say_name(err, &fault.kind)
 }
 
-fn tell_names<V: Write>(err: &mut Outlet<V>, fault: RunFault) {
+fn say_fault<V: Write>(err: &mut Outlet<V>, fault: RunFault) {
     match fault {
         RunFault::FightText { line } => {
-            tell_word(err, "FightText");
-            tell_line_number(err, line)
+            say(err, "FightText");
+            say_line(err, line)
         }
         RunFault::Rules(error) => {
-            tell_word(err, "Rules");
-            tell_variant(err, &error)
+            say(err, "Rules");
+            say_name(err, &error)
         }
         RunFault::Load { side, fault } => {
-            tell_word(err, "Load");
-            tell_word(err, side_name(side));
-            tell_load_names(err, fault)
+            say(err, "Load");
+            say(err, side_name(side));
+            say_load(err, fault)
         }
         RunFault::Asm(fault) => {
-            tell_word(err, "Asm");
-            tell_asm_names(err, fault)
+            say(err, "Asm");
+            say_asm(err, fault)
         }
-        RunFault::Template(fault) => tell_template_names(err, fault),
+        RunFault::Template(fault) => say_template(err, fault),
         RunFault::NoSuchSetting { index } => {
-            tell_word(err, "NoSuchSetting");
-            tell_word(err, Buffer::new().format(index))
+            say(err, "NoSuchSetting");
+            say(err, Buffer::new().format(index))
         }
         RunFault::Opponent { index, fault } => {
-            tell_word(err, "Opponent");
-            tell_word(err, Buffer::new().format(index));
-            tell_asm_names(err, fault)
+            say(err, "Opponent");
+            say(err, Buffer::new().format(index));
+            say_asm(err, fault)
         }
-        RunFault::Schedule(fault) => tell_schedule_names(err, fault),
-        _ => tell_variant(err, &fault),
+        RunFault::Schedule(fault) => say_schedule(err, fault),
+        _ => say_name(err, &fault),
     }
 }

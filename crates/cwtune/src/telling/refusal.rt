@@ -1,7 +1,7 @@
 //! Explains a refusal after its line: the line of text at fault, and why it is refused.
 
-use crate::telling::fault_line::tell_asm_names;
-use crate::telling::limits::{tell_asm, tell_positions, tell_rules, tell_schedule, tell_template};
+use crate::telling::bounds::{tell_asm, tell_positions, tell_rules, tell_schedule, tell_template};
+use crate::telling::fault_line::say_asm;
 use crate::telling::{tell, tell_broken, tell_most};
 use crate::words::command_line::{DuelWords, TuneWords};
 use rc_asm::AsmFault;
@@ -37,7 +37,7 @@ pub(crate) enum Refused<'a> {
     },
 }
 
-// Writes what helps with a fault, if anything does. If no setting assembles, explains the fault of
+// Writes what helps with a fault, if anything does. If no setting assembles, that is the fault of
 // `setting`, an index in the template.
 pub(crate) fn explain<V: Write>(
     err: &mut Outlet<V>,
@@ -158,7 +158,7 @@ fn explain_setting<V: Write>(
         Err(fault) => fault,
     };
     tell(err, &["  one of the settings:"]);
-    tell_asm_names(err, fault);
+    say_asm(err, fault);
     tell(err, &["\n"]);
     tell_asm(
         err,

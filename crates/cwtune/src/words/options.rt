@@ -1,4 +1,4 @@
-//! The options that several commands have, and what each command is given.
+//! The options that several commands have.
 ghost use Rattle.std.specs.Prelude.{◌≡◌, IfOk};
 ghost use Rattle.std.specs.Option.{unwrap_or};
 

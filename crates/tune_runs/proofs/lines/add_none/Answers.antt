@@ -1,4 +1,4 @@
-use Rattle.std.proofs.Common.{◌++◌}
+use Rattle.std.proofs.Common.{ap, ◌∙◌, ◌++◌}
 use Rattle.std.specs.Prelude.{codes}
 use Rattle.std.specs.Fmt.{decimal}
 use Rattle.tune_runs.specs.CheckRun.{none_text}
@@ -12,7 +12,8 @@ returns c =
     let a = codes " none below " in
     let number = decimal c.args.floor in
     let x = c.extend_from_slice.new.self.items in
-    let y = c.add_decimal.new.text.items in
+    let y = c.extend_from_slice-2.new.self.items in
     more old (a ++ number) (codes "\n") y _ (
-    more old a number x y c.in_ok-extend_from_slice.ensures.items c.in_ok-add_decimal.ensures)
-    c.in_ok-extend_from_slice-2.ensures.items
+    more old a number x y c.in_ok-extend_from_slice.ensures.items
+    (c.in_ok-extend_from_slice-2.ensures.items ∙ ap (λ t. x ++ t) (c.as_bytes.ensures.value ∙ c.format.ensures.text)))
+    c.in_ok-extend_from_slice-3.ensures.items

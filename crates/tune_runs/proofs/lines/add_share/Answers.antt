@@ -1,4 +1,4 @@
-use Rattle.std.proofs.Common.{◌++◌}
+use Rattle.std.proofs.Common.{ap, ◌∙◌, ◌++◌}
 use Rattle.std.specs.Prelude.{codes}
 use Rattle.std.specs.Fmt.{decimal}
 use Rattle.tune_runs.specs.CheckRun.{share_words}
@@ -13,10 +13,11 @@ returns c =
     let number = decimal c.args.share.number in
     let shares = decimal c.args.share.shares in
     let x = c.extend_from_slice.new.self.items in
-    let y = c.add_decimal.new.text.items in
-    let z = c.extend_from_slice-2.new.self.items in
+    let y = c.extend_from_slice-2.new.self.items in
+    let z = c.extend_from_slice-3.new.self.items in
     more old (a ++ number ++ codes "/") shares z _ (
     more old (a ++ number) (codes "/") y z (
-    more old a number x y c.in_ok-extend_from_slice.ensures.items c.in_ok-add_decimal.ensures)
-    c.in_ok-extend_from_slice-2.ensures.items)
-    c.in_ok-add_decimal-2.ensures
+    more old a number x y c.in_ok-extend_from_slice.ensures.items
+    (c.in_ok-extend_from_slice-2.ensures.items ∙ ap (λ t. x ++ t) (c.as_bytes.ensures.value ∙ c.format.ensures.text)))
+    c.in_ok-extend_from_slice-3.ensures.items)
+    (c.in_ok-extend_from_slice-4.ensures.items ∙ ap (λ t. z ++ t) (c.as_bytes-2.ensures.value ∙ c.format-2.ensures.text))
