@@ -8,7 +8,7 @@ use Rattle.cwtune.specs.declared.words.command_line.TuneWords.{TuneWords}
 abbrev pub BeginsAsCert : List ℕ → Type 0
 BeginsAsCert text = take 7 text ≡ codes "cwcert,"
 
--- The word CERT is another word of the files, too.
+-- CERT is also given as the template, the schedule or an opponent.
 abbrev pub names_twice : TuneWords → Bool
 names_twice words =
     bytes_eq words.cert.now words.template.now || (bytes_eq words.cert.now words.schedule.now

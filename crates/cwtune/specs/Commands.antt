@@ -38,7 +38,8 @@ load_file_output source (Some which) rules = setting_output source which rules
 abbrev pub WritesLoadFile : List ℕ → Option WhichSetting → RulesView → Writer → Type 0
 WritesLoadFile source setting rules out = Writes (load_file_output source setting rules) tt out
 
--- The result line of a fight of two texts was written. Without a position it is half of the core.
+-- The result line of a fight of two texts was written. Without `position` the opponent is loaded at
+-- half of the core.
 abbrev pub WritesDuelOf : RulesView → (position : Option ℕ) → (first : Side) → Writer → Type 0
 WritesDuelOf rules position first out =
     (candidate : List ℕ) × (opponent : List ℕ) × WritesDuel (duel candidate opponent rules (position_meant rules position) first) out

@@ -77,7 +77,7 @@ impl<F: Files, T: Witness, V: Write> Host<'_, F, T, V> {
         })
     }
 
-    // Names the fault of a run.
+    // Writes the line of the fault of a run, and returns the ending.
     pub(crate) fn end(&mut self, fault: RunFault) -> Ending
         ensures { IsEndingOf fault result }
     {
@@ -88,7 +88,7 @@ impl<F: Files, T: Witness, V: Write> Host<'_, F, T, V> {
         }
     }
 
-    // Names the fault of a run, and lets the witness explain it.
+    // Writes the line of the fault of a run, and lets the witness explain it.
     pub(crate) fn refuse(&mut self, refused: &Refused<'_>, fault: RunFault) -> Ending
         ensures { IsEndingOf fault result }
     {
@@ -97,7 +97,7 @@ impl<F: Files, T: Witness, V: Write> Host<'_, F, T, V> {
         ending
     }
 
-    // Names the fault of a tuning or a check. That there is no such part is a usage error.
+    // Writes the line of the fault of a tuning or a check. `Part` is a usage error.
     pub(crate) fn refuse_tuning(
         &mut self,
         words: &TuneWords<'_>,
@@ -117,7 +117,8 @@ impl<F: Files, T: Witness, V: Write> Host<'_, F, T, V> {
         self.refuse(&Refused::Tuning { words, texts }, fault)
     }
 
-    // Names the fault of a fight of two texts, with the file of the text that does not assemble.
+    // Writes the line of the fault of a fight of two texts, with the file of the text that does not
+    // assemble.
     pub(crate) fn refuse_duel(
         &mut self,
         words: &DuelWords<'_>,
@@ -146,8 +147,8 @@ impl<F: Files, T: Witness, V: Write> Host<'_, F, T, V> {
         Ending::Failed
     }
 
-    // Names a file that could not be read or created, and lets the witness say why; or says that
-    // memory ran out. `action` is the verb.
+    // Writes the line of a file that could not be read or created, and lets the witness say why; or
+    // the line that memory ran out. `action` is the verb.
     pub(crate) fn fail(&mut self, action: &str, name: &str, error: &io::Error) -> Ending
         ensures { result ≡ Ending.Failed }
     {
@@ -174,7 +175,7 @@ impl<F: Files, T: Witness, V: Write> Host<'_, F, T, V> {
     }
 
     // Returns the name of CERT.inputs, after a check that it is not a file of the tuning or another
-    // text. A certificate that is not a regular file has no such file.
+    // text. Returns `None` if CERT is not a regular file: it gets no CERT.inputs.
     pub(crate) fn inputs_beside<R: Files + Drop>(
         &mut self,
         words: &TuneWords<'_>,

@@ -32,19 +32,20 @@ use tune_runs::RunFault;
 /// - `settings`: reads the template, and writes the number of its settings and its constants.
 /// - `tune`: checks the rules, reads the template, the schedule and the opponents, tries whether
 ///   CERT can be replaced or made, finds the best setting, and writes the certificate, then the
-///   report. A file that is another word's, or that has a text and is not a certificate, stays. A
-///   regular file is replaced whole or not at all, and none is made if there is no certificate.
-///   Beside a regular file CERT the file CERT.inputs says which inputs the certificate is for, as
-///   `docs/FORMATS.md` describes it; a text of that name that is not such a file stays, too. If the
-///   certificate was found and cannot be written, a line `found: ..` names the best setting.
+///   report. CERT is not overwritten if another word names the same file, or if it has a text that
+///   is not a certificate. A regular file is replaced whole or not at all, and none is made if
+///   there is no certificate. Beside a regular file CERT the file CERT.inputs says which inputs the
+///   certificate is for, as `docs/FORMATS.md` describes it; a CERT.inputs with another text is not
+///   overwritten either. If the certificate was found and cannot be written, a line `found: ..`
+///   names the best setting.
 /// - `check`: checks the rules, reads the template, the schedule, the certificate and the
 ///   opponents, and writes the line of the verdict, on all rows or on a share. With `--keep` or
 ///   `--floor` it writes the lines of the judgement.
 /// - `--help`, `help`: writes the help text. `--version`: writes the version.
 ///
 /// A text may have at most 1073741824 bytes. Writes to standard error a line `refused: ..` for an
-/// input that is refused, the usage error, or a line `failed: ..` with status 3. If that write
-/// fails, nothing else changes. The outlet `out` must not have failed.
+/// input that is refused, `error: ..` for a usage error, or `failed: ..` with status 3. If that
+/// write fails, nothing else changes. The outlet `out` must not have failed.
 pub fn program<F: Files, R: Read, W: Write, V: Write>(
     rt: &F,
     alloc: Global,

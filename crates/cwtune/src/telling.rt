@@ -1,5 +1,8 @@
 //! Lines on standard error: of faults, of progress, and explanations, which are indented by two
 //! spaces. A write that fails ends them silently.
+//!
+//! `fault_line` has the line of a fault. `refusal` picks its explanation: `bounds` says why the
+//! text is refused, `help_lines` what may have been meant.
 
 pub(crate) mod bounds;
 pub(crate) mod fault_line;
@@ -98,7 +101,7 @@ pub(crate) fn tell_source<V: Write>(err: &mut Outlet<V>, file: &str, text: &[u8]
     tell(err, &["\n"]);
 }
 
-// Writes the line of a record of a table, counted from 0. An empty line is not a record.
+// Writes the line of record `row` of a table, from 0. An empty line is not a record.
 pub(crate) fn tell_record<V: Write>(err: &mut Outlet<V>, file: &str, text: &[u8], row: u64) {
     let mut number: u64 = 0;
     let mut left = row;
@@ -141,8 +144,8 @@ pub(crate) fn line_at(text: &[u8], index: u64) -> &[u8] {
     }
 }
 
-// Writes the front of a line without the carriage return at its end, and `..` if it is longer. A
-// front that has other bytes that would steer a terminal is not shown.
+// Writes the front of a line without the carriage return at its end, and `..` if it is longer. If
+// the front has any other byte that would steer a terminal, it is not shown.
 fn tell_shown<V: Write>(err: &mut Outlet<V>, line: &[u8]) {
     let line = match line.strip_suffix(b"\r") {
         Some(front) => front,
@@ -177,7 +180,7 @@ fn front_of(line: &[u8]) -> &[u8] {
     }
 }
 
-// Returns whether the byte at an index goes on with a character of UTF-8.
+// Returns whether the byte at `index` continues a character of UTF-8.
 fn is_within_character(line: &[u8], index: usize) -> bool {
     match line.get(index) {
         Some(byte) => *byte >> 6 == 2,

@@ -24,8 +24,8 @@ use tune_problem::Aim;
 use tune_runs::{Method, TuneTexts, tune_from_run};
 
 // Runs the command on files. Checks the rules, reads the files, and opens CERT before their texts
-// are judged; if CERT is another word's file, nothing is written. The file gets its new text, whole
-// and on the disk, before the report begins.
+// are judged; if CERT is another word's file, nothing is written. A regular file gets its new text,
+// whole and on the disk, before the report begins.
 pub(crate) fn tune<F: Files, T: Witness, W: Write, V: Write>(
     host: &mut Host<'_, F, T, V>,
     words: &TuneWords<'_>,

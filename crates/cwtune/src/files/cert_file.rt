@@ -161,7 +161,7 @@ pub(crate) fn open_cert<'a, R: Files + Copy>(
     open_other(rt, alloc, words)
 }
 
-// Opens CERT, which is not another word.
+// Opens CERT, which no other word spells.
 fn open_other<'a, R: Files + Copy>(
     rt: R,
     alloc: Global,
@@ -202,15 +202,15 @@ fn open_found<R: Files + Copy>(
     Ok(CertFile::new(Way::Whole(Whole::new(place))))
 }
 
-// Opens a file for writing. The handle is a copy, which the system never numbers as a standard
-// stream: if one of them is closed, the file would be in its place, and a report or a fault line
-// would go into it.
+// Opens a file for writing, and returns a copy of the handle. If a standard stream is closed, the
+// first handle may get its number, and a report or a fault line would go into the file; a copy
+// never does.
 fn open_beyond_streams<F: Files>(rt: &F, name: &str) -> io::Result<F::File> {
     let file = OpenOptions::new().write(true).open(rt, name)?;
     file.try_clone()
 }
 
-// Returns whether the word CERT is another word of the files, too.
+// Returns whether CERT is also given as the template, the schedule or an opponent.
 fn is_named_twice(words: &TuneWords<'_>) -> bool
     ensures { result ≡ names_twice words.now }
 {
@@ -220,7 +220,7 @@ fn is_named_twice(words: &TuneWords<'_>) -> bool
 }
 
 // Checks that CERT is no other word's file, and that it has no text, or one that begins as a
-// certificate does. What is not a regular file, as a terminal, has no text to lose.
+// certificate does. A file that is not regular, such as a terminal, has no text to lose.
 fn check_old<'a, F: Files>(
     rt: &F,
     alloc: Global,

@@ -10,7 +10,7 @@ pub(crate) struct Digested {
 }
 
 impl Digested {
-    // Takes a whole text.
+    // Returns the size and the digest of a whole text.
     pub(crate) fn of(text: &[u8]) -> Digested {
         let mut digesting = Digesting::new();
         digesting.add(text);
@@ -18,7 +18,7 @@ impl Digested {
     }
 }
 
-// A text that comes piece by piece.
+// The size and the digest so far of a text that comes piece by piece.
 #[derive(Drop)]
 pub(crate) struct Digesting {
     size: u64,

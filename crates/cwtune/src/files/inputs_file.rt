@@ -79,7 +79,7 @@ fn begins_at<F: Files>(rt: &F, alloc: Global, name: &str) -> io::Result<bool> {
     begins_with(alloc, &mut file, BEGINNING)
 }
 
-// What the file says.
+// What the text of the file is made from.
 #[derive(Clone, Copy)]
 pub(crate) struct Tuning<'a> {
     pub(crate) words: &'a TuneWords<'a>,
@@ -218,7 +218,7 @@ fn add_digest(
     add_line(text, word, line.as_str())
 }
 
-// Adds a line of a word and what it says, which cannot hold the end of a line.
+// Adds the line `WORD SAID`. Fails if `said` has a line feed.
 fn add_line(text: &mut Vec<u8>, word: &str, said: &str) -> io::Result<()> {
     if said.as_bytes().contains(&b'\n') {
         return Err(io::Error::from(io::ErrorKind::InvalidInput));

@@ -154,8 +154,8 @@ impl Comparison<'_> {
     }
 }
 
-// Returns what follows if no input differs. A certificate that is right may show less than is asked
-// for.
+// Returns the line for the case that no input differs. With a demand the certificate may be right,
+// and show less than is demanded.
 fn all_the_same(demand: Demand) -> &'static str {
     if demand.keep.is_some() || demand.floor.is_some() {
         "all of these are the tuning's, so its --keep or --floor was another, or the certificate \

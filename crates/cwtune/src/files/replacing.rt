@@ -21,11 +21,11 @@ pub(crate) struct Place<R: Files> {
     rt: R,
     // The name of the file, links followed.
     name: PathBuf,
-    // A name beside it that no file has. The text is there until it is whole.
+    // The name of the unfinished file, beside it. The text is there until it is whole.
     beside: String,
     // The permissions of the file, if there is one.
     mode: Option<u32>,
-    // The file beside it, from the first piece of the text to the last step or a failure.
+    // The unfinished file, from the first piece of the text to the last step or a failure.
     file: Option<R::File>,
 }
 
@@ -52,8 +52,8 @@ pub(crate) fn place_at<R: Files + Copy>(
 }
 
 impl<R: Files> Place<R> {
-    // Writes a piece of the text to the file beside it, which the first piece makes. If that fails,
-    // removes it.
+    // Writes a piece of the text to the unfinished file, which the first piece makes. If that
+    // fails, removes it.
     pub(crate) fn write(&mut self, piece: &[u8]) -> io::Result<()> {
         let mut file = match self.file.take() {
             Some(file) => file,
@@ -68,7 +68,8 @@ impl<R: Files> Place<R> {
         written
     }
 
-    // Flushes the file beside it to the disk and gives it the name. If that fails, removes it.
+    // Flushes the unfinished file to the disk and renames it to `name`. If that fails, removes it.
+    // Does nothing if no piece was written.
     pub(crate) fn finish(&mut self) -> io::Result<()> {
         let Some(file) = self.file.take() else {
             return Ok(());
@@ -113,7 +114,7 @@ fn follow<F: Files>(rt: &F, alloc: Global, path: &mut PathBuf) -> io::Result<boo
     Ok(true)
 }
 
-// Checks whether reading a link failed because the name is not of a link, or of no file.
+// Checks whether reading a link failed because the name is not a link, or no file has it.
 fn is_no_link(kind: io::ErrorKind) -> bool {
     kind == io::ErrorKind::InvalidInput || kind == io::ErrorKind::NotFound
 }

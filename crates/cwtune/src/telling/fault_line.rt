@@ -1,5 +1,6 @@
 //! Lines of faults: `refused: ` and the names of the fault from outside in, `failed: ` and what
-//! failed, or `error: CERT ` and why the file is not opened.
+//! failed, or `error: CERT ` and why the file is not opened. `host` and `program` write the other
+//! lines `error: `.
 //!
 //! A line is written in pieces and takes no memory, so that it can report that memory ran out. The
 //! names are those of the variants, so renaming a variant changes a line.

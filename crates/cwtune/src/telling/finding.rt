@@ -120,7 +120,7 @@ fn constants_of(alloc: Global, inputs: &Inputs) -> Result<Constants, AllocError>
 
 impl Constants {
     // Writes the values of a setting of the part, as in ` STEP=3`. The first constant changes
-    // slowest.
+    // slowest. The values are computed anew here, since `Template::vector` allocates.
     fn tell<V: Write>(&self, err: &mut Outlet<V>, setting: u32) {
         let mut rest = self.first.saturating_add(setting);
         let mut block = self.count;

@@ -120,7 +120,7 @@ pub(crate) fn bad_byte(line: &[u8]) -> Option<(usize, u8)> {
     None
 }
 
-// Returns the column and the byte of the first that is not a blank, from an index on.
+// Returns the first byte from `start` on that is not a blank, after its column.
 fn first_from(line: &[u8], start: usize) -> Option<(usize, u8)> {
     let mut column = start;
     for byte in line.iter().skip(start) {

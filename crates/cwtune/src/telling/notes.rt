@@ -113,8 +113,8 @@ pub(crate) fn tell_unused<V: Write>(err: &mut Outlet<V>, file: &str, template: &
     }
 }
 
-// Returns whether a name is a token of a text. A text with a fault does not assemble, so no name is
-// missed there.
+// Returns whether a name is a token of a text. Returns true if the text has a fault: it does not
+// assemble, and a note would mislead.
 fn is_token(text: &[u8], name: &[u8]) -> bool {
     let mut lexer = Lexer::new(text);
     for _token in 0..text.len() {

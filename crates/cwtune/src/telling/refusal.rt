@@ -37,7 +37,7 @@ pub(crate) enum Refused<'a> {
     },
 }
 
-// Writes what helps with a fault, if anything does. If no setting assembles, that is the fault of
+// Writes what helps with a fault, if anything does. If no setting assembles, explains the fault of
 // `setting`, an index in the template.
 pub(crate) fn explain<V: Write>(
     err: &mut Outlet<V>,

@@ -177,8 +177,8 @@ fn fight_request<'a>(
     }
 }
 
-// Returns what `fight` without files asks for. It takes no words but `--explain`, so `clap` is
-// asked again for such a command, and reports any other word as unexpected.
+// Returns what `fight` without files asks for. It takes no words but `--explain`, so the words are
+// parsed again as those of a command without files, and `clap` reports any other word.
 fn request_without_files<'a>(alloc: Global, words: &'a [String]) -> Result<Request<'a>, Error> {
     let _nothing = commands(alloc, fight_command(alloc)?)?.try_get_matches_from(words)?;
     Ok(Request::Fight)

@@ -1,4 +1,4 @@
-//! The options that several commands have.
+//! The options that several commands have, and what each command is given.
 ghost use Rattle.std.specs.Prelude.{◌≡◌, IfOk};
 ghost use Rattle.std.specs.Option.{unwrap_or};
 
