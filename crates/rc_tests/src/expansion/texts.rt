@@ -1,7 +1,22 @@
 //! Texts, and the lines that they expand to or their faults.
 use crate::expansion::lines::lines_of;
 use crate::fixtures::{Case, push_times};
+use std::alloc::Global;
+use std::process::Abort;
 use std::test::Fail;
+
+// Expects that each text has its lines.
+fn expect_lines<A: Abort>(rt: &A, alloc: Global, cases: &[Case]) -> Result<(), Fail> {
+    for case in cases {
+        assert_eq!(rt;
+            lines_of(alloc, case.text)?.as_slice(),
+            case.want,
+            "{}",
+            case.name
+        );
+    }
+    Ok(())
+}
 
 // Lines with labels, and names that no line defines.
 const LABELS: [Case; 5] = [
@@ -34,15 +49,7 @@ const LABELS: [Case; 5] = [
 
 #[test]
 fn labels_and_unknown_names_stay(rt: HostRuntime) -> Result<(), Fail> {
-    for case in &LABELS {
-        assert_eq!(rt;
-            lines_of(rt.alloc(), case.text)?.as_slice(),
-            case.want,
-            "{}",
-            case.name
-        );
-    }
-    Ok(())
+    expect_lines(&rt, rt.alloc(), &LABELS)
 }
 
 // Lines with EQU names.
@@ -76,15 +83,7 @@ const EQU_NAMES: [Case; 5] = [
 
 #[test]
 fn equ_names_are_replaced(rt: HostRuntime) -> Result<(), Fail> {
-    for case in &EQU_NAMES {
-        assert_eq!(rt;
-            lines_of(rt.alloc(), case.text)?.as_slice(),
-            case.want,
-            "{}",
-            case.name
-        );
-    }
-    Ok(())
+    expect_lines(&rt, rt.alloc(), &EQU_NAMES)
 }
 
 // Blocks, and how many copies of them there are.
@@ -133,15 +132,7 @@ const BLOCKS: [Case; 8] = [
 
 #[test]
 fn blocks_are_copied(rt: HostRuntime) -> Result<(), Fail> {
-    for case in &BLOCKS {
-        assert_eq!(rt;
-            lines_of(rt.alloc(), case.text)?.as_slice(),
-            case.want,
-            "{}",
-            case.name
-        );
-    }
-    Ok(())
+    expect_lines(&rt, rt.alloc(), &BLOCKS)
 }
 
 // Counters, alone and joined to a name.
@@ -190,15 +181,7 @@ const COUNTERS: [Case; 8] = [
 
 #[test]
 fn counters_are_replaced(rt: HostRuntime) -> Result<(), Fail> {
-    for case in &COUNTERS {
-        assert_eq!(rt;
-            lines_of(rt.alloc(), case.text)?.as_slice(),
-            case.want,
-            "{}",
-            case.name
-        );
-    }
-    Ok(())
+    expect_lines(&rt, rt.alloc(), &COUNTERS)
 }
 
 // A text that defines the name of the constant, and the line of the fault.
@@ -245,8 +228,8 @@ fn a_constant_is_not_defined_again(rt: HostRuntime) -> Result<(), Fail> {
     Ok(())
 }
 
-// A text at a limit, or nearly: `piece`, `count` times, then `back`. Its lines, or its fault, begin with
-// `begins`.
+// A text at a limit, or nearly: `piece`, `count` times, then `back`. Its lines, or its fault, begin
+// with `begins`.
 struct Limit {
     name: &'static str,
     piece: &'static [u8],
