@@ -14,8 +14,8 @@
 //! For the best setting alone there are two runs of a tuning and three of a check. One more of each
 //! has a ranking or a floor as well: a tuning has an `Aim`, a check a `Demand`. In names `by` says
 //! that a run takes a method, `from` an aim, `for` a demand. `tune_run` and `check_run` have no
-//! watcher, and `tune_run` no method: it drops settings, and takes only the capacity. With part 1 of
-//! 1 the other runs of a tuning, and `check_for_run`, are of all settings too.
+//! watcher, and `tune_run` no method: it drops settings, and takes only the capacity. With part 1
+//! of 1 the other runs of a tuning, and `check_for_run`, are of all settings too.
 //!
 //! | Run of | The best setting alone | With a ranking or a floor |
 //! |---|---|---|
