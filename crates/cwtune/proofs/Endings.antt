@@ -15,7 +15,7 @@ use Rattle.tune_runs.specs.SettingsRun.{WritesSettings}
 use Rattle.tune_runs.specs.declared.given.WhichSetting.{WhichSetting}
 use Rattle.tune_problem.specs.declared.aim.Aim.{Aim}
 use Rattle.tune_search.specs.declared.method.Method.{Method}
-use Rattle.cwtune.specs.CommandLine.{AsksForFight, AsksForHelp, command_of, is_command}
+use Rattle.cwtune.specs.CommandLine.{AsksForFight, MentionsHelp, command_of, is_command}
 use Rattle.cwtune.specs.Commands.{KeepsOutput, IsEnded, IsCheckEnded, WritesFightIn, WritesDuelOf, WritesSomeDuel, WritesLoadFile, WritesSomeLoadFile, WritesSomeSettings, WritesReport, WritesSomeReport, WritesCheckLine, WritesSomeCheckLine, status_of}
 use Rattle.cwtune.specs.Program.{IsProgramRun, IsSuccess}
 use Rattle.cwtune.specs.declared.ending.Ending.{Ending}
@@ -60,7 +60,7 @@ named_at P r x is h = subst (λ q. IfOk q P) is h
 other_run : {X : Type 0} (words : List (List ℕ)) (input : Option (List ℕ)) (old new : OutletView) (ended : Result X Ending) (status : ℕ)
     → status ≡ status_of ended → (AsksForFight words → ⊥) → KeepsOutput old new ended
     → (IsErrOf ended Refused → (new ≡ old) ⊎ WritesSomeCheckLine false (writer old new))
-    → (status ≡ 0 → AsksForHelp words ⊎ IsSuccess words input (writer old new)) → IsProgramRun words input old new status
+    → (status ≡ 0 → MentionsHelp words ⊎ IsSuccess words input (writer old new)) → IsProgramRun words input old new status
 other_run words input old new ended status is other kept unwritten success = record {
   done = λ asked e. absurd (other asked);
   refused = λ asked e. absurd (other asked);
@@ -76,7 +76,7 @@ other_run words input old new ended status is other kept unwritten success = rec
 -- a run that writes nothing unless it succeeds
 quiet_run : {X Wrote : Type 0} (words : List (List ℕ)) (input : Option (List ℕ)) (old new : OutletView) (ended : Result X Ending) (status : ℕ)
     → status ≡ status_of ended → (AsksForFight words → ⊥) → IsEnded Wrote old new ended
-    → (status ≡ 0 → AsksForHelp words ⊎ IsSuccess words input (writer old new)) → IsProgramRun words input old new status
+    → (status ≡ 0 → MentionsHelp words ⊎ IsSuccess words input (writer old new)) → IsProgramRun words input old new status
 quiet_run words input old new ended status is other ended_so success =
     other_run words input old new ended status is other ended_so.kept (λ e. inl (ended_so.refused e)) success
 
@@ -144,6 +144,6 @@ check_run words input old new rules part demand share ended status is other ende
     inr (success_of (codes "check") words input (writer old new) named refl no no no no (λ _. (rules, part, demand, share, line))))
 
 pub help_run : {X : Type 0} (words : List (List ℕ)) (input : Option (List ℕ)) (old new : OutletView) (ended : Result X Ending) (status : ℕ)
-    → status ≡ status_of ended → (AsksForFight words → ⊥) → IsEnded (AsksForHelp words) old new ended → IsProgramRun words input old new status
+    → status ≡ status_of ended → (AsksForFight words → ⊥) → IsEnded (MentionsHelp words) old new ended → IsProgramRun words input old new status
 help_run words input old new ended status is other ended_so =
     quiet_run words input old new ended status is other ended_so (λ e. inl (done_at ended status is ended_so.done e))

@@ -46,8 +46,9 @@ is_help_word word =
     bytes_eq word (codes "help") || (bytes_eq word (codes "--help") || (bytes_eq word (codes "-h")
     || (bytes_eq word (codes "--version") || bytes_eq word (codes "-V"))))
 
-abbrev pub AsksForHelp : List (List ℕ) → Type 0
-AsksForHelp words = IsTrue (list_any is_help_word words)
+-- One of the words asks for help or for the version, wherever it is.
+abbrev pub MentionsHelp : List (List ℕ) → Type 0
+MentionsHelp words = IsTrue (list_any is_help_word words)
 
 -- The number of `--keep`, or None if it is not given. `clap` refuses one that is not 1 to
 -- `MOST_KEPT`.

@@ -4,7 +4,7 @@ use Rattle.rc_instr.specs.Outlet.{OutletView}
 use Rattle.tune_runs.specs.FightRun.{fight_output}
 use Rattle.tune_runs.specs.Runs.{Writer, writer}
 use Rattle.tune_runs.specs.declared.fault.RunFault.{RunFault}
-use Rattle.cwtune.specs.CommandLine.{AsksForFight, AsksForHelp, command_of, is_command}
+use Rattle.cwtune.specs.CommandLine.{AsksForFight, MentionsHelp, command_of, is_command}
 use Rattle.cwtune.specs.Commands.{WritesFightIn, WritesSomeDuel, WritesSomeLoadFile, WritesSomeSettings, WritesSomeReport, WritesSomeCheckLine}
 use Rattle.cwtune.specs.Input.{IsInput}
 
@@ -26,7 +26,7 @@ pub record IsProgramRun (words : List (List ℕ)) (input : Option (List ℕ)) (o
   pub refused : AsksForFight words → ended ≡ 1 → (text : List ℕ) × (fault : RunFault) × IsInput input text × (fight_output text ≡ Err fault) × (new ≡ old)
   pub understood : AsksForFight words → ended ≢ 2
   -- whatever the words are, status 0 means that their command succeeded, or that help was asked for
-  pub success : ended ≡ 0 → AsksForHelp words ⊎ IsSuccess words input (writer old new)
+  pub success : ended ≡ 0 → MentionsHelp words ⊎ IsSuccess words input (writer old new)
   -- nothing is written if the words or an input are refused, except the line of a rejected
   -- certificate or share. A failed write gives status 3, and status 3 without one means that
   -- nothing was written.

@@ -7,3 +7,4 @@ pub(crate) mod inputs_file;
 pub(crate) mod other_inputs;
 pub(crate) mod reading;
 pub(crate) mod replacing;
+pub(crate) mod same_file;

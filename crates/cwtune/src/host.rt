@@ -1,4 +1,5 @@
-//! What the commands work with, and the lines on standard error with which they end.
+//! What the commands work with: how they read rules and files, and the lines on standard error with
+//! which they end. At the end of the file is what they do with CERT and CERT.inputs.
 ghost use Rattle.std.specs.Prelude.{◌≡◌, ◌≢◌, ◌↔◌, IfOk, IfErr};
 ghost use Rattle.tune_runs.specs.Given.{rules_given};
 ghost use Rattle.cwtune.specs.Commands.{IsEndingOf};
@@ -9,7 +10,9 @@ use crate::files::digest::Digested;
 use crate::files::inputs_file::{Barred, Tuning, check_old, name_beside, write_inputs};
 use crate::files::other_inputs::differences;
 use crate::files::reading::{TuneFiles, read_file};
-use crate::telling::fault_line::{say_cert, say_file, say_run, say_text};
+use crate::telling::fault_line::{
+    tell_cert_fault, tell_file_fault, tell_run_fault, tell_text_fault,
+};
 use crate::telling::refusal::Refused;
 use crate::telling::tell;
 use crate::telling::witness::Witness;
@@ -81,7 +84,7 @@ impl<F: Files, T: Witness, V: Write> Host<'_, F, T, V> {
     pub(crate) fn end(&mut self, fault: RunFault) -> Ending
         ensures { IsEndingOf fault result }
     {
-        say_run(self.err, fault);
+        tell_run_fault(self.err, fault);
         match fault {
             RunFault::Write | RunFault::OutOfMemory => Ending::Failed,
             _ => Ending::Refused,
@@ -129,9 +132,9 @@ impl<F: Files, T: Witness, V: Write> Host<'_, F, T, V> {
     {
         let refused = Refused::Duel { words, texts };
         match fault {
-            RunFault::Asm(fault) => say_text(self.err, "Candidate", words.candidate, fault),
+            RunFault::Asm(fault) => tell_text_fault(self.err, "Candidate", words.candidate, fault),
             RunFault::Opponent { index: _, fault } => {
-                say_text(self.err, "Opponent", words.opponent, fault);
+                tell_text_fault(self.err, "Opponent", words.opponent, fault);
             }
             _ => return self.refuse(&refused, fault),
         }
@@ -143,7 +146,7 @@ impl<F: Files, T: Witness, V: Write> Host<'_, F, T, V> {
     pub(crate) fn end_without_memory(&mut self) -> Ending
         ensures { result ≡ Ending.Failed }
     {
-        say_run(self.err, RunFault::OutOfMemory);
+        tell_run_fault(self.err, RunFault::OutOfMemory);
         Ending::Failed
     }
 
@@ -155,10 +158,12 @@ impl<F: Files, T: Witness, V: Write> Host<'_, F, T, V> {
         if error.kind() == io::ErrorKind::OutOfMemory {
             return self.end_without_memory();
         }
-        say_file(self.err, action, name);
+        tell_file_fault(self.err, action, name);
         self.witness.after_file_error(self.alloc, name, error);
         Ending::Failed
     }
+
+    // ---- CERT and CERT.inputs
 
     // Says why the file CERT is not opened.
     pub(crate) fn end_unopened(&mut self, name: &str, unopened: &NotOpened<'_>) -> Ending
@@ -170,7 +175,7 @@ impl<F: Files, T: Witness, V: Write> Host<'_, F, T, V> {
             NotOpened::Unread { name, error } => return self.fail("read", *name, error),
             NotOpened::Uncreated(error) => return self.fail("create", name, error),
         };
-        say_cert(self.err, reason, name);
+        tell_cert_fault(self.err, reason, name);
         Ending::Misused
     }
 
@@ -183,7 +188,7 @@ impl<F: Files, T: Witness, V: Write> Host<'_, F, T, V> {
     ) -> Result<Option<String>, Ending>
         ensures { IfErr result (λ e. e ≢ Ending.Refused) }
     {
-        if !cert.is_whole() {
+        if !cert.is_regular() {
             return Ok(None);
         }
         let Ok(name) = name_beside(self.alloc, words.cert) else {

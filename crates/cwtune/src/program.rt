@@ -1,13 +1,13 @@
 //! The program, apart from `main`: words and three streams in, an exit status out.
 ghost use Rattle.std.specs.Prelude.{◌≡◌, ◌≢◌, ◌⊎◌, map, false, string_bytes, IfErr};
-ghost use Rattle.cwtune.specs.CommandLine.{AsksForHelp};
+ghost use Rattle.cwtune.specs.CommandLine.{MentionsHelp};
 ghost use Rattle.cwtune.specs.Commands.{IsEnded};
 ghost use Rattle.cwtune.specs.Program.{IsProgramRun};
 
 use crate::commands::{asm, check, duel, fight, settings, tune};
 use crate::ending::{Ending, status_of};
 use crate::host::Host;
-use crate::telling::fault_line::say_run;
+use crate::telling::fault_line::tell_run_fault;
 use crate::telling::tell;
 use crate::telling::witness::{Quiet, Witness};
 use crate::words::command_line::{Request, request_of};
@@ -106,7 +106,7 @@ pub(crate) fn end_without_words<V: Write>(err: &mut Outlet<V>, error: &io::Error
     ensures { (result ≡ 2) ⊎ (result ≡ 3) }
 {
     if error.kind() != io::ErrorKind::InvalidData {
-        say_run(err, RunFault::OutOfMemory);
+        tell_run_fault(err, RunFault::OutOfMemory);
         return 3;
     }
     tell(err, &["error: a word of the command line is not UTF-8\n"]);
@@ -121,7 +121,7 @@ fn show<F: Files, W: Write, V: Write, T: Witness>(
     out: &mut Outlet<W>,
 ) -> Result<(), Ending>
     requires { out.old.failed ≡ false }
-    ensures ended { IsEnded (AsksForHelp (map string_bytes words.now)) out.old out.new result }
+    ensures ended { IsEnded (MentionsHelp (map string_bytes words.now)) out.old out.new result }
     ensures known { IfErr result (λ e. e ≢ Ending.Refused) }
 {
     if answer.kind() == ErrorKind::OutOfMemory {

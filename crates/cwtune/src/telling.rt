@@ -1,13 +1,13 @@
 //! Lines on standard error: of faults, of progress, and explanations, which are indented by two
 //! spaces. A write that fails ends them silently.
 //!
-//! `fault_line` has the line of a fault. `refusal` picks its explanation: `bounds` says why the
+//! `fault_line` has the line of a fault. `refusal` picks its explanation: `limits` says why the
 //! text is refused, `help_lines` what may have been meant.
 
-pub(crate) mod bounds;
 pub(crate) mod fault_line;
 pub(crate) mod finding;
 pub(crate) mod help_lines;
+pub(crate) mod limits;
 pub(crate) mod line;
 pub(crate) mod names_in;
 pub(crate) mod notes;

@@ -1,6 +1,7 @@
 //! The words of the command line: the command, its options, and their values.
 
 pub(crate) mod aim_options;
+pub(crate) mod clap_commands;
 pub(crate) mod command_line;
 pub(crate) mod command_word;
 pub(crate) mod help;

@@ -49,16 +49,9 @@ pub(crate) fn tune<F: Files, T: Witness, W: Write, V: Write>(
     let texts = files.texts(&rules, words.part);
     let method = method_meant(method);
     let aim = aim_meant(demand);
-    match tune_into(host, words, &texts, method, aim, out, &mut cert) {
-        Ok(()) => {
-            host.end_files(words, &texts, method, cert, beside);
-            Ok(())
-        }
-        Err(ending) => {
-            host.end_files(words, &texts, method, cert, beside);
-            Err(ending)
-        }
-    }
+    let ended = tune_into(host, words, &texts, method, aim, out, &mut cert);
+    host.end_files(words, &texts, method, cert, beside);
+    ended
 }
 
 // Runs the tuning of texts that were read. The certificate goes to any writer; a tuning that is

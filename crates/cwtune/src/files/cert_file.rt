@@ -5,7 +5,8 @@ ghost use Rattle.cwtune.specs.CertFile.{BeginsAsCert, names_twice};
 
 use crate::files::beginning::begins_with;
 use crate::files::digest::{Digested, Digesting};
-use crate::files::replacing::{Place, place_at};
+use crate::files::replacing::{Replacement, replacement_at};
+use crate::files::same_file::is_file_at;
 use crate::words::command_line::TuneWords;
 use std::alloc::Global;
 use std::fs::{Metadata, OpenFile, OpenOptions};
@@ -33,52 +34,56 @@ pub(crate) enum NotOpened<'a> {
 // The file CERT. A regular file has its old text until the new one is flushed.
 #[derive(Drop)]
 pub(crate) struct CertFile<R: Files> {
-    way: Way<R>,
+    kind: FileKind<R>,
     failure: Option<io::Error>,
 }
 
-// How a text gets into CERT.
+// What kind of file CERT is, and what its text is written to.
 #[derive(Drop)]
-enum Way<R: Files> {
-    // As it comes, into an open file that is not a regular one.
+enum FileKind<R: Files> {
+    // Not a regular file. It is open, and the text goes into it as it comes.
     Stream(R::File),
-    // As a whole, in the place of a regular file or of none.
-    Whole(Whole<R>),
+    // A regular file, or none yet: it gets the text as a whole.
+    Regular(RegularFile<R>),
 }
 
-// A text that gets its name when it is whole.
+// A regular file that gets its text as a whole, and the digest of this text.
 #[derive(Drop)]
-struct Whole<R: Files> {
-    place: Place<R>,
+struct RegularFile<R: Files> {
+    replacement: Replacement<R>,
     digesting: Digesting,
-    is_named: bool,
+    // Whether the file has the whole text.
+    is_replaced: bool,
 }
 
-impl<R: Files> Whole<R> {
-    fn new(place: Place<R>) -> Whole<R> {
-        Whole {
-            place,
+impl<R: Files> RegularFile<R> {
+    fn new(replacement: Replacement<R>) -> RegularFile<R> {
+        RegularFile {
+            replacement,
             digesting: Digesting::new(),
-            is_named: false,
+            is_replaced: false,
         }
     }
 
     fn write(&mut self, piece: &[u8]) -> io::Result<()> {
-        self.place.write(piece)?;
+        self.replacement.write(piece)?;
         self.digesting.add(piece);
         Ok(())
     }
 
     fn finish(&mut self) -> io::Result<()> {
-        self.place.finish()?;
-        self.is_named = true;
+        self.replacement.finish()?;
+        self.is_replaced = true;
         Ok(())
     }
 }
 
 impl<R: Files> CertFile<R> {
-    fn new(way: Way<R>) -> CertFile<R> {
-        CertFile { way, failure: None }
+    fn new(kind: FileKind<R>) -> CertFile<R> {
+        CertFile {
+            kind,
+            failure: None,
+        }
     }
 
     // Returns what the system said when the text could not be written.
@@ -86,21 +91,21 @@ impl<R: Files> CertFile<R> {
         self.failure
     }
 
-    // Returns whether the text replaces a regular file or makes one.
-    pub(crate) fn is_whole(&self) -> bool {
-        match self.way {
-            Way::Whole(_) => true,
-            Way::Stream(_) => false,
+    // Returns whether CERT is a regular file, or is made as one.
+    pub(crate) fn is_regular(&self) -> bool {
+        match self.kind {
+            FileKind::Regular(_) => true,
+            FileKind::Stream(_) => false,
         }
     }
 
     fn write_piece(&mut self, piece: &[u8]) -> io::Result<usize>
         ensures { IfOk result (λ n. n ≤ length piece.now) }
     {
-        match &mut self.way {
-            Way::Stream(file) => file.write(piece),
-            Way::Whole(whole) => {
-                whole.write(piece)?;
+        match &mut self.kind {
+            FileKind::Stream(file) => file.write(piece),
+            FileKind::Regular(file) => {
+                file.write(piece)?;
                 Ok(piece.len())
             }
         }
@@ -108,9 +113,9 @@ impl<R: Files> CertFile<R> {
 
     // Ends the text. A stream has no more to do.
     fn finish(&mut self) -> io::Result<()> {
-        match &mut self.way {
-            Way::Stream(_) => Ok(()),
-            Way::Whole(whole) => whole.finish(),
+        match &mut self.kind {
+            FileKind::Stream(_) => Ok(()),
+            FileKind::Regular(file) => file.finish(),
         }
     }
 }
@@ -118,8 +123,8 @@ impl<R: Files> CertFile<R> {
 impl<R: Files + Drop> CertFile<R> {
     // Returns the size and the digest of the text if a regular file has it now.
     pub(crate) fn digested(self) -> Option<Digested> {
-        match self.way {
-            Way::Whole(whole) if whole.is_named => Some(whole.digesting.end()),
+        match self.kind {
+            FileKind::Regular(file) if file.is_replaced => Some(file.digesting.end()),
             _ => None,
         }
     }
@@ -179,8 +184,8 @@ fn open_checked<R: Files + Copy>(rt: R, alloc: Global, name: &str) -> io::Result
     match fs::metadata(&rt, name) {
         Ok(found) => open_found(rt, alloc, name, &found),
         Err(error) if error.kind() == io::ErrorKind::NotFound => {
-            let place = place_at(rt, alloc, name, None)?;
-            Ok(CertFile::new(Way::Whole(Whole::new(place))))
+            let replacement = replacement_at(rt, alloc, name, None)?;
+            Ok(CertFile::new(FileKind::Regular(RegularFile::new(replacement))))
         }
         Err(error) => Err(error),
     }
@@ -195,11 +200,11 @@ fn open_found<R: Files + Copy>(
 ) -> io::Result<CertFile<R>> {
     let file = open_beyond_streams(&rt, name)?;
     if !found.is_file() {
-        return Ok(CertFile::new(Way::Stream(file)));
+        return Ok(CertFile::new(FileKind::Stream(file)));
     }
     drop(file);
-    let place = place_at(rt, alloc, name, Some(found.mode()))?;
-    Ok(CertFile::new(Way::Whole(Whole::new(place))))
+    let replacement = replacement_at(rt, alloc, name, Some(found.mode()))?;
+    Ok(CertFile::new(FileKind::Regular(RegularFile::new(replacement))))
 }
 
 // Opens a file for writing, and returns a copy of the handle. If a standard stream is closed, the
@@ -255,25 +260,24 @@ fn is_other_file<'a, F: Files>(
     words: &TuneWords<'a>,
     found: &Metadata,
 ) -> Result<bool, NotOpened<'a>> {
-    if is_file_at(rt, words.template, found)? || is_file_at(rt, words.schedule, found)? {
+    if is_name_of(rt, words.template, found)? || is_name_of(rt, words.schedule, found)? {
         return Ok(true);
     }
     for name in words.opponents.as_slice() {
-        if is_file_at(rt, *name, found)? {
+        if is_name_of(rt, *name, found)? {
             return Ok(true);
         }
     }
     Ok(false)
 }
 
-// Returns whether a name is another one of the file that was found.
-fn is_file_at<'a, F: Files>(
+fn is_name_of<'a, F: Files>(
     rt: &F,
     name: &'a str,
     found: &Metadata,
 ) -> Result<bool, NotOpened<'a>> {
-    match fs::metadata(rt, name) {
-        Ok(other) => Ok(other.dev() == found.dev() && other.ino() == found.ino()),
+    match is_file_at(rt, name, found) {
+        Ok(is_same) => Ok(is_same),
         Err(error) => Err(unread(name, error)),
     }
 }

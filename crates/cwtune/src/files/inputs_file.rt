@@ -4,8 +4,10 @@
 
 use crate::files::beginning::begins_with;
 use crate::files::digest::Digested;
-use crate::files::replacing::place_at;
-use crate::words::command_line::{TuneWords, VERSION};
+use crate::files::replacing::replacement_at;
+use crate::files::same_file::is_file_at;
+use crate::words::clap_commands::VERSION;
+use crate::words::command_line::TuneWords;
 use std::alloc::{AllocError, Global};
 use std::fs::Metadata;
 use std::os::unix::fs::MetadataExt;
@@ -59,19 +61,16 @@ pub(crate) fn check_old<F: Files>(
     }
 }
 
-// Returns whether a word is a name of the file that was found.
+// Returns whether a word is a name of the file that was found. A word that names no file is not.
 fn is_word<F: Files>(rt: &F, words: &TuneWords<'_>, found: &Metadata) -> bool {
     let names = [words.template, words.schedule, words.cert];
     let opponents = words.opponents.as_slice();
-    names.iter().any(|name| is_file_at(rt, *name, found))
-        || opponents.iter().any(|name| is_file_at(rt, *name, found))
-}
-
-fn is_file_at<F: Files>(rt: &F, name: &str, found: &Metadata) -> bool {
-    match fs::metadata(rt, name) {
-        Ok(other) => other.dev() == found.dev() && other.ino() == found.ino(),
-        Err(_) => false,
-    }
+    names
+        .iter()
+        .any(|name| is_file_at(rt, *name, found).unwrap_or(false))
+        || opponents
+            .iter()
+            .any(|name| is_file_at(rt, *name, found).unwrap_or(false))
 }
 
 fn begins_at<F: Files>(rt: &F, alloc: Global, name: &str) -> io::Result<bool> {
@@ -111,9 +110,9 @@ fn replace_inputs<R: Files + Copy>(
 ) -> io::Result<()> {
     let text = inputs_text(&rt, alloc, tuning, cert)?;
     let mode = mode_of(&rt, name)?;
-    let mut place = place_at(rt, alloc, name, mode)?;
-    place.write(text.as_slice())?;
-    place.finish()
+    let mut replacement = replacement_at(rt, alloc, name, mode)?;
+    replacement.write(text.as_slice())?;
+    replacement.finish()
 }
 
 // Out of line, so that the hot loop begins at a multiple of 32 (docs/HOT_LOOP.md, "To move it").

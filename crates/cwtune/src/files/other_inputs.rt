@@ -31,7 +31,7 @@ pub(crate) fn differences<F: Files>(
     };
     match read_file(rt, alloc, name.as_str()) {
         Ok(text) => comparison.compare(name.as_str(), text.as_slice(), cert)?,
-        Err(_) => comparison.say_unknown(name.as_str(), "cannot be read")?,
+        Err(_) => comparison.add_unknown(name.as_str(), "cannot be read")?,
     }
     Ok(comparison.lines)
 }
@@ -52,12 +52,12 @@ impl Comparison<'_> {
     // Compares with what the file says, if it is of this certificate.
     fn compare(&mut self, name: &str, text: &[u8], cert: &[u8]) -> Result<(), AllocError> {
         let Ok(text) = str::from_utf8(text) else {
-            return self.say_unknown(name, "is not UTF-8");
+            return self.add_unknown(name, "is not UTF-8");
         };
         let digest = digest_word(self.alloc, &Digested::of(cert))?;
         let wanted = format!(in self.alloc; "cert {}", digest.as_str())?;
         if !text.lines().any(|line| line == wanted.as_str()) {
-            return self.say_unknown(name, "is of another certificate");
+            return self.add_unknown(name, "is of another certificate");
         }
         for line in text.lines() {
             if let Some((word, said)) = line.split_once(' ') {
@@ -72,7 +72,7 @@ impl Comparison<'_> {
         Ok(())
     }
 
-    fn say_unknown(&mut self, name: &str, why: &str) -> Result<(), AllocError> {
+    fn add_unknown(&mut self, name: &str, why: &str) -> Result<(), AllocError> {
         let line = format!(in self.alloc;
             "{name} {why}, so it is not known which of these differs"
         )?;

@@ -15,9 +15,9 @@ const MOST_LINKS: u32 = 40;
 // The most names that are tried for a file beside another.
 const MOST_NAMES: u32 = 1000;
 
-// A file that gets a new text, or is made with it.
+// A replacement under way: an unfinished file with the new text, and the name that it will get.
 #[derive(Drop)]
-pub(crate) struct Place<R: Files> {
+pub(crate) struct Replacement<R: Files> {
     rt: R,
     // The name of the file, links followed.
     name: PathBuf,
@@ -31,18 +31,18 @@ pub(crate) struct Place<R: Files> {
 
 // Finds the file that `name` leads to, and tries to make a file beside it, which is removed again.
 // `mode` is the permissions of the file, if there is one. No file has the empty name.
-pub(crate) fn place_at<R: Files + Copy>(
+pub(crate) fn replacement_at<R: Files + Copy>(
     rt: R,
     alloc: Global,
     name: &str,
     mode: Option<u32>,
-) -> io::Result<Place<R>> {
+) -> io::Result<Replacement<R>> {
     if name.is_empty() {
         return Err(io::Error::from(io::ErrorKind::NotFound));
     }
     let name = beyond_links(&rt, alloc, name)?;
     let beside = unused_name(&rt, alloc, name.as_str(), mode)?;
-    Ok(Place {
+    Ok(Replacement {
         rt,
         name,
         beside,
@@ -51,7 +51,7 @@ pub(crate) fn place_at<R: Files + Copy>(
     })
 }
 
-impl<R: Files> Place<R> {
+impl<R: Files> Replacement<R> {
     // Writes a piece of the text to the unfinished file, which the first piece makes. If that
     // fails, removes it.
     pub(crate) fn write(&mut self, piece: &[u8]) -> io::Result<()> {

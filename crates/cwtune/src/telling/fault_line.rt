@@ -18,34 +18,39 @@ use tune_runs::RunFault;
 use tune_template::TemplateFault;
 
 // Writes the line of a fault: `failed: Write`, `failed: OutOfMemory`, or `refused: ` and its names.
-pub(crate) fn say_run<V: Write>(err: &mut Outlet<V>, fault: RunFault) {
+pub(crate) fn tell_run_fault<V: Write>(err: &mut Outlet<V>, fault: RunFault) {
     match fault {
         RunFault::Write | RunFault::OutOfMemory => tell(err, &["failed:"]),
         _ => tell(err, &["refused:"]),
     }
-    say_fault(err, fault);
+    tell_names(err, fault);
     tell(err, &["\n"]);
 }
 
 // Writes the line of a text of a fight that does not assemble: `refused: SIDE FILE line N` and the
 // names of the fault. `side` is `Candidate` or `Opponent`.
-pub(crate) fn say_text<V: Write>(err: &mut Outlet<V>, side: &str, file: &str, fault: AsmFault) {
+pub(crate) fn tell_text_fault<V: Write>(
+    err: &mut Outlet<V>,
+    side: &str,
+    file: &str,
+    fault: AsmFault,
+) {
     tell(err, &["refused: ", side, " ", file]);
-    say_asm(err, fault);
+    tell_asm_names(err, fault);
     tell(err, &["\n"]);
 }
 
 // Writes the line of a file: `failed: read NAME` or `failed: create NAME`.
-pub(crate) fn say_file<V: Write>(err: &mut Outlet<V>, action: &str, name: &str) {
+pub(crate) fn tell_file_fault<V: Write>(err: &mut Outlet<V>, action: &str, name: &str) {
     tell(err, &["failed: ", action, " ", name, "\n"]);
 }
 
 // Writes why the file CERT is not opened: `error: CERT`, the reason, and the file.
-pub(crate) fn say_cert<V: Write>(err: &mut Outlet<V>, reason: &str, name: &str) {
+pub(crate) fn tell_cert_fault<V: Write>(err: &mut Outlet<V>, reason: &str, name: &str) {
     tell(err, &["error: CERT ", reason, " ", name, "\n"]);
 }
 
-// What `write!` writes to: each piece of text is told at once.
+// What `write!` writes to: each piece of text goes on at once.
 #[derive(Drop)]
 struct Teller<'a, V: Write> {
     err: &'a mut Outlet<V>,
@@ -66,109 +71,109 @@ fn side_name(side: Side) -> &'static str {
 }
 
 // Writes a space, then a word.
-fn say<V: Write>(err: &mut Outlet<V>, word: &str) {
+fn tell_word<V: Write>(err: &mut Outlet<V>, word: &str) {
     tell(err, &[" ", word]);
 }
 
 // Writes ` line N`.
-fn say_line<V: Write>(err: &mut Outlet<V>, line: u64) {
-    say(err, "line");
-    say(err, Buffer::new().format(line))
+fn tell_line_number<V: Write>(err: &mut Outlet<V>, line: u64) {
+    tell_word(err, "line");
+    tell_word(err, Buffer::new().format(line))
 }
 
 // Writes a space, then the name of the variant `fault`, which holds no value.
-fn say_name<V: Write, D: Debug + Drop>(err: &mut Outlet<V>, fault: &D) {
+fn tell_variant<V: Write, D: Debug + Drop>(err: &mut Outlet<V>, fault: &D) {
     let mut teller = Teller { err };
     let _ = write!(teller, " {fault:?}");
 }
 
-fn say_expand<V: Write>(err: &mut Outlet<V>, kind: ExpandKind) {
+fn tell_expand_names<V: Write>(err: &mut Outlet<V>, kind: ExpandKind) {
     match kind {
         ExpandKind::Text(fault) => {
-            say(err, "Text");
-            say_name(err, &fault)
+            tell_word(err, "Text");
+            tell_variant(err, &fault)
         }
-        _ => say_name(err, &kind),
+        _ => tell_variant(err, &kind),
     }
 }
 
 // Writes ` line N`, then the names of the fault.
-pub(crate) fn say_asm<V: Write>(err: &mut Outlet<V>, fault: AsmFault) {
-    say_line(err, fault.line);
+pub(crate) fn tell_asm_names<V: Write>(err: &mut Outlet<V>, fault: AsmFault) {
+    tell_line_number(err, fault.line);
     match fault.kind {
         AsmKind::Expand(kind) => {
-            say(err, "Expand");
-            say_expand(err, kind)
+            tell_word(err, "Expand");
+            tell_expand_names(err, kind)
         }
         AsmKind::Value(fault) => {
-            say(err, "Value");
-            say_name(err, &fault)
+            tell_word(err, "Value");
+            tell_variant(err, &fault)
         }
         AsmKind::Warrior(error) => {
-            say(err, "Warrior");
-            say_name(err, &error)
+            tell_word(err, "Warrior");
+            tell_variant(err, &error)
         }
-        kind => say_name(err, &kind),
+        kind => tell_variant(err, &kind),
     }
 }
 
-fn say_load<V: Write>(err: &mut Outlet<V>, fault: LoadFault) {
+fn tell_load_names<V: Write>(err: &mut Outlet<V>, fault: LoadFault) {
     match fault {
         LoadFault::Malformed { line } => {
-            say(err, "Malformed");
-            say_line(err, line)
+            tell_word(err, "Malformed");
+            tell_line_number(err, line)
         }
         LoadFault::Warrior(error) => {
-            say(err, "Warrior");
-            say_name(err, &error)
+            tell_word(err, "Warrior");
+            tell_variant(err, &error)
         }
-        LoadFault::OutOfMemory => say_name(err, &fault),
+        LoadFault::OutOfMemory => tell_variant(err, &fault),
     }
 }
 
-fn say_template<V: Write>(err: &mut Outlet<V>, fault: TemplateFault) {
-    say(err, "Template");
-    say_line(err, fault.line);
-    say_name(err, &fault.kind)
+fn tell_template_names<V: Write>(err: &mut Outlet<V>, fault: TemplateFault) {
+    tell_word(err, "Template");
+    tell_line_number(err, fault.line);
+    tell_variant(err, &fault.kind)
 }
 
-fn say_schedule<V: Write>(err: &mut Outlet<V>, fault: ScheduleFault) {
-    say(err, "Schedule");
-    say(err, "row");
-    say(err, Buffer::new().format(fault.row));
-    say_name(err, &fault.kind)
+fn tell_schedule_names<V: Write>(err: &mut Outlet<V>, fault: ScheduleFault) {
+    tell_word(err, "Schedule");
+    tell_word(err, "row");
+    tell_word(err, Buffer::new().format(fault.row));
+    tell_variant(err, &fault.kind)
 }
 
-fn say_fault<V: Write>(err: &mut Outlet<V>, fault: RunFault) {
+fn tell_names<V: Write>(err: &mut Outlet<V>, fault: RunFault) {
     match fault {
         RunFault::FightText { line } => {
-            say(err, "FightText");
-            say_line(err, line)
+            tell_word(err, "FightText");
+            tell_line_number(err, line)
         }
         RunFault::Rules(error) => {
-            say(err, "Rules");
-            say_name(err, &error)
+            tell_word(err, "Rules");
+            tell_variant(err, &error)
         }
         RunFault::Load { side, fault } => {
-            say(err, "Load");
-            say(err, side_name(side));
-            say_load(err, fault)
+            tell_word(err, "Load");
+            tell_word(err, side_name(side));
+            tell_load_names(err, fault)
         }
         RunFault::Asm(fault) => {
-            say(err, "Asm");
-            say_asm(err, fault)
+            tell_word(err, "Asm");
+            tell_asm_names(err, fault)
         }
-        RunFault::Template(fault) => say_template(err, fault),
+        RunFault::Template(fault) => tell_template_names(err, fault),
         RunFault::NoSuchSetting { index } => {
-            say(err, "NoSuchSetting");
-            say(err, Buffer::new().format(index))
+            tell_word(err, "NoSuchSetting");
+            tell_word(err, Buffer::new().format(index))
         }
         RunFault::Opponent { index, fault } => {
-            say(err, "Opponent");
-            say(err, Buffer::new().format(index));
-            say_asm(err, fault)
+            tell_word(err, "Opponent");
+            tell_word(err, Buffer::new().format(index));
+            tell_asm_names(err, fault)
         }
-        RunFault::Schedule(fault) => say_schedule(err, fault),
-        _ => say_name(err, &fault),
+        RunFault::Schedule(fault) => tell_schedule_names(err, fault),
+        _ => tell_variant(err, &fault),
     }
 }

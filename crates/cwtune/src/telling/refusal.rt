@@ -1,7 +1,7 @@
 //! Explains a refusal after its line: the line of text at fault, and why it is refused.
 
-use crate::telling::bounds::{tell_asm, tell_positions, tell_rules, tell_schedule, tell_template};
-use crate::telling::fault_line::say_asm;
+use crate::telling::fault_line::tell_asm_names;
+use crate::telling::limits::{tell_asm, tell_positions, tell_rules, tell_schedule, tell_template};
 use crate::telling::{tell, tell_broken, tell_most};
 use crate::words::command_line::{DuelWords, TuneWords};
 use rc_asm::AsmFault;
@@ -158,7 +158,7 @@ fn explain_setting<V: Write>(
         Err(fault) => fault,
     };
     tell(err, &["  one of the settings:"]);
-    say_asm(err, fault);
+    tell_asm_names(err, fault);
     tell(err, &["\n"]);
     tell_asm(
         err,

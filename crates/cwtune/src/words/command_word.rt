@@ -19,7 +19,7 @@ pub(crate) fn asks_for_fight(words: &[String]) -> bool
 pub(crate) fn is_named(words: &[String], request: &Request<'_>) -> bool
     ensures { IsTrue result → command_of (map string_bytes words.now) ≡ command_word request.now }
 {
-    command_named(words) == word_for(request)
+    command_named(words) == command_word(request)
 }
 
 // Returns the first word, or `fight` if there is none, or if it is `--`.
@@ -36,7 +36,7 @@ fn command_named(words: &[String]) -> &str
     }
 }
 
-fn word_for(request: &Request<'_>) -> &'static str
+fn command_word(request: &Request<'_>) -> &'static str
     ensures { result.now ≡ command_word request.now }
 {
     match request {

@@ -1,7 +1,7 @@
 //! Whether words ask for help. If they do, help is shown whatever else is wrong with them.
 ghost use Rattle.std.specs.Prelude.{◌≡◌, map, IsTrue, string_bytes};
 ghost use Rattle.std.specs.List.{list_any};
-ghost use Rattle.cwtune.specs.CommandLine.{AsksForHelp, is_help_word};
+ghost use Rattle.cwtune.specs.CommandLine.{MentionsHelp, is_help_word};
 
 // The commands.
 const COMMANDS: [&str; 5] = ["fight", "asm", "settings", "tune", "check"];
@@ -26,9 +26,9 @@ const VALUED: [(&str, &str); 11] = [
 
 // Returns whether a word asks for help or for the version. A run that only prints the text of
 // `clap` succeeds only if there is such a word.
-#[tactic(auto, using(crate::proofs::CommandWords::asks_for_help))]
+#[tactic(auto, using(crate::proofs::CommandWords::mentions_help))]
 pub(crate) fn mentions_help(words: &[String]) -> bool
-    ensures { IsTrue result → AsksForHelp (map string_bytes words.now) }
+    ensures { IsTrue result → MentionsHelp (map string_bytes words.now) }
 {
     has_help_word(words)
 }

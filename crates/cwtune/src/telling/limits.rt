@@ -18,10 +18,10 @@ use tune_template::{Template, TemplateFault, TemplateKind};
 
 // Writes the limit that raw rules break, and the number that breaks it.
 pub(crate) fn tell_rules<V: Write>(err: &mut Outlet<V>, raw: RawRules, error: RulesError) {
-    tell_broken(err, rules_bound(error), u64::from(rules_number(raw, error)));
+    tell_broken(err, rules_limit(error), u64::from(rules_number(raw, error)));
 }
 
-fn rules_bound(error: RulesError) -> &'static str {
+fn rules_limit(error: RulesError) -> &'static str {
     match error {
         RulesError::Core => "the core size is 8 to 65535",
         RulesError::Cycles => "the cycles are 1 to 1000000",
