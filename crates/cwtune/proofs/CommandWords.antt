@@ -9,7 +9,7 @@ one_item [] x some few first = absurd (omega (arith, some))
 one_item (y ∷ []) x some few first = ap (λ z. z ∷ []) (sym first)
 one_item (y ∷ z ∷ zs) x some few first = absurd (omega (arith, few))
 
--- what one of some texts says, one of their bytes says
+-- whether `f` holds of one of the words does not change if all are made bytes first
 any_text : {A : Type 0} (f : List ℕ → Bool) (words : List (String A)) → list_any (λ w. f (string_bytes w)) words ≡ list_any f (map string_bytes words)
 any_text f [] = refl
 any_text f (word ∷ words) = ap (λ more. f (string_bytes word) || more) (any_text f words)

@@ -56,7 +56,7 @@ at_most (Err Failed) status is = omega (arith, is)
 pub named_at : {A X : Type 0} (P : A → Type 0) (r : Result A X) (x : A) → r ≡ Ok x → IfOk r P → P x
 named_at P r x is h = subst (λ q. IfOk q P) is h
 
--- what is promised of a fight holds of words that ask for none
+-- words that ask for no fight: the clauses about fights hold, since their premise does not
 other_run : {X : Type 0} (words : List (List ℕ)) (input : Option (List ℕ)) (old new : OutletView) (ended : Result X Ending) (status : ℕ)
     → status ≡ status_of ended → (AsksForFight words → ⊥) → KeepsOutput old new ended
     → (IsErrOf ended Refused → (new ≡ old) ⊎ WritesSomeCheckLine false (writer old new))

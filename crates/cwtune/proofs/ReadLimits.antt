@@ -4,7 +4,7 @@ use Rattle.std.specs.Prelude.{Option, Some, None, IfSome}
 use Rattle.std.specs.Option.{option_map}
 use Rattle.std.proofs.lemmas.List.{take_all}
 
--- what is not longer than a limit, and was read up to one byte more, is the whole
+-- a text that was read up to `limit + 1` bytes, and has at most `limit`, is the whole
 whole : (limit : ℕ) (xs text : List ℕ) → text ≡ take (limit + 1) xs → length text ≤ limit → text ≡ xs
 whole limit xs text e short =
     let counted : length text ≡ min (limit + 1) (length xs) = ap length e ∙ length-take (limit + 1) xs in

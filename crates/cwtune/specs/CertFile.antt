@@ -1,4 +1,4 @@
--- Which files a tuning does not overwrite.
+-- When a tuning may overwrite CERT: how its text has to begin, and that no other word names it.
 use Rattle.std.specs.Prelude.{◌≡◌, ◌||◌, ℕ, Bool, List, take, codes}
 use Rattle.std.specs.List.{list_any}
 use Rattle.std.specs.Str.{bytes_eq}

@@ -112,7 +112,7 @@ pub record IsEnded {X : Type 0} (Wrote : Type 0) (old new : OutletView) (result 
   pub refused : IsErrOf result Refused → new ≡ old
   pub kept : KeepsOutput old new result
 
--- How a command ends whose words are understood: never with a usage error.
+-- How `fight`, `asm` and `settings` end once their words are understood: not with a usage error.
 abbrev pub EndsUnderstood : {X : Type 0} → (Wrote : Type 0) → (old new : OutletView) → Result X Ending → Type 0
 EndsUnderstood Wrote old new result = IsEnded Wrote old new result × IfErr result (λ e. e ≢ Misused)
 

@@ -8,8 +8,8 @@ use Rattle.cwtune.specs.CommandLine.{AsksForFight, MentionsHelp, command_of, is_
 use Rattle.cwtune.specs.Commands.{WritesFightIn, WritesSomeDuel, WritesSomeLoadFile, WritesSomeSettings, WritesSomeReport, WritesSomeCheckLine}
 use Rattle.cwtune.specs.Input.{IsInput}
 
--- What the command that the words name wrote, if it succeeded. For `check` that is the line of a
--- certificate that is accepted, or of a share that is.
+-- What the command that the words name wrote, if it succeeded. For `check` that is the output that
+-- accepts a certificate, or a share of one.
 pub record IsSuccess (words : List (List ℕ)) (input : Option (List ℕ)) (out : Writer) : Type 0 where
   pub known : IsTrue (is_command (command_of words))
   pub fight : command_of words ≡ codes "fight" → WritesFightIn input out ⊎ WritesSomeDuel out

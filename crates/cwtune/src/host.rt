@@ -35,7 +35,7 @@ pub(crate) struct Host<'a, F: Files, T: Witness, V: Write> {
 }
 
 impl<F: Files, T: Witness, V: Write> Host<'_, F, T, V> {
-    // Checks rules.
+    // Returns the rules, or refuses the first that is out of its limits.
     pub(crate) fn rules(&mut self, raw: RawRules) -> Result<Rules, Ending>
         ensures rules { IfOk result (λ r. r ≡ rules_given raw) }
         ensures ending { IfErr result (λ e. e ≢ Ending.Misused) }
@@ -55,7 +55,7 @@ impl<F: Files, T: Witness, V: Write> Host<'_, F, T, V> {
         }
     }
 
-    // Reads files in order.
+    // Stops at the first file that cannot be read, so that this one is named.
     pub(crate) fn read_all(&mut self, names: &[&str]) -> Result<Vec<Vec<u8>>, Ending>
         ensures { IfErr result (λ e. e ≡ Ending.Failed) }
     {
@@ -120,8 +120,7 @@ impl<F: Files, T: Witness, V: Write> Host<'_, F, T, V> {
         self.refuse(&Refused::Tuning { words, texts }, fault)
     }
 
-    // Writes the line of the fault of a fight of two texts, with the file of the text that does not
-    // assemble.
+    // Writes the line of a duel's fault. If a text does not assemble, the line names its file.
     pub(crate) fn refuse_duel(
         &mut self,
         words: &DuelWords<'_>,
@@ -213,8 +212,8 @@ impl<F: Files, T: Witness, V: Write> Host<'_, F, T, V> {
         Ending::Misused
     }
 
-    // Ends the work on the files of a tuning, after the last byte of the certificate and of the
-    // report. `beside` is the name of CERT.inputs.
+    // Writes CERT.inputs, whose name is `beside`, if CERT has its new text; says what was found if
+    // CERT is lost. Called after the report, and also if the tuning was refused or has failed.
     pub(crate) fn end_files<R: Files + Drop>(
         &mut self,
         words: &TuneWords<'_>,
@@ -246,7 +245,7 @@ impl<F: Files, T: Witness, V: Write> Host<'_, F, T, V> {
         file.digested()
     }
 
-    // Writes CERT.inputs, whose name is `name`.
+    // Writes CERT.inputs to `name`. If that fails, only the witness says so: the ending stays.
     fn write_inputs(
         &mut self,
         words: &TuneWords<'_>,

@@ -18,7 +18,7 @@ use rc_instr::Outlet;
 use std::io::{IsTerminal, Read, Write};
 use std::process::ExitCode;
 use std::{env, io};
-use telling::progress_line::{Progress, Style};
+use telling::progress::{Progress, Style};
 use telling::tell;
 use words::command_word::asks_for_fight;
 use words::options::is_given;
@@ -69,7 +69,7 @@ fn run<R: Read, W: Write, V: Write>(
     program::watched_program(host, words, input, out)
 }
 
-// Says at a terminal what is read from it.
+// Says at a terminal that a fight text is read: else the program would seem to hang.
 fn invite(rt: &HostRuntime, words: &[String], at_terminal: bool) {
     if at_terminal && rt.stdin().is_terminal() && asks_for_fight(words) {
         let mut err = Outlet::new(rt.stderr());

@@ -43,9 +43,9 @@ use tune_runs::RunFault;
 ///   `--floor` it writes the lines of the judgement.
 /// - `--help`, `help`: writes the help text. `--version`: writes the version.
 ///
-/// A text may have at most 1073741824 bytes. Writes to standard error a line `refused: ..` for an
-/// input that is refused, `error: ..` for a usage error, or `failed: ..` with status 3. If that
-/// write fails, nothing else changes. The outlet `out` must not have failed.
+/// A text may have at most 1073741824 bytes. Writes to `err` a line `refused: ..` for an input that
+/// is refused, `error: ..` for a usage error, or `failed: ..` with status 3. If that write fails,
+/// nothing else changes. The outlet `out` must not have failed.
 pub fn program<F: Files, R: Read, W: Write, V: Write>(
     rt: &F,
     alloc: Global,

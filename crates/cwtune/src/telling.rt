@@ -11,7 +11,7 @@ pub(crate) mod limits;
 pub(crate) mod line;
 pub(crate) mod names_in;
 pub(crate) mod notes;
-pub(crate) mod progress_line;
+pub(crate) mod progress;
 pub(crate) mod range_line;
 pub(crate) mod refusal;
 pub(crate) mod witness;
@@ -36,28 +36,29 @@ pub(crate) fn tell<V: Write>(err: &mut Outlet<V>, parts: &[&str]) {
     }
 }
 
-// Writes bytes that need not be text.
+// Writes bytes that need not be UTF-8.
 pub(crate) fn tell_bytes<V: Write>(err: &mut Outlet<V>, bytes: &[u8]) {
     if !err.failed() {
         let _ = err.write_all(bytes);
     }
 }
 
-// Writes what is limited, and the greatest value.
-pub(crate) fn tell_most<V: Write>(err: &mut Outlet<V>, what: &str, most: u64) {
+// Writes the explanation `WHAT MOST`, as in `indices of settings are 0 to 118`.
+pub(crate) fn tell_greatest<V: Write>(err: &mut Outlet<V>, what: &str, most: u64) {
     let mut buffer = Buffer::new();
     let number = buffer.format(most);
     tell(err, &["  ", what, " ", number, "\n"]);
 }
 
 // Writes a limit, and the number that breaks it.
-pub(crate) fn tell_broken<V: Write>(err: &mut Outlet<V>, limit: &str, number: u64) {
+pub(crate) fn tell_broken_limit<V: Write>(err: &mut Outlet<V>, limit: &str, number: u64) {
     let mut buffer = Buffer::new();
     let number = buffer.format(number);
     tell(err, &["  ", limit, ", not ", number, "\n"]);
 }
 
-// Writes a name and what the system said of it. Out of memory has been said before.
+// Writes a name and what the system said of it, or nothing if memory ran out: `fail` has said that
+// already, and CERT.inputs is left out without a word.
 pub(crate) fn tell_error<V: Write>(
     err: &mut Outlet<V>,
     alloc: Global,
@@ -72,8 +73,8 @@ pub(crate) fn tell_error<V: Write>(
     }
 }
 
-// Writes a fault in words, as its type has them.
-pub(crate) fn tell_reason<V: Write, D: Display + Drop>(
+// Writes an explanation: what `Display` says of a fault.
+pub(crate) fn tell_fault<V: Write, D: Display + Drop>(
     err: &mut Outlet<V>,
     alloc: Global,
     fault: D,
@@ -83,8 +84,8 @@ pub(crate) fn tell_reason<V: Write, D: Display + Drop>(
     }
 }
 
-// Writes a line.
-pub(crate) fn tell_line<V: Write>(err: &mut Outlet<V>, line: &str) {
+// Writes a line of an explanation.
+pub(crate) fn tell_explanation<V: Write>(err: &mut Outlet<V>, line: &str) {
     tell(err, &["  ", line, "\n"]);
 }
 
@@ -101,7 +102,8 @@ pub(crate) fn tell_source<V: Write>(err: &mut Outlet<V>, file: &str, text: &[u8]
     tell(err, &["\n"]);
 }
 
-// Writes the line of record `row` of a table, from 0. An empty line is not a record.
+// Writes the line at which record `row` of a schedule, from 0, begins. An empty line is not a
+// record. A line end in quotes is a fault, so no record before the one at fault has any.
 pub(crate) fn tell_record<V: Write>(err: &mut Outlet<V>, file: &str, text: &[u8], row: u64) {
     let mut number: u64 = 0;
     let mut left = row;

@@ -1,5 +1,5 @@
-//! The file CERT of a tuning: a file that is not a certificate is not overwritten, and a
-//! certificate is replaced whole or not at all.
+//! The file CERT of a tuning: a text that is not a certificate is not overwritten, and a regular
+//! file is replaced whole or not at all.
 ghost use Rattle.std.specs.Prelude.{◌≡◌, ◌↔◌, ◌≤◌, length, IfOk, IfSome, IsTrue, IsErrOf};
 ghost use Rattle.cwtune.specs.CertFile.{BeginsAsCert, names_twice};
 
@@ -179,7 +179,7 @@ fn open_other<'a, R: Files + Copy>(
     }
 }
 
-// Opens CERT, which is empty, a certificate, or not there.
+// Opens CERT after `check_old`: it is empty, a certificate, not a regular file, or not there.
 fn open_checked<R: Files + Copy>(rt: R, alloc: Global, name: &str) -> io::Result<CertFile<R>> {
     match fs::metadata(&rt, name) {
         Ok(found) => open_found(rt, alloc, name, &found),
@@ -191,7 +191,8 @@ fn open_checked<R: Files + Copy>(rt: R, alloc: Global, name: &str) -> io::Result
     }
 }
 
-// Opens CERT, which exists. A regular file that may not be written is not replaced either.
+// Opens CERT, which exists. A regular file is opened only to see that it may be written: to rename
+// another file over it needs no such permission.
 fn open_found<R: Files + Copy>(
     rt: R,
     alloc: Global,

@@ -21,7 +21,7 @@ const BEGINNING: &[u8] = b"cwtune inputs";
 // Where Linux has a link to the folder that the program runs in.
 const HERE: &str = "/proc/self/cwd";
 
-// Returns the name of the file of a certificate.
+// Returns the name of CERT.inputs. `cert` is the name of the certificate.
 pub(crate) fn name_beside(alloc: Global, cert: &str) -> Result<String, AllocError> {
     format!(in alloc; "{cert}.inputs")
 }
@@ -31,7 +31,7 @@ pub(crate) fn name_beside(alloc: Global, cert: &str) -> Result<String, AllocErro
 pub(crate) enum Barred {
     // It is the file of a word.
     Named,
-    // It has a text that does not begin as the file does.
+    // It has a text that does not begin with `BEGINNING`.
     NotInputs,
     // It cannot be read.
     Unread(io::Error),
@@ -61,7 +61,8 @@ pub(crate) fn check_old<F: Files>(
     }
 }
 
-// Returns whether a word is a name of the file that was found. A word that names no file is not.
+// Returns whether a word is a name of the file that was found. A word whose file cannot be looked
+// at is not: CERT need not be there yet.
 fn is_word<F: Files>(rt: &F, words: &TuneWords<'_>, found: &Metadata) -> bool {
     let names = [words.template, words.schedule, words.cert];
     let opponents = words.opponents.as_slice();
@@ -86,7 +87,7 @@ pub(crate) struct Tuning<'a> {
     pub(crate) method: Method,
 }
 
-// Writes the file of a certificate, or removes an old one if that fails.
+// Writes CERT.inputs. If that fails, removes an older one, which is of another certificate.
 pub(crate) fn write_inputs<R: Files + Copy>(
     rt: R,
     alloc: Global,
@@ -124,7 +125,7 @@ fn is_file<F: Files>(rt: &F, name: &str) -> bool {
     }
 }
 
-// Returns the permissions of a regular file, or `None` if there is no file.
+// Returns the permissions of a regular file, or `None` if none is found. Fails for any other.
 fn mode_of<F: Files>(rt: &F, name: &str) -> io::Result<Option<u32>> {
     match fs::metadata(rt, name) {
         Ok(found) if found.is_file() => Ok(Some(found.mode())),
@@ -148,7 +149,7 @@ fn inputs_text<F: Files>(
     Ok(text)
 }
 
-// Adds the lines of the program, the rules, the part and the method.
+// Adds the first line, and those of the program, the rules, the part and the method.
 fn add_run(alloc: Global, text: &mut Vec<u8>, tuning: &Tuning<'_>) -> io::Result<()> {
     add_line(text, "cwtune inputs", "1")?;
     add_line(text, "program", VERSION)?;
@@ -217,7 +218,7 @@ fn add_digest(
     add_line(text, word, line.as_str())
 }
 
-// Adds the line `WORD SAID`. Fails if `said` has a line feed.
+// Adds the line `WORD SAID`. Fails if `said` has a line feed, as a file's name may.
 fn add_line(text: &mut Vec<u8>, word: &str, said: &str) -> io::Result<()> {
     if said.as_bytes().contains(&b'\n') {
         return Err(io::Error::from(io::ErrorKind::InvalidInput));

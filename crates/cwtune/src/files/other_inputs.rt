@@ -27,7 +27,7 @@ pub(crate) fn differences<F: Files>(
         texts,
         demand,
         lines: Vec::new(alloc),
-        opponents: 0,
+        compared: 0,
     };
     match read_file(rt, alloc, name.as_str()) {
         Ok(text) => comparison.compare(name.as_str(), text.as_slice(), cert)?,
@@ -44,8 +44,8 @@ struct Comparison<'a> {
     texts: &'a TuneTexts<'a>,
     demand: Demand,
     lines: Vec<String>,
-    // The opponents of the tuning that were compared so far.
-    opponents: usize,
+    // How many opponents of the tuning were compared so far.
+    compared: usize,
 }
 
 impl Comparison<'_> {
@@ -104,7 +104,7 @@ impl Comparison<'_> {
         self.add(line)
     }
 
-    // Compares a text with the size and the digest of one of the tuning.
+    // Compares a text with what CERT.inputs says of the tuning's: size and digest, then a name.
     fn compare_text(
         &mut self,
         said: &str,
@@ -122,8 +122,8 @@ impl Comparison<'_> {
 
     // Compares the next opponent.
     fn compare_opponent(&mut self, said: &str) -> Result<(), AllocError> {
-        let index = self.opponents;
-        self.opponents = index.saturating_add(1);
+        let index = self.compared;
+        self.compared = index.saturating_add(1);
         match (
             self.words.opponents.get(index),
             self.texts.opponents.get(index),
@@ -136,10 +136,10 @@ impl Comparison<'_> {
         }
     }
 
-    // Compares the numbers of opponents, and says if nothing differs.
+    // Compares how many opponents there are. If nothing has differed, says that.
     fn end(&mut self) -> Result<(), AllocError> {
         let count = self.texts.opponents.len();
-        let tuned = self.opponents;
+        let tuned = self.compared;
         if tuned != count {
             let line = format!(in self.alloc;
                 "the tuning had {tuned} opponents, and this check has {count}"

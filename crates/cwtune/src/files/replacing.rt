@@ -30,7 +30,8 @@ pub(crate) struct Replacement<R: Files> {
 }
 
 // Finds the file that `name` leads to, and tries to make a file beside it, which is removed again.
-// `mode` is the permissions of the file, if there is one. No file has the empty name.
+// `mode` is the permissions of the file, if there is one. Refuses the empty name, under which a
+// file beside it could be made, and not be renamed.
 pub(crate) fn replacement_at<R: Files + Copy>(
     rt: R,
     alloc: Global,
@@ -53,7 +54,7 @@ pub(crate) fn replacement_at<R: Files + Copy>(
 
 impl<R: Files> Replacement<R> {
     // Writes a piece of the text to the unfinished file, which the first piece makes. If that
-    // fails, removes it.
+    // fails, removes it, and must not be called again: it would begin a new file.
     pub(crate) fn write(&mut self, piece: &[u8]) -> io::Result<()> {
         let mut file = match self.file.take() {
             Some(file) => file,
@@ -146,7 +147,7 @@ fn is_unused<F: Files>(rt: &F, name: &str, mode: Option<u32>) -> io::Result<bool
     Ok(true)
 }
 
-// Makes a file where there is none, with these permissions. If that fails, there is none.
+// Makes a new file, with these permissions. If that fails, removes what it has made.
 fn create<F: Files>(rt: &F, name: &str, mode: Option<u32>) -> io::Result<F::File> {
     let mut how = OpenOptions::new();
     how.write(true).create_new(true);

@@ -50,7 +50,7 @@ pub(crate) fn tell_cert_fault<V: Write>(err: &mut Outlet<V>, reason: &str, name:
     tell(err, &["error: CERT ", reason, " ", name, "\n"]);
 }
 
-// What `write!` writes to: each piece of text goes on at once.
+// What `write!` writes to: each piece goes to `err` at once, so that none is kept in memory.
 #[derive(Drop)]
 struct Teller<'a, V: Write> {
     err: &'a mut Outlet<V>,

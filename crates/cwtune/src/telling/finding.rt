@@ -14,8 +14,9 @@ use tune_template::Span;
 pub(crate) struct Finding {
     alloc: Global,
     best: Option<Best>,
-    // The total of the start setting once it has played, if the inputs have it.
-    start: Option<u32>,
+    // The total of START, once it has played: none if the part lacks it, or if it is below the
+    // floor. In a check only if the certificate names START as the best.
+    start_total: Option<u32>,
     start_index: u32,
     // Whether the part has the start setting of the template.
     has_start: bool,
@@ -27,7 +28,7 @@ impl Finding {
         Finding {
             alloc,
             best: None,
-            start: None,
+            start_total: None,
             start_index: 0,
             has_start: false,
             constants: None,
@@ -47,7 +48,7 @@ impl Finding {
         self.best = standing.best;
         if let Some(best) = standing.best {
             if standing.settings == 1 && self.has_start && best.vector == self.start_index {
-                self.start = Some(best.total);
+                self.start_total = Some(best.total);
             }
         }
     }
@@ -68,7 +69,7 @@ impl Finding {
         }
         tell(err, &[", "]);
         self.tell_best(err);
-        if let Some(total) = self.start {
+        if let Some(total) = self.start_total {
             tell(err, &[", START ", Buffer::new().format(total)]);
         }
     }

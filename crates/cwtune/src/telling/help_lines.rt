@@ -37,8 +37,8 @@ pub(crate) fn tell_help<V: Write>(
     }
 }
 
-// Returns whether pMARS may take a text that is refused here, so that its listing helps. The
-// listing of a template has no constants.
+// Returns whether pMARS may take a text with this fault, so that its listing helps. `tell_help`
+// leaves out templates: their listings have no constants.
 fn is_in_listings(kind: AsmKind) -> bool {
     match kind {
         AsmKind::Expand(ExpandKind::Text(fault)) => fault == LexFault::NumberTooLarge,

@@ -3,7 +3,8 @@
 use crate::telling::help_lines::tell_help;
 use crate::telling::range_line::{tell_bad_range, tell_neighbours};
 use crate::telling::{
-    line_at, records_in, tell, tell_broken, tell_most, tell_reason, tell_record, tell_source,
+    line_at, records_in, tell, tell_broken_limit, tell_fault, tell_greatest, tell_record,
+    tell_source,
 };
 use crate::words::command_line::TuneWords;
 use itoa::Buffer;
@@ -18,7 +19,7 @@ use tune_template::{Template, TemplateFault, TemplateKind};
 
 // Writes the limit that raw rules break, and the number that breaks it.
 pub(crate) fn tell_rules<V: Write>(err: &mut Outlet<V>, raw: RawRules, error: RulesError) {
-    tell_broken(err, rules_limit(error), u64::from(rules_number(raw, error)));
+    tell_broken_limit(err, rules_limit(error), u64::from(rules_number(raw, error)));
 }
 
 fn rules_limit(error: RulesError) -> &'static str {
@@ -57,8 +58,8 @@ pub(crate) fn tell_asm<V: Write>(
             let most = buffer.format(rules.length());
             tell(err, &["  a warrior has at most ", most, " instructions\n"]);
         }
-        AsmKind::TextTooLong => tell_bytes_of(err, text),
-        kind => tell_reason(err, alloc, kind),
+        AsmKind::TextTooLong => tell_text_length(err, text),
+        kind => tell_fault(err, alloc, kind),
     }
     if fault.kind == AsmKind::Expand(ExpandKind::DuplicateName) {
         tell(err, &["  a word that is not an opcode is a label\n"]);
@@ -68,8 +69,8 @@ pub(crate) fn tell_asm<V: Write>(
 }
 
 // Writes how long a text may be, and how long this one is.
-fn tell_bytes_of<V: Write>(err: &mut Outlet<V>, text: &[u8]) {
-    tell_broken(err, "a text has at most 65536 bytes", text.len() as u64);
+fn tell_text_length<V: Write>(err: &mut Outlet<V>, text: &[u8]) {
+    tell_broken_limit(err, "a text has at most 65536 bytes", text.len() as u64);
 }
 
 // Writes the line of a template that is at fault, and why.
@@ -91,13 +92,17 @@ pub(crate) fn tell_template<V: Write>(
             tell_bad_range(err, line);
         }
         TemplateKind::StartOutside => {
-            tell_reason(err, alloc, fault.kind);
+            tell_fault(err, alloc, fault.kind);
             tell_neighbours(err, line);
         }
-        TemplateKind::TooManyConstants => tell_broken(err, "a template has at most 8 constants", 9),
+        TemplateKind::TooManyConstants => tell_broken_limit(
+            err,
+            "a template has at most 8 constants",
+            9,
+        ),
         TemplateKind::TooManyVectors => tell_settings(err, settings_up_to(alloc, text, fault.line)),
-        TemplateKind::TextTooLong => tell_bytes_of(err, text),
-        kind => tell_reason(err, alloc, kind),
+        TemplateKind::TextTooLong => tell_text_length(err, text),
+        kind => tell_fault(err, alloc, kind),
     }
 }
 
@@ -139,7 +144,7 @@ pub(crate) fn tell_schedule<V: Write>(
     match fault.kind {
         ScheduleFaultKind::BadPosition => tell_positions(err, texts.rules),
         ScheduleFaultKind::NoSuchOpponent => {
-            tell_most(
+            tell_greatest(
                 err,
                 "indices of opponents are 0 to",
                 (words.opponents.len() as u64).saturating_sub(1),
@@ -147,9 +152,9 @@ pub(crate) fn tell_schedule<V: Write>(
         }
         ScheduleFaultKind::TooMany => {
             let fights = records_in(texts.schedule).saturating_sub(1);
-            tell_broken(err, "a schedule has at most 10000 fights", fights);
+            tell_broken_limit(err, "a schedule has at most 10000 fights", fights);
         }
-        kind => tell_reason(err, alloc, kind),
+        kind => tell_fault(err, alloc, kind),
     }
 }
 

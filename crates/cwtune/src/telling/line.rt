@@ -74,7 +74,7 @@ impl<'a> Line<'a> {
         self.position(name) == Some(0)
     }
 
-    // Returns whether a name follows a word.
+    // Returns whether a free name comes anywhere after the first `word`.
     pub(crate) fn has_name_after(&self, word: &[u8]) -> bool {
         match self.position(word) {
             Some(index) => self
@@ -120,7 +120,7 @@ pub(crate) fn bad_byte(line: &[u8]) -> Option<(usize, u8)> {
     None
 }
 
-// Returns the first byte from `start` on that is not a blank, after its column.
+// Returns the column, from 1, and the value of the first byte from `start` on that is no blank.
 fn first_from(line: &[u8], start: usize) -> Option<(usize, u8)> {
     let mut column = start;
     for byte in line.iter().skip(start) {

@@ -1,4 +1,5 @@
-//! The names of a text: where one is defined, and which one of a line has no value.
+//! The names of a text: where one is defined, and which one of a line has no value. Header, END and
+//! dropped blocks are not heeded, so an explanation may be missing, or show another line.
 
 use crate::telling::line::{Line, line_of};
 use rc_text::{NameClass, is_blank, is_reserved_name, is_same_word, name_class};
@@ -133,7 +134,7 @@ fn meaning_before(word: &[u8]) -> Meaning {
 }
 
 // Returns the first name of a line that the text gives no value, also one in the text of an EQU
-// name. Joined names are not looked into.
+// name. A line with `&` is not looked into, since its names may be joined.
 pub(crate) fn unknown_name<'a>(alloc: Global, text: &'a [u8], line: &'a [u8]) -> Option<&'a [u8]> {
     let mut lines = Vec::new(alloc);
     let _ = lines.push(line);
@@ -149,8 +150,8 @@ pub(crate) fn unknown_name<'a>(alloc: Global, text: &'a [u8], line: &'a [u8]) ->
     None
 }
 
-// Returns the first name of a line without a value, and adds the lines of its EQU names. In such a
-// line, which is in no block, a counter has no value.
+// Returns the first name of a line without a value, and adds the lines of its EQU names to `lines`.
+// An EQU line (`is_equ`) is in no block, so a counter has no value in it.
 fn unknown_in<'a>(
     alloc: Global,
     text: &'a [u8],

@@ -72,8 +72,8 @@ fn why_lost(line: &[u8]) -> &'static str {
     }
 }
 
-// Returns whether a line that is not a range line has a comment that begins as one does: after a
-// byte order mark or something else, or in other letters.
+// Returns whether a line that is not a range line has a comment whose first word is `@tune`, in
+// capital or small letters.
 fn has_lost_range(line: &[u8]) -> bool {
     if is_range_line(line) {
         return false;
@@ -113,8 +113,8 @@ pub(crate) fn tell_unused<V: Write>(err: &mut Outlet<V>, file: &str, template: &
     }
 }
 
-// Returns whether a name is a token of a text. Returns true if the text has a fault: it does not
-// assemble, and a note would mislead.
+// Returns whether a name is a token of a text, also after END. Returns true if a token is at
+// fault: most such texts do not assemble, and a note would mislead.
 fn is_token(text: &[u8], name: &[u8]) -> bool {
     let mut lexer = Lexer::new(text);
     for _token in 0..text.len() {

@@ -100,7 +100,7 @@ fn neighbours(range: &Range<'_>) -> Option<(Option<i64>, Option<i64>)> {
     Some((Some(below), Some(below.saturating_add(step))))
 }
 
-// Returns the greatest of LOW, LOW + STEP .. up to a number.
+// Returns the greatest of LOW, LOW + STEP .. that is at most `most`. `None` if STEP is 0.
 fn value_up_to(low: i64, step: i64, most: i64) -> Option<i64> {
     let over = most.saturating_sub(low).checked_rem(step)?;
     Some(most.saturating_sub(over))

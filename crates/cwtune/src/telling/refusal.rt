@@ -2,7 +2,7 @@
 
 use crate::telling::fault_line::tell_asm_names;
 use crate::telling::limits::{tell_asm, tell_positions, tell_rules, tell_schedule, tell_template};
-use crate::telling::{tell, tell_broken, tell_most};
+use crate::telling::{tell, tell_broken_limit, tell_greatest};
 use crate::words::command_line::{DuelWords, TuneWords};
 use rc_asm::AsmFault;
 use rc_instr::{Outlet, Rules};
@@ -77,7 +77,7 @@ fn explain_template<V: Write>(
         RunFault::Template(fault) => tell_template(err, alloc, file, text, fault),
         RunFault::NoSuchSetting { index: _ } => {
             if let Ok(template) = Template::read(alloc, text) {
-                tell_most(
+                tell_greatest(
                     err,
                     "indices of settings are 0 to",
                     u64::from(template.count() - 1),
@@ -119,7 +119,7 @@ fn explain_tuning<V: Write>(
     match fault {
         RunFault::TooManyOpponents => {
             let count = words.opponents.len() as u64;
-            tell_broken(err, "opponents are at most 64", count);
+            tell_broken_limit(err, "opponents are at most 64", count);
         }
         RunFault::Template(fault) => {
             tell_template(err, alloc, words.template, texts.template, fault);

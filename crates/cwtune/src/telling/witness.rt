@@ -23,7 +23,7 @@ pub(crate) trait Witness: Watcher {
     // Called before `settings` or `asm --setting` runs over a template.
     fn before_template(&mut self, alloc: Global, file: &str, text: &[u8]);
 
-    // Called after a run failed and the line of its fault was written.
+    // Called after the line of a run's fault was written.
     fn after_fault(&mut self, alloc: Global, refused: &Refused<'_>, fault: RunFault);
 
     // Called after a certificate was rejected, with what is known of its inputs.

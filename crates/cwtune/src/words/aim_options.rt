@@ -16,11 +16,12 @@ pub(crate) fn keep_option<'a>(alloc: Global, help: &'a str) -> Arg<'a> {
     ranged_arg(alloc, "keep", limits::MOST_KEPT, help)
 }
 
-// Returns what a tuning, or a check, is asked for beside the optimum.
-pub(crate) fn demand_of<'a>(found: &ArgMatches<'a>) -> Result<Demand, BadValue<'a>> {
+// Returns what a tuning, or a check, is asked for beside the optimum. `CHECK_FLOOR` reads the
+// `--floor` of both.
+pub(crate) fn demand_of<'a>(matches: &ArgMatches<'a>) -> Result<Demand, BadValue<'a>> {
     Ok(Demand {
-        keep: kept_asked(found.get_one::<u32>("keep")),
-        floor: CHECK_FLOOR.value_in(found)?,
+        keep: kept_asked(matches.get_one::<u32>("keep")),
+        floor: CHECK_FLOOR.value_in(matches)?,
     })
 }
 

@@ -32,7 +32,7 @@ fn top_command<'a>(alloc: Global) -> Result<Command<'a>, AllocError> {
     Ok(command)
 }
 
-// Makes the commands. `fight` is the command of that name.
+// Makes `cwtune` with its commands. `fight` is made by `duel_command` or by `fight_command`.
 pub(crate) fn commands<'a>(alloc: Global, fight: Command<'a>) -> Result<Command<'a>, AllocError> {
     top_command(alloc)?
         .subcommand(fight)?
@@ -50,7 +50,8 @@ pub(crate) fn fight_command<'a>(alloc: Global) -> Result<Command<'a>, AllocError
         .arg(explain_option(alloc))
 }
 
-// Makes the command `fight` with two files.
+// Makes the command `fight` with two files. They are not required: `fight_request` sees to words
+// with one file or none.
 pub(crate) fn duel_command<'a>(alloc: Global) -> Result<Command<'a>, AllocError> {
     let candidate = "Redcode source of the candidate, at address 0";
     let opponent = "Redcode source of the opponent";
@@ -61,8 +62,8 @@ pub(crate) fn duel_command<'a>(alloc: Global) -> Result<Command<'a>, AllocError>
         .value_parser(ValueParser::Names(&SIDES))
         .help("Who moves first, the candidate or the opponent [default: c]");
     let command = fight_command(alloc)?
-        .arg(file(alloc, "CANDIDATE", candidate).required(false))?
-        .arg(file(alloc, "OPPONENT", opponent).required(false))?
+        .arg(file_arg(alloc, "CANDIDATE", candidate).required(false))?
+        .arg(file_arg(alloc, "OPPONENT", opponent).required(false))?
         .arg(POSITION.arg(alloc))?
         .arg(first)?;
     with_rules(alloc, command)
@@ -81,17 +82,17 @@ pub(crate) fn asm_command<'a>(alloc: Global) -> Result<Command<'a>, AllocError> 
     with_rules(alloc, command)
 }
 
-fn file<'a>(alloc: Global, name: &'a str, help: &'a str) -> Arg<'a> {
+fn file_arg<'a>(alloc: Global, name: &'a str, help: &'a str) -> Arg<'a> {
     Arg::new(alloc, name)
         .required(true)
         .action(ArgAction::Set)
         .help(help)
 }
 
-fn template<'a>(alloc: Global) -> Arg<'a> {
+fn template_arg<'a>(alloc: Global) -> Arg<'a> {
     let help =
         "Redcode source with lines `;@tune NAME LOW HIGH STEP START`, one for each open constant";
-    file(alloc, "TEMPLATE", help)
+    file_arg(alloc, "TEMPLATE", help)
 }
 
 fn settings_command<'a>(alloc: Global) -> Result<Command<'a>, AllocError> {
@@ -99,11 +100,11 @@ fn settings_command<'a>(alloc: Global) -> Result<Command<'a>, AllocError> {
         .about(
             "Print the number of settings of a template, and the name, number of values and START of each constant",
         )
-        .arg(template(alloc))?
+        .arg(template_arg(alloc))?
         .arg(explain_option(alloc))
 }
 
-// Adds the files of a tuning and the options of the rules. `cert` is the help for CERT.
+// Adds the files and the options that `tune` and `check` share. `cert` is the help for CERT.
 fn with_files<'a>(
     alloc: Global,
     command: Command<'a>,
@@ -112,7 +113,7 @@ fn with_files<'a>(
     let schedule =
         "Table of fights: the line `opponent,position,first`, then one such as `0,4000,c` for each; \
          with weights, `opponent,position,first,weight` and `0,4000,c,5`";
-    let opponents = file(
+    let opponents = file_arg(
         alloc,
         "OPPONENT",
         "Redcode sources of the opponents, at most 64; the schedule counts them from 0",
@@ -120,9 +121,9 @@ fn with_files<'a>(
     .num_args(1..)
     .action(ArgAction::Append);
     let command = command
-        .arg(template(alloc))?
-        .arg(file(alloc, "SCHEDULE", schedule))?
-        .arg(file(alloc, "CERT", cert))?
+        .arg(template_arg(alloc))?
+        .arg(file_arg(alloc, "SCHEDULE", schedule))?
+        .arg(file_arg(alloc, "CERT", cert))?
         .arg(opponents)?
         .arg(part_option(alloc))?
         .arg(progress_option(alloc))?

@@ -91,21 +91,22 @@ pub(crate) fn request_of<'a>(alloc: Global, words: &'a [String]) -> Result<Reque
 }
 
 fn parsed_request<'a>(alloc: Global, words: &'a [String]) -> Result<Request<'a>, Error> {
-    let matches = commands(alloc, duel_command(alloc)?)?.try_get_matches_from(words)?;
-    match matches.subcommand() {
-        Some(("fight", found)) => fight_request(alloc, words, found),
-        Some(("asm", found)) => asm_request(alloc, found),
-        Some(("settings", found)) => Ok(Request::Settings {
+    let parsed = commands(alloc, duel_command(alloc)?)?.try_get_matches_from(words)?;
+    match parsed.subcommand() {
+        Some(("fight", matches)) => fight_request(alloc, words, matches),
+        Some(("asm", matches)) => asm_request(alloc, matches),
+        Some(("settings", matches)) => Ok(Request::Settings {
             // `clap` requires the file.
-            file: found.get_str("TEMPLATE").unwrap_or(""),
+            file: matches.get_str("TEMPLATE").unwrap_or(""),
         }),
-        Some(("tune", found)) => tune_request(alloc, found),
-        Some(("check", found)) => check_request(alloc, found),
+        Some(("tune", matches)) => tune_request(alloc, matches),
+        Some(("check", matches)) => check_request(alloc, matches),
         _ => Ok(Request::Fight),
     }
 }
 
-// Fails with the help of a command, or with that of the program for the empty word.
+// Fails with the help of a command, or with that of the program for the empty word. `clap` gets no
+// other words, so that it refuses none of them.
 fn give_help(alloc: Global, command: &str) -> Result<(), Error> {
     let mut words = Vec::new(alloc);
     if !command.is_empty() {
@@ -119,21 +120,21 @@ fn give_help(alloc: Global, command: &str) -> Result<(), Error> {
 fn fight_request<'a>(
     alloc: Global,
     words: &'a [String],
-    found: &ArgMatches<'a>,
+    matches: &ArgMatches<'a>,
 ) -> Result<Request<'a>, Error> {
-    let Some(candidate) = found.get_str("CANDIDATE") else {
+    let Some(candidate) = matches.get_str("CANDIDATE") else {
         return request_without_files(alloc, words);
     };
-    let Some(opponent) = found.get_str("OPPONENT") else {
+    let Some(opponent) = matches.get_str("OPPONENT") else {
         return Err(one_file(duel_command(alloc)?)?);
     };
-    match fight_numbers(found) {
+    match fight_numbers(matches) {
         Ok((rules, position)) => Ok(Request::Duel(DuelWords {
             rules,
             candidate,
             opponent,
             position,
-            first: side_of(found.get_str("first")),
+            first: side_of(matches.get_str("first")),
         })),
         Err(bad) => Err(bad_value(alloc, bad, duel_command(alloc)?, "cwtune fight")?),
     }
@@ -154,33 +155,33 @@ fn side_of(word: Option<&str>) -> Side {
     }
 }
 
-fn asm_request<'a>(alloc: Global, found: &ArgMatches<'a>) -> Result<Request<'a>, Error> {
-    match asm_options(found) {
+fn asm_request<'a>(alloc: Global, matches: &ArgMatches<'a>) -> Result<Request<'a>, Error> {
+    match asm_options(matches) {
         Ok((rules, setting)) => Ok(Request::Asm(AsmWords {
             rules,
             // `clap` requires the file.
-            file: found.get_str("FILE").unwrap_or(""),
+            file: matches.get_str("FILE").unwrap_or(""),
             setting,
         })),
         Err(bad) => Err(bad_value(alloc, bad, asm_command(alloc)?, "cwtune asm")?),
     }
 }
 
-fn tune_request<'a>(alloc: Global, found: &ArgMatches<'a>) -> Result<Request<'a>, Error> {
-    match tune_options(found) {
+fn tune_request<'a>(alloc: Global, matches: &ArgMatches<'a>) -> Result<Request<'a>, Error> {
+    match tune_options(matches) {
         Ok((rules, part, demand)) => Ok(Request::Tune {
-            words: tune_words(alloc, found, rules, part)?,
-            method: method_words(found),
+            words: tune_words(alloc, matches, rules, part)?,
+            method: method_words(matches),
             demand,
         }),
         Err(bad) => Err(bad_value(alloc, bad, tune_command(alloc)?, "cwtune tune")?),
     }
 }
 
-fn check_request<'a>(alloc: Global, found: &ArgMatches<'a>) -> Result<Request<'a>, Error> {
-    match check_options(found) {
+fn check_request<'a>(alloc: Global, matches: &ArgMatches<'a>) -> Result<Request<'a>, Error> {
+    match check_options(matches) {
         Ok((rules, part, share, demand)) => Ok(Request::Check {
-            words: tune_words(alloc, found, rules, part)?,
+            words: tune_words(alloc, matches, rules, part)?,
             share,
             demand,
         }),
@@ -191,19 +192,19 @@ fn check_request<'a>(alloc: Global, found: &ArgMatches<'a>) -> Result<Request<'a
 // `clap` requires each of the files, so the empty names are never used.
 fn tune_words<'a>(
     alloc: Global,
-    found: &ArgMatches<'a>,
+    matches: &ArgMatches<'a>,
     rules: RawRules,
     part: Part,
 ) -> Result<TuneWords<'a>, AllocError> {
     let mut opponents = Vec::new(alloc);
-    if let Some(names) = found.get_strs("OPPONENT") {
+    if let Some(names) = matches.get_strs("OPPONENT") {
         opponents.extend_from_slice(names)?;
     }
     Ok(TuneWords {
         rules,
-        template: found.get_str("TEMPLATE").unwrap_or(""),
-        schedule: found.get_str("SCHEDULE").unwrap_or(""),
-        cert: found.get_str("CERT").unwrap_or(""),
+        template: matches.get_str("TEMPLATE").unwrap_or(""),
+        schedule: matches.get_str("SCHEDULE").unwrap_or(""),
+        cert: matches.get_str("CERT").unwrap_or(""),
         opponents,
         part,
     })

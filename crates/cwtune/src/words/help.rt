@@ -3,13 +3,13 @@ ghost use Rattle.std.specs.Prelude.{◌≡◌, map, IsTrue, string_bytes};
 ghost use Rattle.std.specs.List.{list_any};
 ghost use Rattle.cwtune.specs.CommandLine.{MentionsHelp, is_help_word};
 
-// The commands.
+// The commands, as `clap_commands` makes them.
 const COMMANDS: [&str; 5] = ["fight", "asm", "settings", "tune", "check"];
 
 // The options of the rules, which take a value. All commands but `settings` have them.
 const RULES: [&str; 5] = ["--core", "--cycles", "--tasks", "--length", "--distance"];
 
-// The other options that take a value, each with its command.
+// The other options that take a value, each with its command, as `clap_commands` makes them.
 const VALUED: [(&str, &str); 11] = [
     ("fight", "--position"),
     ("fight", "--first"),

@@ -35,10 +35,10 @@ pub(crate) fn all_option<'a>(alloc: Global) -> Result<Arg<'a>, AllocError> {
     Ok(all)
 }
 
-pub(crate) fn method_words(found: &ArgMatches<'_>) -> MethodWords {
+pub(crate) fn method_words(matches: &ArgMatches<'_>) -> MethodWords {
     MethodWords {
-        all: found.get_flag("all"),
-        cache: found.get_one::<u32>("cache"),
+        all: matches.get_flag("all"),
+        cache: matches.get_one::<u32>("cache"),
     }
 }
 

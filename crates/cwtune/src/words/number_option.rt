@@ -14,56 +14,56 @@ pub(crate) struct NumberOption {
     // What help says: what the number is, and its range and its default, if it has them.
     pub(crate) help: &'static str,
     // What a usage error says of a word that is not a 32-bit number.
-    pub(crate) wanted: &'static str,
+    pub(crate) why: &'static str,
 }
 
 pub(crate) const CORE: NumberOption = NumberOption {
     name: "core",
     help: "Core size in cells, 8 to 65535 [default: 8000]",
-    wanted: "a number from 8 to 65535 is wanted",
+    why: "a number from 8 to 65535 is wanted",
 };
 
 pub(crate) const CYCLES: NumberOption = NumberOption {
     name: "cycles",
     help: "Cycles until a tie, one turn per warrior each, 1 to 1000000 [default: 80000]",
-    wanted: "a number from 1 to 1000000 is wanted",
+    why: "a number from 1 to 1000000 is wanted",
 };
 
 pub(crate) const TASKS: NumberOption = NumberOption {
     name: "tasks",
     help: "Most tasks of a warrior, 1 to 8000 [default: 8000]",
-    wanted: "a number from 1 to 8000 is wanted",
+    why: "a number from 1 to 8000 is wanted",
 };
 
 pub(crate) const LENGTH: NumberOption = NumberOption {
     name: "length",
     help: "Most instructions of a warrior, 1 to 200 [default: 100]",
-    wanted: "a number from 1 to 200 is wanted",
+    why: "a number from 1 to 200 is wanted",
 };
 
 pub(crate) const DISTANCE: NumberOption = NumberOption {
     name: "distance",
     help: "Least distance between warriors in cells, from the length to half the core [default: 100]",
-    wanted: "a number from the length to half the core size is wanted",
+    why: "a number from the length to half the core size is wanted",
 };
 
 pub(crate) const POSITION: NumberOption = NumberOption {
     name: "position",
     help: "Where the opponent is loaded [default: half of the core]",
-    wanted: "a number is wanted, from the distance to the core size less it",
+    why: "a number is wanted, from the distance to the core size less it",
 };
 
 pub(crate) const TUNE_FLOOR: NumberOption = NumberOption {
     name: "floor",
     help: "Find settings that total this or more, and drop the others early [default: 0]",
-    wanted: "a number from 0 to 4294967295 is wanted",
+    why: "a number from 0 to 4294967295 is wanted",
 };
 
 // It differs from `TUNE_FLOOR` in its help alone.
 pub(crate) const CHECK_FLOOR: NumberOption = NumberOption {
     name: "floor",
     help: "Accept also a certificate that no setting totals this or more, with the line `accepted none below F`",
-    wanted: "a number from 0 to 4294967295 is wanted",
+    why: "a number from 0 to 4294967295 is wanted",
 };
 
 impl NumberOption {
@@ -73,8 +73,11 @@ impl NumberOption {
     }
 
     // Returns the number that the option is given.
-    pub(crate) fn value_in<'a>(&self, found: &ArgMatches<'a>) -> Result<Option<u32>, BadValue<'a>> {
-        let Some(word) = found.get_str(self.name) else {
+    pub(crate) fn value_in<'a>(
+        &self,
+        matches: &ArgMatches<'a>,
+    ) -> Result<Option<u32>, BadValue<'a>> {
+        let Some(word) = matches.get_str(self.name) else {
             return Ok(None);
         };
         match number_in(word) {
@@ -83,7 +86,7 @@ impl NumberOption {
                 word,
                 option: self.name,
                 value: VALUE_NAME,
-                wanted: self.wanted,
+                why: self.why,
             }),
         }
     }

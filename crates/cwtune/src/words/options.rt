@@ -85,51 +85,51 @@ fn with_defaults(given: GivenRules) -> RawRules
 }
 
 // Returns the rules of the options.
-fn rules_of<'a>(found: &ArgMatches<'a>) -> Result<RawRules, BadValue<'a>> {
+fn raw_rules_of<'a>(matches: &ArgMatches<'a>) -> Result<RawRules, BadValue<'a>> {
     Ok(with_defaults(GivenRules {
-        core: CORE.value_in(found)?,
-        cycles: CYCLES.value_in(found)?,
-        tasks: TASKS.value_in(found)?,
-        length: LENGTH.value_in(found)?,
-        distance: DISTANCE.value_in(found)?,
+        core: CORE.value_in(matches)?,
+        cycles: CYCLES.value_in(matches)?,
+        tasks: TASKS.value_in(matches)?,
+        length: LENGTH.value_in(matches)?,
+        distance: DISTANCE.value_in(matches)?,
     }))
 }
 
 // Returns the rules of a fight of two files, and the position.
 pub(crate) fn fight_numbers<'a>(
-    found: &ArgMatches<'a>,
+    matches: &ArgMatches<'a>,
 ) -> Result<(RawRules, Option<u32>), BadValue<'a>> {
-    let rules = rules_of(found)?;
-    let position = POSITION.value_in(found)?;
+    let rules = raw_rules_of(matches)?;
+    let position = POSITION.value_in(matches)?;
     Ok((rules, position))
 }
 
 // Returns the rules and the setting of an assembly.
 pub(crate) fn asm_options<'a>(
-    found: &ArgMatches<'a>,
+    matches: &ArgMatches<'a>,
 ) -> Result<(RawRules, Option<WhichSetting>), BadValue<'a>> {
-    let rules = rules_of(found)?;
-    let setting = setting_of(found)?;
+    let rules = raw_rules_of(matches)?;
+    let setting = setting_of(matches)?;
     Ok((rules, setting))
 }
 
 // Returns the rules, the part and the demand of a tuning.
 pub(crate) fn tune_options<'a>(
-    found: &ArgMatches<'a>,
+    matches: &ArgMatches<'a>,
 ) -> Result<(RawRules, Part, Demand), BadValue<'a>> {
-    let rules = rules_of(found)?;
-    let part = part_of(found)?;
-    let demand = demand_of(found)?;
+    let rules = raw_rules_of(matches)?;
+    let part = part_of(matches)?;
+    let demand = demand_of(matches)?;
     Ok((rules, part, demand))
 }
 
 // Returns the rules, the part, the share and the demand of a check.
 pub(crate) fn check_options<'a>(
-    found: &ArgMatches<'a>,
+    matches: &ArgMatches<'a>,
 ) -> Result<(RawRules, Part, Option<Share>, Demand), BadValue<'a>> {
-    let rules = rules_of(found)?;
-    let part = part_of(found)?;
-    let share = share_of(found)?;
-    let demand = demand_of(found)?;
+    let rules = raw_rules_of(matches)?;
+    let part = part_of(matches)?;
+    let share = share_of(matches)?;
+    let demand = demand_of(matches)?;
     Ok((rules, part, share, demand))
 }

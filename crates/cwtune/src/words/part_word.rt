@@ -21,15 +21,15 @@ pub(crate) fn part_option<'a>(alloc: Global) -> Arg<'a> {
 }
 
 // Returns the part that the option says, or all settings without it.
-pub(crate) fn part_of<'a>(found: &ArgMatches<'a>) -> Result<Part, BadValue<'a>> {
-    let word = found.get_str("part");
+pub(crate) fn part_of<'a>(matches: &ArgMatches<'a>) -> Result<Part, BadValue<'a>> {
+    let word = matches.get_str("part");
     match part_said(word) {
         Some(part) => Ok(part),
         None => Err(BadValue {
             word: word.unwrap_or(""),
             option: "part",
             value: "I/K",
-            wanted: "two numbers are wanted, as in 1/4, with I from 1 to K",
+            why: "two numbers are wanted, as in 1/4, with I from 1 to K",
         }),
     }
 }

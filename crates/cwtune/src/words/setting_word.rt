@@ -14,8 +14,10 @@ pub(crate) fn setting_option<'a>(alloc: Global) -> Arg<'a> {
 }
 
 // Returns the setting that the option says, or `None` without it.
-pub(crate) fn setting_of<'a>(found: &ArgMatches<'a>) -> Result<Option<WhichSetting>, BadValue<'a>> {
-    let Some(word) = found.get_str("setting") else {
+pub(crate) fn setting_of<'a>(
+    matches: &ArgMatches<'a>,
+) -> Result<Option<WhichSetting>, BadValue<'a>> {
+    let Some(word) = matches.get_str("setting") else {
         return Ok(None);
     };
     match which_setting(word) {
@@ -24,7 +26,7 @@ pub(crate) fn setting_of<'a>(found: &ArgMatches<'a>) -> Result<Option<WhichSetti
             word,
             option: "setting",
             value: "W",
-            wanted: "neither an index nor `start`",
+            why: "neither an index nor `start`",
         }),
     }
 }

@@ -22,8 +22,8 @@ pub(crate) fn share_option<'a>(alloc: Global) -> Arg<'a> {
 }
 
 // Returns the share that the option says, or `None` without it.
-pub(crate) fn share_of<'a>(found: &ArgMatches<'a>) -> Result<Option<Share>, BadValue<'a>> {
-    let Some(word) = found.get_str("share") else {
+pub(crate) fn share_of<'a>(matches: &ArgMatches<'a>) -> Result<Option<Share>, BadValue<'a>> {
+    let Some(word) = matches.get_str("share") else {
         return Ok(None);
     };
     match share_said(word) {
@@ -32,7 +32,7 @@ pub(crate) fn share_of<'a>(found: &ArgMatches<'a>) -> Result<Option<Share>, BadV
             word,
             option: "share",
             value: "I/K",
-            wanted: "two numbers are wanted, as in 1/4, with I from 1 to K",
+            why: "two numbers are wanted, as in 1/4, with I from 1 to K",
         }),
     }
 }

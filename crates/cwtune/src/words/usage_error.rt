@@ -12,7 +12,7 @@ pub(crate) struct BadValue<'a> {
     pub(crate) option: &'static str,
     pub(crate) value: &'static str,
     // What a usage error says of such a word.
-    pub(crate) wanted: &'static str,
+    pub(crate) why: &'static str,
 }
 
 // Makes the usage error of a bad value for `command`. `name` is the words that call the command.
@@ -25,8 +25,8 @@ pub(crate) fn bad_value(
     let word = bad.word;
     let option = bad.option;
     let value = bad.value;
-    let wanted = bad.wanted;
-    let message = format!(in alloc; "invalid value '{word}' for '--{option} <{value}>': {wanted}")?;
+    let why = bad.why;
+    let message = format!(in alloc; "invalid value '{word}' for '--{option} <{value}>': {why}")?;
     let mut command = command.bin_name(name)?;
     command.error(ErrorKind::ValueValidation, message.as_str())
 }

@@ -5,7 +5,7 @@ use crate::telling::finding::Finding;
 use crate::telling::notes::{tell_idle, tell_lost_ranges, tell_template_notes, tell_unused};
 use crate::telling::refusal::{Refused, explain};
 use crate::telling::witness::Witness;
-use crate::telling::{tell, tell_error, tell_line};
+use crate::telling::{tell, tell_error, tell_explanation};
 use crate::words::command_line::TuneWords;
 use itoa::Buffer;
 use rc_instr::Outlet;
@@ -220,7 +220,7 @@ impl<C: Clock, V: Write> Witness for Progress<C, V> {
         }
         tell(&mut self.err, &[OTHER_INPUTS]);
         for line in lines {
-            tell_line(&mut self.err, line.as_str());
+            tell_explanation(&mut self.err, line.as_str());
         }
     }
 
