@@ -165,20 +165,20 @@ def fields():
     flat = {"axes": ["K"], "values": [[1, 2, 3]], "totals": [5, None, 7]}
     kinds = [flat, flat | {"totals": [[5], [None], [7]]}, flat | {"totals": [[5, None, 7]]}]
     yield compare("totals of one constant", 3 * [[[5, None, 7]]],
-                  [study_map.field_of(it).totals for it in kinds])
-    field = study_map.Field(["A", "B"], [[1, 2, 3], [4, 5]], [[1, 2], [3, None], [None, None]])
+                  [study_map.read_landscape(it).totals for it in kinds])
+    field = study_map.Landscape(["A", "B"], [[1, 2, 3], [4, 5]], [[1, 2], [3, None], [None, None]])
     step, thin = study_map.thinned(field, 2)
-    yield compare("thinned", (2, [[3], [None]], [[1, 3], [4]]), (step, thin.totals, thin.values))
+    yield compare("thinned", (2, [[3], [None]], [[1, 3], [4]]), (step, thin.totals, thin.ranges))
     yield compare("places", [(1, 1), None],
-                  [field.at({"A": 2, "B": 5}), field.at({"A": 9, "B": 5})])
+                  [field.place({"A": 2, "B": 5}), field.place({"A": 9, "B": 5})])
     yield compare("shades", [0, 3, 6], [study_map.shade_of(it, 10, 80) for it in (10, 45, 80)])
 
 
 def numbers():
     """Spells numbers and texts."""
-    yield compare("escaped", "&lt;&amp;&quot;&#x27;\ufffd\n", study_page.text("<&\"'\udcff\r\n"))
+    yield compare("escaped", "&lt;&amp;&quot;&#x27;\ufffd\n", study_page.escaped("<&\"'\udcff\r\n"))
     yield compare("counts", ["–", "0", "9999", "10,000", "-20"],
-                  list(map(study_page.count, [None, 0, 9999, 10000, -20])))
+                  list(map(study_page.integer, [None, 0, 9999, 10000, -20])))
     yield compare("decimals", ["–", "–", "0.0", "-1.5", "12,345.7"],
                   list(map(study_page.decimal, [None, float("nan"), 0, -1.5, 12345.67])))
     # Of 3, 3, 1 and 0 points the variance is 2.25, and the error of the mean 0.75.
