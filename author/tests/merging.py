@@ -2,7 +2,7 @@
 import argparse, os
 from unittest import mock
 
-from author.lib.spread_jobs import Hosts
+from author.lib.spread_jobs import HostJobs
 from gate.inputs import RULES
 from gate.tally import compare
 
@@ -11,9 +11,9 @@ from .spread_place import DECOY, RANKED, SpreadPlace, write_ranked
 
 
 class FolderStub:
-    """What `Hosts` needs to know of a folder."""
+    """What `HostJobs` needs to know of a folder."""
 
-    pid, copies, AFTER, SENT, KINDS = 1, [], "", [], []
+    pid, copies, SHELL_AFTER, SENT_KINDS, RETURNED_KINDS = 1, [], "", [], []
 
     def __init__(self, path):
         self.path = path
@@ -41,9 +41,9 @@ def hosts(place):
             "others\n"), place.spread("--hosts=hosts", "--parts=3", *DECOY))
         # More numbers than the pipe takes before the stand-in ends.
         args = argparse.Namespace(hosts=place.folder / "hosts", jobs=1)
-        jobs = Hosts(args, FolderStub(place.folder), range(1, 20000))
-    while jobs.are_running():
-        jobs.ended()
+        jobs = HostJobs(args, FolderStub(place.folder), range(1, 20000))
+    while jobs.keep_running():
+        jobs.take_ended()
     yield compare("numbers that it does not read", "GNU parallel ended with status 9", jobs.fault)
 
 

@@ -112,8 +112,8 @@ def climbs(place):
     place.write("found.red", out)
     found = grid.Grid(place.folder / "found.red")
     whole = grid.Grid(TUNING / "stone.red")
-    yield compare("the template has what was found as START", (0, whole.values, True),
-                  (status, found.values, lines[-2].startswith("found: total ")))
+    yield compare("the template has what was found as START", (0, whole.ranges, True),
+                  (status, found.ranges, lines[-2].startswith("found: total ")))
     yield compare("what is said of the others", "note: no setting of a line through it has a "
                   "greater total; one elsewhere, of all 273 settings, may", lines[-1])
     total = int(lines[-2].split()[2].rstrip(","))
@@ -129,7 +129,7 @@ def climbs(place):
     place.write("box.red", boxed[1])
     box = grid.Grid(place.folder / "box.red")
     yield compare("a box is around it", (0, found.start_values, True), (
-        boxed[0], box.start_values, all(len(values) <= 5 for values in box.values)))
+        boxed[0], box.start_values, all(len(values) <= 5 for values in box.ranges)))
     place.write("large.red", LARGE)
     large = sought(place, "--fights=1", "--box=9999", template=place.folder / "large.red")
     yield compare("a box of too many settings is not cut", (

@@ -1,6 +1,6 @@
 """Plays `cwtune-warrior` and `cwtune-holdout` with the program."""
 from author.lib import tuning_files, warrior
-from author.lib.program import load_of
+from author.lib.program import assemble
 from gate.play import Place
 from gate.tally import compare
 
@@ -30,8 +30,8 @@ def other_settings(place, text, count):
     template, wrong = tuning_files.Template(path), []
     for setting in range(len(template.settings)):
         made.write_bytes(warrior.text_of(text, template, setting))
-        wanted = load_of(place.program, "--setting", str(setting), str(path))
-        came = load_of(place.program, str(made))
+        wanted = assemble(place.program, "--setting", str(setting), str(path))
+        came = assemble(place.program, str(made))
         if came != wanted or not wanted[0]:
             wrong.append(f"setting {setting}: expected {wanted}, came {came}")
     return wrong + [f"{len(template.settings)} settings"] * (len(template.settings) != count)
