@@ -39,6 +39,7 @@ class Progress:
         self.shown = line
 
     def clear(self):
+        """Clears the line at a terminal."""
         if self.shown:
             print("\r\x1b[K", end="", file=sys.stderr, flush=True)
 

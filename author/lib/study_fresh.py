@@ -5,6 +5,8 @@ until two are left; the winner is the one with the most points. Luck in these fi
 it, so it and START play a last heat of as many new fights, which picked nobody. In the folder
 `fresh/` are the load files of those that play (W.red of setting W, start.red), the schedules (H.csv
 of heat H), and the certificates (W-H.cert).
+
+The points of a player are a text for each opponent, with a digit for each fight.
 """
 import itertools, sys, time
 
@@ -44,8 +46,7 @@ class Heat:
         return self.path / f"{self.name(player)}.{kind}"
 
     def play(self, players):
-        """Plays all fights. Returns for each player the points of its fights, a text for each
-        opponent."""
+        """Plays all fights. Returns the points of each player."""
         shown = "the winner and START" if START in players else f"{len(players)} settings"
         print(f"fresh fights, heat {self.number}: {shown}, "
               f"{self.fights * len(self.study.opponents)} each", file=sys.stderr, flush=True)
@@ -60,7 +61,7 @@ class Heat:
             jobs.stop()
         for player in players:
             self.study.folder.log_command(self.words(player), "", seconds[player])
-        return {player: self.points_texts(player) for player in players}
+        return {player: self.points(player) for player in players}
 
     def refuse_failed(self, player, status):
         """Ends as the run of a player did if it has no result. Else removes what it printed."""
@@ -69,9 +70,8 @@ class Heat:
         for kind in ["report", "fault"]:
             self.file(player, kind).unlink()
 
-    def points_texts(self, player):
-        """Returns the points of a player's fights: for each opponent a text with a digit for each
-        fight."""
+    def points(self, player):
+        """Returns the points of a player, which are in its certificate."""
         points = Certificate(str(self.file(player, "cert"))).points(0)
         digits = "".join(str(points[index]) for index in range(len(points)))
         return [digits[first:first + self.fights] for first in range(0, len(digits), self.fights)]
@@ -106,23 +106,23 @@ def play_heat(study, number, players, fights):
 
 def better_half(players, points):
     """Returns the better half of the players, two at least. Of equal ones the first go on."""
-    ranked = sorted(players, key=lambda player: -sum_of_points(points[player]))
+    ranked = sorted(players, key=lambda player: -total_of(points[player]))
     better = ranked[:max(2, (len(players) + 1) // 2)]
     return [player for player in players if player in better]
 
 
-def sum_of_points(points_texts):
-    return sum(int(digit) for text in points_texts for digit in text)
+def total_of(points):
+    return sum(int(digit) for text in points for digit in text)
 
 
 def halve(study, settings):
-    """Plays heats until two settings are left. Returns how many heats, and for each setting the
-    points of all its fights, a text for each opponent."""
+    """Plays heats until two settings are left. Returns how many heats, and the points of each
+    setting in all of them."""
     players, points = [str(setting) for setting in settings], {}
     for number in itertools.count(1):
-        for player, new_texts in play_heat(study, number, players, study.args.fresh).items():
-            texts = points.get(player, [""] * len(new_texts))
-            points[player] = [text + new_text for text, new_text in zip(texts, new_texts)]
+        for player, new_points in play_heat(study, number, players, study.args.fresh).items():
+            before = points.get(player, [""] * len(new_points))
+            points[player] = [text + new_text for text, new_text in zip(before, new_points)]
         if len(players) <= 2:
             return number, points
         players = better_half(players, points)
@@ -132,14 +132,15 @@ def find_winner(study, settings):
     """Returns the winner, the points of the fights that picked it by setting, and those of the last
     heat by player."""
     heats, points = halve(study, settings)
-    most_fights = max(len(texts[0]) for texts in points.values())
-    finalists = [player for player, texts in points.items() if len(texts[0]) == most_fights]
-    winner = max(finalists, key=lambda player: sum_of_points(points[player]))
+    fights_of = {player: len(texts[0]) for player, texts in points.items()}
+    most_fights = max(fights_of.values())
+    finalists = [player for player in points if fights_of[player] == most_fights]
+    winner = max(finalists, key=lambda player: total_of(points[player]))
     fights = min(most_fights, MOST_FIGHTS // len(study.opponents))
     return winner, points, play_heat(study, heats + 1, [winner, START], fights)
 
 
-def fresh_points(points_texts):
-    """Returns the points of fresh fights, each opponent counting alike."""
-    by_opponent = [[int(digit) for digit in text] for text in points_texts]
+def fresh_points(points):
+    """Returns the points of a player as cwtune-holdout has them, each opponent counting alike."""
+    by_opponent = [[int(digit) for digit in text] for text in points]
     return holdout.FreshPoints(by_opponent, [1] * len(by_opponent))

@@ -48,21 +48,20 @@ class Box:
         return effects
 
 
-def fresh_fights(points_texts, names):
-    """Returns the fresh fights of a player as the report has them. Its points are a text for each
-    opponent."""
-    fresh = fresh_points(points_texts)
+def fresh_fights(points, names):
+    """Returns the fresh fights of a player as the report has them."""
+    fresh = fresh_points(points)
     opponents = [{"name": name, "wins": text.count("3"), "ties": text.count("1"),
                   "losses": text.count("0"),
                   "percent": 100 * sum(map(int, text)) / (3 * len(text))}
-                 for name, text in zip(names, points_texts)]
-    return {"fights": sum(map(len, points_texts)), "points": sum(map(sum, fresh.by_opponent)),
+                 for name, text in zip(names, points)]
+    return {"fights": sum(map(len, points)), "points": sum(map(sum, fresh.by_opponent)),
             "percent": fresh.mean(), "error": fresh.error(), "opponents": opponents}
 
 
-def gain_of(winner_texts, start_texts):
+def gain_of(winner_points, start_points):
     """Returns the gain of the winner over START as the report has it."""
-    difference = fresh_points(winner_texts).minus(fresh_points(start_texts))
+    difference = fresh_points(winner_points).minus(fresh_points(start_points))
     return {"percent": difference.mean(), "error": difference.error(),
             "words": holdout.gain_words(difference)}
 

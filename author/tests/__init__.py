@@ -18,6 +18,6 @@ its own is named after its title and its function, as `cwtune-spread, folders: a
 
 Their libraries: `commands` runs a command and plays tables of refusals, `spread_place` and
 `study_place` make the folders of two commands, and `report_samples` makes up the reports of
-`reporting`. In all of them a `result` is how a command ended (`commands.Result`), and `expected` how
-it has to end.
+`reporting`. In all of them a `result` is how a command ended (`commands.Result`), and `expected` is
+how it has to end.
 """
