@@ -9,7 +9,6 @@ from .program import EXPLAIN, rules_of, run_program
 from .series import refuse_distance, refuse_fights, refuse_seed
 from .tuning_files import MOST_OPPONENTS
 
-
 # The options that a study depends on.
 OPTIONS = ["rounds", "seed", "exact", "box", "fresh"]
 
@@ -26,13 +25,13 @@ class Inputs(NamedTuple):
         """Returns a fingerprint of all that the study depends on, as JSON gives it back."""
         options = {name: getattr(args, name) for name in OPTIONS}
         return json.loads(json.dumps({
-            "program": sha256_of(pathlib.Path(args.program).read_bytes()),
-            "template": [sha256_of(self.warrior), sha256_of(self.template)],
-            "opponents": [[name, sha256_of(text)] for name, text in self.opponents],
+            "program": sha256_of_text(pathlib.Path(args.program).read_bytes()),
+            "template": [sha256_of_text(self.warrior), sha256_of_text(self.template)],
+            "opponents": [[name, sha256_of_text(text)] for name, text in self.opponents],
             "rules": rules_of(args)._asdict(), "options": options}))
 
 
-def sha256_of(text):
+def sha256_of_text(text):
     return hashlib.sha256(text).hexdigest()
 
 
