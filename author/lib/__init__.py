@@ -1,17 +1,33 @@
-"""What the commands for authors are made of: a module for each, and what they share.
+"""Has what the commands for authors are made of: a module for each, and what they share.
 
 The modules of commands are files, holdout, landscape, scores, seek, series, spread, study, vary and
-warrior. `spread_*` and `study_*` are the parts of two of them. Several commands use
+warrior. Several commands use
 
 - endings: how a command ends after a fault or a signal;
-- words: parsers, the files and options that several commands have, and numbers;
+- words: parsers, and the files, options and numbers that several commands have;
 - writing: files that are written whole or not at all;
-- program: how `cwtune` is run, and its rules;
+- program: how `cwtune` is found and run, and its rules;
 - tuning_files, grid: schedules, certificates, templates and their settings;
 - cert_inputs: which inputs a certificate is for, by CERT.inputs;
 - own_folder: the folder in which a spread or a study keeps its work;
 - mean_error: the standard error of a mean;
 - series, holdout, landscape, seek and vary, by `cwtune-study`, which runs what they do.
 
-`v` is the index of a setting, and `args` are the words of a command after they are parsed.
+A spread has its options in spread_words. spread_parts and spread_shares say what its jobs are, in a
+folder as spread_folder makes it; spread_jobs runs them, spread_progress shows how far they are, and
+spread_report puts parts together.
+
+A study reads its inputs in study_inputs, and keeps its stages in study_folder. study_fresh plays
+the heats, study_result collects the numbers of report.json, and study_report makes the page of
+these, with the pictures of study_charts and study_map, the pieces of study_page and the style sheet
+of study_style.
+
+In all of them a name means one thing:
+
+- `setting`: the index of a setting; `values`: its values, one for each constant;
+- `ranges`: the values that each constant may have; `constant`: the index of one;
+- `cert`: a certificate, or its path in `args`, which are the words of a command once parsed;
+- `completed`: a run of a program that has ended;
+- `number`: that of a part, a share or a heat, counted from 1; `piece`: what came of a part or a
+  share.
 """

@@ -1,6 +1,6 @@
-"""The file CERT.inputs, which `cwtune tune` and `cwtune-spread` write beside a certificate: the
-program, the rules, the part and the method of the tuning, the folder that it ran in, and the size
-and the SHA-256 digest of each of its files. docs/FORMATS.md has it line by line.
+"""Reads and writes CERT.inputs, which says beside a certificate what it is for: the program, the
+rules, the part and the method of the tuning, the folder that it ran in, and the size and the
+SHA-256 digest of each of its files. docs/FORMATS.md has it line by line.
 
 A reader believes it only if the certificate has the digest that it names.
 """
@@ -13,7 +13,7 @@ from .program import HILLS, Rules, fill_rules
 KINDS = ["template", "schedule", "opponent"]
 
 
-class Listed(NamedTuple):
+class TuningFile(NamedTuple):
     """A file of the tuning: its size and digest as one text, and its name."""
 
     digest: str
@@ -25,11 +25,11 @@ class CertInputs:
 
     def __init__(self, text):
         lines = [line.split(" ", 1) for line in lines_of(text)]
-        said = dict(lines)
-        self.rules = Rules(*map(int, said["rules"].split()))
-        self.part, self.method = said["part"], said["method"]
-        self.cert, self.folder = said["cert"], said["folder"]
-        self.files = {kind: [listed(rest) for word, rest in lines if word == kind]
+        fields = dict(lines)
+        self.rules = Rules(*map(int, fields["rules"].split()))
+        self.part, self.method = fields["part"], fields["method"]
+        self.cert, self.folder = fields["cert"], fields["folder"]
+        self.files = {kind: [tuning_file_of(field) for word, field in lines if word == kind]
                       for kind in KINDS}
         if [len(self.files[kind]) for kind in KINDS[:2]] != [1, 1] or not self.files["opponent"]:
             raise ValueError
@@ -45,9 +45,10 @@ def lines_of(text):
     return os.fsdecode(text).removesuffix("\n").split("\n")
 
 
-def listed(text):
-    size, digest, name = text.split(" ", 2)
-    return Listed(f"{size} {digest}", name)
+def tuning_file_of(field):
+    """Returns the file of a tuning that a line describes by its size, its digest and its name."""
+    size, digest, name = field.split(" ", 2)
+    return TuningFile(f"{size} {digest}", name)
 
 
 def sha256_of(path):
@@ -68,12 +69,12 @@ def read(cert):
     """Returns which inputs a certificate is for, or a text that says why that is not known."""
     name = name_of(cert)
     try:
-        found = CertInputs(pathlib.Path(name).read_bytes())
+        inputs = CertInputs(pathlib.Path(name).read_bytes())
     except FileNotFoundError:
         return f"{name} is not there"
     except (KeyError, ValueError, TypeError):
         return f"{name} is malformed"
-    return found if found.cert == digest_of(cert) else f"{name} is of another certificate"
+    return inputs if inputs.cert == digest_of(cert) else f"{name} is of another certificate"
 
 
 def settle(args):
@@ -82,60 +83,61 @@ def settle(args):
 
     Words that a command does not have, or for which no file is found, are left alone.
     """
-    found = read(args.cert)
+    inputs = read(args.cert)
     if getattr(args, "hill", None):
         fill_rules(args, HILLS[args.hill])
-    if isinstance(found, str):
+    if isinstance(inputs, str):
         fill_rules(args, Rules())
-        return found
-    fill_rules(args, found.rules)
-    refuse_rules(args, found.rules)
+        return inputs
+    fill_rules(args, inputs.rules)
+    refuse_other_rules(args, inputs.rules)
     for kind in KINDS[:2]:
         if hasattr(args, kind):
-            setattr(args, kind, settled(found, kind, 0, getattr(args, kind)))
+            setattr(args, kind, settled_file(inputs, kind, 0, getattr(args, kind)))
     if hasattr(args, "opponents"):
-        args.opponents = settled_opponents(found, args.opponents)
+        args.opponents = settled_opponents(inputs, args.opponents)
     return ""
 
 
-def print_note(unknown):
-    """Notes on standard error that nothing was compared, and why, if `settle` returned a reason."""
-    if unknown:
-        say("note", f"{unknown}, so files and rules cannot be compared with the tuning's", 0)
+def print_note(why_unused):
+    """Notes on standard error that nothing was compared, and why, if `settle` returned that."""
+    if why_unused:
+        say("note", f"{why_unused}, so files and rules cannot be compared with the tuning's", 0)
 
 
-def refuse_others(args, cert, part, method):
+def refuse_other_tuning(args, cert, part, method):
     """Refuses `cert` if its CERT.inputs says that it is of another part or of another tuning, or is
     not that of `cert`. Without a CERT.inputs nothing is known."""
     if not os.path.exists(name_of(cert)):
         return
-    found = read(cert)
-    if isinstance(found, str):
-        raise Fault(found, 2)
+    inputs = read(cert)
+    if isinstance(inputs, str):
+        raise Fault(inputs, 2)
     try:
-        if found.part != part:
-            raise Fault(f"it is of part {found.part}", 2)
-        if found.method != method:
-            raise Fault(f"its method is `{found.method}`, not `{method}`", 2)
-        refuse_rules(args, found.rules)
+        if inputs.part != part:
+            raise Fault(f"it is of part {inputs.part}", 2)
+        if inputs.method != method:
+            raise Fault(f"its method is `{inputs.method}`, not `{method}`", 2)
+        refuse_other_rules(args, inputs.rules)
         for kind in KINDS[:2]:
-            settled(found, kind, 0, getattr(args, kind))
-        settled_opponents(found, args.opponent)
+            settled_file(inputs, kind, 0, getattr(args, kind))
+        settled_opponents(inputs, args.opponent)
     except Fault as fault:
         raise Fault(f"{cert} is not of part {part} of what is merged: {fault}", 2) from None
 
 
-def refuse_rules(args, rules):
+def refuse_other_rules(args, rules):
     for name, number in rules._asdict().items():
         if getattr(args, name, number) != number:
             raise Fault(f"--{name} is {getattr(args, name)}, but the tuning had {number}", 2)
 
 
-def settled(found, kind, index, given):
-    """Returns the file of the tuning that was given or that is where it was, or None."""
-    file = found.files[kind][index]
-    path = given if given is not None else found.path(file)
-    if given is None and not os.path.exists(path):
+def settled_file(inputs, kind, index, given_path):
+    """Returns the path of a file of the tuning: the one given, else where the file was, or None if
+    it is not there. Refuses another file than that of the tuning."""
+    file = inputs.files[kind][index]
+    path = given_path if given_path is not None else inputs.path(file)
+    if given_path is None and not os.path.exists(path):
         return None
     if digest_of(path) != file.digest:
         which = f"opponent {index}" if kind == "opponent" else f"the {kind}"
@@ -143,12 +145,13 @@ def settled(found, kind, index, given):
     return path
 
 
-def settled_opponents(found, given):
-    """Returns the opponents of the tuning, or none if one of them is not where it was."""
-    count = len(found.files["opponent"])
-    if given and len(given) != count:
-        raise Fault(f"opponents given: {len(given)}; of the tuning: {count}", 2)
-    paths = [settled(found, "opponent", k, given[k] if given else None) for k in range(count)]
+def settled_opponents(inputs, given_paths):
+    """Returns the paths of the opponents, or none if one of them is not where it was."""
+    count = len(inputs.files["opponent"])
+    if given_paths and len(given_paths) != count:
+        raise Fault(f"opponents given: {len(given_paths)}; of the tuning: {count}", 2)
+    paths = [settled_file(inputs, "opponent", index, given_paths[index] if given_paths else None)
+             for index in range(count)]
     return [] if None in paths else paths
 
 

@@ -1,7 +1,8 @@
-"""How the commands end: after a fault, as a run of `cwtune` ended, or by a signal."""
+"""Ends the commands: after a fault, as a run of `cwtune` ended, or by a signal."""
 import io, os, signal, subprocess, sys
 
-WORDS = {1: "refused", 2: "error", 3: "failed"}
+# The first word of a fault on standard error, by the status of the command.
+STATUS_WORDS = {1: "refused", 2: "error", 3: "failed"}
 
 
 class Fault(Exception):
@@ -12,7 +13,7 @@ class Fault(Exception):
         self.status = status
 
 
-class Closed(io.RawIOBase):
+class ClosedStream(io.RawIOBase):
     """A standard stream that was closed before the command began."""
 
     def writable(self):
@@ -23,15 +24,15 @@ class Closed(io.RawIOBase):
 
 
 def open_streams():
-    """Sees to it that no file that is opened later takes the number of a closed standard stream.
+    """Opens the standard streams that are closed, so that no other file takes their numbers.
 
     A write to a closed standard output is then a fault; to a closed standard error, it is lost.
     """
-    while (number := os.open(os.devnull, os.O_RDWR)) < 3:
+    while (descriptor := os.open(os.devnull, os.O_RDWR)) < 3:
         pass
-    os.close(number)
+    os.close(descriptor)
     if sys.stdout is None:
-        sys.stdout = io.TextIOWrapper(Closed(), write_through=True)
+        sys.stdout = io.TextIOWrapper(ClosedStream(), write_through=True)
     if sys.stderr is None:
         sys.stderr = open(os.devnull, "w")
 
@@ -48,14 +49,14 @@ def run_tool(main):
         status = main()
         sys.stdout.flush()
     except Fault as fault:
-        status = say(WORDS[fault.status], str(fault), fault.status)
+        status = say(STATUS_WORDS[fault.status], str(fault), fault.status)
     except BrokenPipeError:
         status = end_by(signal.SIGPIPE)
     except KeyboardInterrupt:
         status = end_by(signal.SIGINT)
-    except subprocess.TimeoutExpired as late:
-        words = " ".join(map(str, late.cmd))
-        status = say("failed", f"{words} took more than {late.timeout:.0f} seconds", 3)
+    except subprocess.TimeoutExpired as timeout:
+        words = " ".join(map(str, timeout.cmd))
+        status = say("failed", f"{words} took more than {timeout.timeout:.0f} seconds", 3)
     except OSError as error:
         # A copy names two files; the second is the one that is written.
         name = error.filename2 or error.filename or "standard output"
@@ -76,37 +77,32 @@ def say(word, message, status):
     return status
 
 
-def status_of(code):
-    """Returns the status of a command whose `cwtune` ended with this one: 1 and 2 stay, all else is
-    3."""
-    return code if code in (1, 2) else 3
+def status_of(returncode):
+    """Returns the status of a command whose `cwtune` ended with `returncode`: 1 and 2 stay, all
+    else is 3."""
+    return returncode if returncode in (1, 2) else 3
 
 
-def end_as(code, said=b""):
-    """Ends as a run of `cwtune` did: with what it said, and with its status."""
-    sys.stderr.buffer.write(said)
-    sys.exit(status_of(code))
+def end_as(returncode, stderr=b""):
+    """Ends as a run of `cwtune` did: with what it wrote on standard error, and with its status."""
+    sys.stderr.buffer.write(stderr)
+    sys.exit(status_of(returncode))
 
 
-def fault_of(done):
+def fault_of(completed):
     """Returns the fault of a run of `cwtune` without its first word, which the status says, and
     then the notes that came before it. One that was killed says nothing."""
-    status = status_of(done.returncode)
-    said = "\n" + done.stderr.decode(errors="surrogateescape").strip("\n")
-    notes, _, fault = said.partition(f"\n{WORDS[status]}: ")
-    ended = f"{done.args[0]} ended with status {done.returncode}"
+    status = status_of(completed.returncode)
+    stderr = "\n" + completed.stderr.decode(errors="surrogateescape").strip("\n")
+    notes, _, fault = stderr.partition(f"\n{STATUS_WORDS[status]}: ")
+    ended = f"{completed.args[0]} ended with status {completed.returncode}"
     return Fault((fault + notes).strip() or ended, status)
 
 
-def end_by(number):
+def end_by(signal_number):
     """Ends this process by a signal."""
-    signal.signal(number, signal.SIG_DFL)
-    os.kill(os.getpid(), number)
-
-
-def counted(number, noun):
-    """Returns a number with its noun, as `1 setting` and `2 settings`."""
-    return f"{number} {noun}{'s' * (number != 1)}"
+    signal.signal(signal_number, signal.SIG_DFL)
+    os.kill(os.getpid(), signal_number)
 
 
 def end_by_kill_as_by_interrupt():

@@ -4,23 +4,23 @@ Example: cwtune-files my.red fights.csv my.cert
 """
 import pathlib
 
-from .endings import counted
 from .tuning_files import Rows, Template, read_schedule
-from .words import command_parser
+from .words import command_parser, counted
 
 
 def describe(path):
     """Returns a line that says what a file is."""
-    first = pathlib.Path(path).read_text("latin-1").split(",", 1)[0].lstrip("\xef\xbb\xbf\"\r\n")
-    if first == "opponent":
+    text = pathlib.Path(path).read_text("latin-1")
+    first_field = text.split(",", 1)[0].lstrip("\xef\xbb\xbf\"\r\n")
+    if first_field == "opponent":
         fights = read_schedule(path)
         return f"schedule of {counted(len(fights), 'fight')}, greatest total {fights.greatest}"
-    if first == "cwcert":
-        found = Rows(path)
-        said = (f"none reaches the floor {found.total}" if found.best is None
-                else f"best {found.best} total {found.total}")
-        settings = counted(len(found.rows), "setting")
-        return f"certificate, version {found.version}, of {settings}: {said}"
+    if first_field == "cwcert":
+        cert = Rows(path)
+        answer = (f"none reaches the floor {cert.total}" if cert.best is None
+                  else f"best {cert.best} total {cert.total}")
+        settings = counted(len(cert.rows), "setting")
+        return f"certificate, version {cert.version}, of {settings}: {answer}"
     template = Template(path)
     if not template.names:
         return "text without a range line: a template of one setting"

@@ -1,4 +1,4 @@
-"""The range lines of a template, which may have more settings than `cwtune` takes."""
+"""Reads the range lines of a template, which may have more settings than `cwtune` takes."""
 import math, pathlib, re
 
 from .endings import Fault
@@ -7,18 +7,20 @@ BLANKS = b" \t\r"
 
 
 class Grid:
-    """The constants of a template, in order, with their values and those of START.
+    """The constants of a template, in order, with their ranges.
 
-    `line_indices` has the index of each constant's range line.
+    `names` are the names of the constants, `ranges` the values that each may have, `start_values`
+    those that START has, and `line_indices` says where the range lines are. The values of a setting
+    are a tuple: one value for each constant.
     """
 
     def __init__(self, path):
         self.lines = self.read(path).split(b"\n")
-        ranges = [(k, *read_range(path, k + 1, line)) for k, line in enumerate(self.lines)
-                  if is_range_line(line)]
-        self.line_indices, self.names, self.values, start = (
-            [it[field] for it in ranges] for field in range(4))
-        self.start_values = tuple(start)
+        range_lines = [(index, *read_range(path, index + 1, line))
+                       for index, line in enumerate(self.lines) if is_range_line(line)]
+        self.line_indices, self.names, self.ranges, start_values = (
+            [line[field] for line in range_lines] for field in range(4))
+        self.start_values = tuple(start_values)
         if len(set(self.names)) < len(self.names):
             raise Fault(f"{path}: two range lines of one constant")
 
@@ -28,41 +30,42 @@ class Grid:
 
     def count(self):
         """Returns the number of settings."""
-        return math.prod(map(len, self.values))
+        return math.prod(map(len, self.ranges))
 
-    def constants_of(self, setting):
-        """Returns the values of a setting as the report of `cwtune tune` says them."""
-        pairs = zip(self.names, setting)
+    def constants_of(self, values):
+        """Returns the values of a setting as the line `constants` of a report has them."""
+        pairs = zip(self.names, values)
         return " ".join(f"{name}={value}" for name, value in pairs) or "-"
 
-    def setting_of(self, constants):
-        """Returns the setting of a report's line `constants`."""
-        said = dict(word.split("=") for word in constants.split())
-        return tuple(int(said[name]) for name in self.names)
+    def values_of(self, constants):
+        """Returns the values of a setting that the line `constants` of a report has."""
+        value_of = dict(word.split("=") for word in constants.split())
+        return tuple(int(value_of[name]) for name in self.names)
 
-    def text(self, values, start):
-        """Returns the template with other values of its constants, and another START."""
+    def text(self, ranges, start_values):
+        """Returns the template with other ranges of its constants, and another START."""
         lines = list(self.lines)
-        for k, name, some, at in zip(self.line_indices, self.names, values, start):
-            end = "\r" if lines[k].endswith(b"\r") else ""
-            line = f";@tune {name} {some[0]} {some[-1]} {some.step} {at}{end}"
-            lines[k] = line.encode("latin-1")
+        for index, name, values, start in zip(self.line_indices, self.names, ranges, start_values):
+            end = "\r" if lines[index].endswith(b"\r") else ""
+            line = f";@tune {name} {values[0]} {values[-1]} {values.step} {start}{end}"
+            lines[index] = line.encode("latin-1")
         return b"\n".join(lines)
 
-    def line_through(self, setting, free):
-        """Returns the template in which the constants with the indices `free` have all their
-        values, and each other one that of a setting."""
-        values = [some if k in free else range(at, at + 1)
-                  for k, (some, at) in enumerate(zip(self.values, setting))]
-        return self.text(values, setting)
+    def line_through(self, values, free):
+        """Returns the template in which the constants with the indices `free` have their whole
+        ranges, and each other one the value that a setting has. That setting is its START."""
+        ranges = [whole if index in free else range(value, value + 1)
+                  for index, (whole, value) in enumerate(zip(self.ranges, values))]
+        return self.text(ranges, values)
 
-    def box(self, setting, reach):
-        """Returns the values that are at most `reach` steps from those of a setting."""
-        boxes = []
-        for some, at in zip(self.values, setting):
-            k = some.index(at)
-            boxes.append(some[max(k - reach, 0):k + reach + 1])
-        return boxes
+    def box(self, values, reach):
+        """Returns the ranges of the values that are at most `reach` steps from those of a
+        setting."""
+        ranges = []
+        for whole, value in zip(self.ranges, values):
+            index = whole.index(value)
+            ranges.append(whole[max(index - reach, 0):index + reach + 1])
+        return ranges
 
 
 def is_range_line(line):
@@ -71,7 +74,8 @@ def is_range_line(line):
 
 
 def read_range(path, number, line):
-    """Returns the name of a constant, its values, and the one of the start setting."""
+    """Returns the name of a constant, its range, and its value in START. `number` is that of the
+    line, for the fault."""
     words = re.split(rb"[ \t\r]+", line[6:].strip(BLANKS))
     if len(words) == 5 and all(re.fullmatch(rb"-?[0-9]{1,5}", word) for word in words[1:]):
         low, high, step, start = map(int, words[1:])

@@ -17,51 +17,78 @@ import math, pathlib, random, tempfile
 from typing import NamedTuple
 
 from . import cert_inputs, tuning_files
-from .endings import Fault, counted, fault_of
+from .endings import Fault, fault_of
 from .mean_error import error_of_mean
 from .program import EXPLAIN, rules_of, run_program
 from .series import refuse_distance, refuse_fights
 from .words import (add_opponents_of_tuning, add_program, add_rules, add_words, command_parser,
-                    number_from)
+                    counted, number_from)
 
 
-class Fresh(NamedTuple):
+class FreshPoints(NamedTuple):
     """The points of fresh fights, a list for each opponent, and how much each opponent counts."""
 
-    points: list
+    by_opponent: list
     opponent_weights: list
 
     def mean(self):
         """Returns the points as a part of the greatest total, in percent."""
-        means = (sum(own) / (3 * len(own)) for own in self.points)
+        means = (sum(points) / (3 * len(points)) for points in self.by_opponent)
         weights = self.opponent_weights
         return 100 * sum(map(math.prod, zip(means, weights))) / sum(weights)
 
     def error(self):
         """Returns the standard error of the mean, in percent."""
         weights = self.opponent_weights
-        errors = map(math.prod, zip(map(error_of_mean, self.points), weights))
+        errors = map(math.prod, zip(map(error_of_mean, self.by_opponent), weights))
         return 100 / 3 * math.hypot(*errors) / sum(weights)
 
     def minus(self, other):
         """Returns the differences of the points, fight by fight."""
-        pairs = zip(self.points, other.points)
-        return Fresh([[a - b for a, b in zip(*both)] for both in pairs], self.opponent_weights)
+        pairs = zip(self.by_opponent, other.by_opponent)
+        return FreshPoints([[more - less for more, less in zip(*pair)] for pair in pairs],
+                           self.opponent_weights)
 
     def __str__(self):
-        """The points and their percentage, or the percentage alone if the weights differ."""
-        flat = [it for own in self.points for it in own]
-        said = f"{self.mean():.1f}% +- {self.error():.1f}"
-        alike = len(set(self.opponent_weights)) == 1
-        return f"{sum(flat)} of {3 * len(flat)} ({said})" if alike else said
+        """Returns the points and their percentage, or the percentage alone if weights differ."""
+        percentage = f"{self.mean():.1f}% +- {self.error():.1f}"
+        if len(set(self.opponent_weights)) != 1:
+            return percentage
+        fights = sum(map(len, self.by_opponent))
+        return f"{sum(map(sum, self.by_opponent))} of {3 * fights} ({percentage})"
 
 
-def schedule_of(args):
-    """Returns the text of a schedule of fresh fights."""
-    dice, low = random.Random(args.seed), args.distance
-    return tuning_files.schedule_text(
-        tuning_files.Fight(k, dice.randint(low, args.core - low), "co"[i % 2])
-        for k in range(len(args.opponents)) for i in range(args.rounds))
+class FreshFights:
+    """The fresh fights that this command plays, at the same positions for each warrior."""
+
+    def __init__(self, args, opponent_weights):
+        self.args, self.opponent_weights = args, opponent_weights
+
+    def schedule(self):
+        """Returns the text of their schedule."""
+        args, dice = self.args, random.Random(self.args.seed)
+        low, high = args.distance, args.core - args.distance
+        return tuning_files.schedule_text(
+            tuning_files.Fight(opponent, dice.randint(low, high), "co"[index % 2])
+            for opponent in range(len(args.opponents)) for index in range(args.rounds))
+
+    def play(self, *asm_words):
+        """Returns what a warrior makes in them. `asm_words` are the words of `cwtune asm` for it.
+
+        The warrior plays as the only setting of a template.
+        """
+        args, rules = self.args, rules_of(self.args).words()
+        load_file = output_of(args.program, "asm", *EXPLAIN, *rules, *asm_words)
+        with tempfile.TemporaryDirectory() as folder:
+            files = [pathlib.Path(folder, name) for name in ("t.red", "s.csv", "cert")]
+            template, schedule, cert = files
+            template.write_bytes(b";@tune ONE 0 0 1 0\n" + load_file)
+            schedule.write_text(self.schedule())
+            output_of(args.program, "tune", *EXPLAIN, *rules, *files, *args.opponents)
+            points = tuning_files.Certificate(cert).points(0)
+        rounds = args.rounds
+        return FreshPoints([[points[opponent * rounds + index] for index in range(rounds)]
+                            for opponent in range(len(args.opponents))], self.opponent_weights)
 
 
 def opponent_weights_of(args, fights):
@@ -70,49 +97,87 @@ def opponent_weights_of(args, fights):
         return [1] * len(args.opponents)
     if any(fight.opponent >= len(args.opponents) for fight in fights):
         raise Fault(f"{args.schedule} has fights against more opponents than were given", 2)
-    return [sum(fight.weight for fight in fights if fight.opponent == k)
-            for k in range(len(args.opponents))]
+    return [sum(fight.weight for fight in fights if fight.opponent == opponent)
+            for opponent in range(len(args.opponents))]
 
 
-def run(*words):
+def output_of(*words):
     """Runs the program, and returns what it prints. Its fault is this command's."""
-    done = run_program(*words)
-    if done.returncode != 0:
-        raise fault_of(done)
-    return done.stdout
+    completed = run_program(*words)
+    if completed.returncode != 0:
+        raise fault_of(completed)
+    return completed.stdout
 
 
-def play(args, rules, opponent_weights, folder, *text):
-    """Returns what a warrior makes in the fresh fights. `text` are words of `cwtune asm`."""
-    load = run(args.program, "asm", *EXPLAIN, *rules, *text)
-    template, schedule, cert = (pathlib.Path(folder, name) for name in ("t.red", "s.csv", "cert"))
-    template.write_bytes(b";@tune ONE 0 0 1 0\n" + load)
-    schedule.write_text(schedule_of(args))
-    run(args.program, "tune", *EXPLAIN, *rules, template, schedule, cert, *args.opponents)
-    made = tuning_files.Certificate(cert).points(0)
-    rounds = range(args.rounds)
-    points = [[made[k * args.rounds + i] for i in rounds] for k in range(len(args.opponents))]
-    return Fresh(points, opponent_weights)
-
-
-def print_line(name, total, greatest, fresh, constants):
-    tuned = "dropped"
-    if total is not None:
-        tuned = f"{total} of {greatest} ({100 * total / greatest:.1f}%)"
-    print(f"{name}: tuning {tuned}, fresh {fresh} {constants}", flush=True)
-
-
-def said_of(more):
-    """Says in words whether differences of points are a gain."""
-    if abs(more.mean()) > 2 * more.error():
-        return "a gain" if more.mean() > 0 else "a loss"
+def gain_words(difference):
+    """Returns words that say whether differences of points are a gain."""
+    if abs(difference.mean()) > 2 * difference.error():
+        return "a gain" if difference.mean() > 0 else "a loss"
     return "no difference that these fights show"
 
 
-def print_gain(other, setting, more):
-    """Says whether a setting is better than another warrior in the fresh fights."""
-    print(f"over {other}, setting {setting}: {more.mean():+.1f}% +- {more.error():.1f}, "
-          f"{said_of(more)}")
+class Holdout:
+    """The settings of a certificate, and what they make in fresh fights."""
+
+    def __init__(self, args):
+        self.args = args
+        self.cert = tuning_files.Certificate(args.cert)
+        self.template = tuning_files.Template(args.template).of(self.cert)
+        self.fights = self.cert.fights(args.schedule)
+        self.fresh_fights = FreshFights(args, opponent_weights_of(args, self.fights))
+        self.ranking = self.cert.ranked(self.fights)
+        self.points = {}
+
+    def fresh_points(self, setting):
+        """Returns what a setting makes in the fresh fights, which it plays once."""
+        if setting not in self.points:
+            self.points[setting] = self.fresh_fights.play("--setting", str(setting),
+                                                          self.args.template)
+        return self.points[setting]
+
+    def print_setting(self, name, setting):
+        """Prints what a setting made in the tuning, and makes in the fresh fights."""
+        total, greatest = self.cert.total_of(setting, self.fights), self.fights.greatest
+        tuned = "dropped" if total is None else (
+            f"{total} of {greatest} ({100 * total / greatest:.1f}%)")
+        print(f"{name}: tuning {tuned}, fresh {self.fresh_points(setting)} "
+              f"{self.template.constants(setting)}", flush=True)
+
+    def print_first(self):
+        """Prints what the first of the ranking make."""
+        for rank, (_, setting) in enumerate(self.ranking.full[:self.args.top], 1):
+            shown_rank = f", rank {rank}" if rank <= self.ranking.exact else ""
+            self.print_setting(f"setting {setting}{shown_rank}", setting)
+
+    def print_comparison(self):
+        """Compares the best setting with the warrior of --against, or with START."""
+        args, start = self.args, self.template.start
+        if args.against:
+            points = self.fresh_fights.play("--", args.against)
+            print(f"{args.against}: fresh {points}")
+            self.print_gain(args.against, points)
+        elif self.cert.points(start) is None:
+            print(f"START, setting {start}: does not assemble")
+        elif start == self.cert.best:
+            print(f"setting {start} is START: the tuning found nothing better")
+        else:
+            self.print_setting(f"START, setting {start}", start)
+            self.print_gain("START", self.fresh_points(start))
+
+    def print_gain(self, other, other_points):
+        """Prints whether the best setting is better than `other` in the fresh fights."""
+        difference = self.fresh_points(self.cert.best).minus(other_points)
+        print(f"over {other}, setting {self.cert.best}: {difference.mean():+.1f}% +- "
+              f"{difference.error():.1f}, {gain_words(difference)}")
+
+    def print_dropped(self):
+        """Prints how far the ranking is exact, if settings were dropped."""
+        _, dropped, exact = self.ranking
+        if dropped:
+            verb = "was" if dropped == 1 else "were"
+            so = ", so" if exact < self.args.top else ";"
+            print(f"{counted(dropped, 'setting')} {verb} dropped{so} "
+                  f"{tuning_files.exactness_text(exact, self.args.top)}")
 
 
 def make_parser():
@@ -135,48 +200,22 @@ def make_parser():
 
 
 def read_words():
-    """Returns the words of the command, and why what is of the tuning is not known."""
+    """Returns the words of the command, and why CERT.inputs is not used, or an empty text."""
     parser = make_parser()
     args = parser.parse_intermixed_args()
-    unknown = cert_inputs.settle(args)
+    why_unused = cert_inputs.settle(args)
     if not args.opponents:
-        parser.error(f"give OPPONENT..: {unknown or 'the opponents of the tuning are not there'}")
+        reason = why_unused or "the opponents of the tuning are not there"
+        parser.error(f"give OPPONENT..: {reason}")
     refuse_fights(parser, "--rounds", args.rounds, len(args.opponents))
     refuse_distance(parser, rules_of(args))
-    return args, unknown
+    return args, why_unused
 
 
 def main():
-    args, unknown = read_words()
-    cert = tuning_files.Certificate(args.cert)
-    template = tuning_files.Template(args.template).of(cert)
-    fights = cert.fights(args.schedule)
-    rules, weights = rules_of(args).words(), opponent_weights_of(args, fights)
-    full, dropped, exact = cert.ranked(fights)
-    with tempfile.TemporaryDirectory() as folder:
-        made = {}
-        for rank, (total, v) in enumerate(full[:args.top], 1):
-            made[v] = play(args, rules, weights, folder, "--setting", str(v), args.template)
-            name = f"setting {v}, rank {rank}" if rank <= exact else f"setting {v}"
-            print_line(name, total, fights.greatest, made[v], template.constants(v))
-        best = made[cert.best]
-        if args.against:
-            other = play(args, rules, weights, folder, "--", args.against)
-            print(f"{args.against}: fresh {other}")
-            print_gain(args.against, cert.best, best.minus(other))
-        elif cert.points(start := template.start) is None:
-            print(f"START, setting {start}: does not assemble")
-        elif start == cert.best:
-            print(f"setting {start} is START: the tuning found nothing better")
-        else:
-            other = made.get(start) or play(args, rules, weights, folder, "--setting", str(start),
-                                            args.template)
-            print_line(f"START, setting {start}", cert.total_of(start, fights), fights.greatest,
-                       other, template.constants(start))
-            print_gain("START", cert.best, best.minus(other))
-    if dropped:
-        verb = "was" if dropped == 1 else "were"
-        so = ", so" if exact < args.top else ";"
-        print(f"{counted(dropped, 'setting')} {verb} dropped{so} "
-              f"{tuning_files.said_of_ranks(exact, args.top)}")
-    cert_inputs.print_note(unknown)
+    args, why_unused = read_words()
+    holdout = Holdout(args)
+    holdout.print_first()
+    holdout.print_comparison()
+    holdout.print_dropped()
+    cert_inputs.print_note(why_unused)

@@ -19,6 +19,8 @@ from .writing import whole_file
 
 MOST_MAPS = 36
 GREY = "#cccccc"
+# How matplotlib lays out the squares of a map.
+MAP_SCALE = {"origin": "lower", "aspect": "auto"}
 
 
 def load_pyplot():
@@ -34,36 +36,33 @@ def load_pyplot():
     return matplotlib.pyplot
 
 
-class Table:
+class Totals:
     """The totals of the settings that played all fights, and the caps of those that were dropped.
 
     For each setting one of `totals` and `caps` is a number and the other NaN; both are NaN if it
-    does not assemble. `best` is the setting of the certificate.
+    does not assemble. `best` is the setting of the certificate. With an `opponent` only the fights
+    against that one count.
     """
 
-    def __init__(self, template, cert, fights, opponent):
-        self.template, self.best = template, cert.best
-        self.fights = fights
-        counted = None if opponent is None else {
-            i for i, fight in enumerate(fights) if fight.opponent == opponent}
-        self.greatest = fights.greatest if counted is None else 3 * sum(
-            fights[i].weight for i in counted)
+    def __init__(self, template, cert, fights, opponent=None):
+        self.template, self.best, self.fights = template, cert.best, fights
+        self.counted = {index for index, fight in enumerate(fights)
+                        if opponent in (None, fight.opponent)}
+        self.greatest = 3 * sum(fights[index].weight for index in self.counted)
         self.totals, self.caps = [], []
-        for v in range(len(cert.rows)):
-            points = cert.points(v)
-            cap = self.cap(points, counted)
-            played = points is not None and (
-                len(points) == len(fights) if counted is None else counted <= points.keys())
-            self.totals.append(cap if played else math.nan)
-            self.caps.append(math.nan if played else cap)
+        for setting in range(len(cert.rows)):
+            points = cert.points(setting)
+            cap = self.cap(points)
+            has_total = points is not None and self.counted <= points.keys()
+            self.totals.append(cap if has_total else math.nan)
+            self.caps.append(math.nan if has_total else cap)
 
-    def cap(self, points, counted):
-        """Returns the greatest total that a setting with these points can have in these fights."""
+    def cap(self, points):
+        """Returns the greatest total that a setting with these points can have."""
         if points is None:
             return math.nan
-        if counted is None:
-            return tuning_files.cap(points, self.fights)
-        lost = sum((3 - made) * self.fights[i].weight for i, made in points.items() if i in counted)
+        lost = sum((3 - fight_points) * self.fights[index].weight
+                   for index, fight_points in points.items() if index in self.counted)
         return self.greatest - lost
 
     def greys(self):
@@ -73,45 +72,47 @@ class Table:
             return {}
         low, high = min(caps), max(caps)
         # The least cap is a middle grey, and the greatest a light one.
-        step = max(1, high - low)
-        return {"vmin": low - 2 * step, "vmax": low + 1.3 * step, "cmap": "Greys_r"}
+        span = max(1, high - low)
+        return {"vmin": low - 2 * span, "vmax": low + 1.3 * span, "cmap": "Greys_r"}
 
 
-def draw_line(plot, table):
+def draw_line(plot, totals):
     """Draws the totals over one constant."""
     figure, axes = plot.subplots(figsize=(8, 4.5))
-    values = table.template.values[0]
-    axes.plot(values, table.totals, color="C0", linewidth=1, zorder=1)
-    for heights, marker, colour, label in [(table.totals, "o", "C0", "total"),
-                                           (table.caps, "v", GREY, "dropped: at most this total")]:
+    template, best = totals.template, totals.best
+    values = template.ranges[0]
+    axes.plot(values, totals.totals, color="C0", linewidth=1, zorder=1)
+    for heights, marker, colour, label in [(totals.totals, "o", "C0", "total"),
+                                           (totals.caps, "v", GREY, "dropped: at most this total")]:
         if not all(map(math.isnan, heights)):
             axes.scatter(values, heights, marker=marker, color=colour, label=label, zorder=2)
-    axes.scatter([values[table.best]], [table.totals[table.best]], marker="*", s=220, color="C3",
-                 label=f"best: {table.template.constants(table.best)}", zorder=3)
-    axes.set_xlabel(table.template.names[0])
+    axes.scatter([values[best]], [totals.totals[best]], marker="*", s=220, color="C3",
+                 label=f"best: {template.constants(best)}", zorder=3)
+    axes.set_xlabel(template.names[0])
     axes.set_ylabel("points")
     axes.legend()
     return figure
 
 
-def squares(table, x, y):
-    """Returns totals and caps as arrays whose last two dimensions are those of y and x."""
+def maps_of(totals, x, y, others):
+    """Returns the totals and the caps as arrays: for each choice of the constants `others` a map
+    over the constants y and x."""
     import numpy
-    sizes = [len(values) for values in table.template.values]
-    others = [k for k in range(len(sizes)) if k not in (x, y)]
+    sizes = [len(values) for values in totals.template.ranges]
     arrays = (numpy.array(heights).reshape(sizes).transpose([*others, y, x])
-              for heights in (table.totals, table.caps))
-    return [array.reshape(-1, sizes[y], sizes[x]) for array in arrays], others
+              for heights in (totals.totals, totals.caps))
+    return [array.reshape(-1, sizes[y], sizes[x]) for array in arrays]
 
 
-def ticks(set_ticks, values):
+def label_ticks(set_ticks, values):
     """Labels an axis with at most eight of its values."""
     indices = range(0, len(values), -(-len(values) // 8))
-    set_ticks(list(indices), [str(values[k]) for k in indices])
+    set_ticks(list(indices), [str(values[index]) for index in indices])
 
 
 def grid_of(plot, count):
-    """Returns a figure with room for `count` maps, and the axes of these."""
+    """Returns a figure with room for `count` maps, the axes of these, and those of the whole
+    grid."""
     if count > MOST_MAPS:
         raise Fault(f"{count} maps, one for each choice of the other constants; at most "
                     f"{MOST_MAPS}: tune a template with fewer of them")
@@ -124,52 +125,55 @@ def grid_of(plot, count):
     return figure, list(grid.flat[:count]), grid
 
 
-def draw_maps(plot, table, x, y):
+def draw_maps(plot, totals, x, y):
     """Draws a map over the constants x and y for each choice of the others."""
-    names, values = table.template.names, table.template.values
-    (totals, caps), others = squares(table, x, y)
-    figure, maps, grid = grid_of(plot, len(totals))
-    numbers = [total for total in table.totals if not math.isnan(total)]
-    scale, greys = {"origin": "lower", "aspect": "auto"}, table.greys()
-    best = table.template.settings[table.best]
-    for axes, choice, own, dropped in zip(
-            maps, itertools.product(*(values[k] for k in others)), totals, caps):
+    names, ranges = totals.template.names, totals.template.ranges
+    others = [constant for constant in range(len(names)) if constant not in (x, y)]
+    total_maps, cap_maps = maps_of(totals, x, y, others)
+    figure, axes_of_maps, grid = grid_of(plot, len(total_maps))
+    numbers = [total for total in totals.totals if not math.isnan(total)]
+    greys, best = totals.greys(), totals.template.settings[totals.best]
+    choices = itertools.product(*(ranges[constant] for constant in others))
+    for axes, choice, total_map, cap_map in zip(axes_of_maps, choices, total_maps, cap_maps):
         if greys:
-            axes.imshow(dropped, **greys, **scale)
-        image = axes.imshow(own, cmap="viridis", vmin=min(numbers), vmax=max(numbers), **scale)
-        ticks(axes.set_xticks, values[x])
-        ticks(axes.set_yticks, values[y])
-        axes.set_title(" ".join(f"{names[k]}={it}" for k, it in zip(others, choice)), fontsize=9)
+            axes.imshow(cap_map, **greys, **MAP_SCALE)
+        image = axes.imshow(total_map, cmap="viridis", vmin=min(numbers), vmax=max(numbers),
+                            **MAP_SCALE)
+        label_ticks(axes.set_xticks, ranges[x])
+        label_ticks(axes.set_yticks, ranges[y])
+        axes.set_title(" ".join(f"{names[constant]}={value}"
+                                for constant, value in zip(others, choice)), fontsize=9)
         axes.set_xlabel(names[x])
         axes.set_ylabel(names[y])
-        if all(best[k] == it for k, it in zip(others, choice)):
-            axes.plot([values[x].index(best[x])], [values[y].index(best[y])], marker="*",
+        if choice == tuple(best[constant] for constant in others):
+            axes.plot([ranges[x].index(best[x])], [ranges[y].index(best[y])], marker="*",
                       markersize=16, color="red", markeredgecolor="white")
     label = "total (grey: dropped)" if greys else "total"
     figure.colorbar(image, ax=grid, label=label)
     return figure
 
 
-def effect_of(template, totals, k):
-    """Returns the values of constant k that assemble, their mean totals, and the standard errors
-    of these."""
-    groups = {value: [] for value in template.values[k]}
-    for total, setting in zip(totals, template.settings):
+def effect_of(template, totals, constant):
+    """Returns the values of a constant that assemble, their mean totals, and the standard errors
+    of these. `totals` is the list of all settings, and `constant` an index."""
+    groups = {value: [] for value in template.ranges[constant]}
+    for total, values in zip(totals, template.settings):
         if not math.isnan(total):
-            groups[setting[k]].append(total)
-    groups = {value: own for value, own in groups.items() if own}
-    means = [sum(own) / len(own) for own in groups.values()]
+            groups[values[constant]].append(total)
+    groups = {value: group for value, group in groups.items() if group}
+    means = [sum(group) / len(group) for group in groups.values()]
     return list(groups), means, list(map(error_of_mean, groups.values()))
 
 
-def draw_effects(plot, table):
+def draw_effects(plot, totals):
     """Draws for each constant the mean total of each of its values, with its standard error."""
-    if table.greys():
+    if totals.greys():
         raise Fault("settings were dropped: the means need a certificate of `cwtune tune --all`")
-    template = table.template
+    template = totals.template
     figure, grid, _ = grid_of(plot, len(template.names))
-    for k, (axes, name) in enumerate(zip(grid, template.names)):
-        axes.errorbar(*effect_of(template, table.totals, k), marker="o", linewidth=1, capsize=2)
+    for constant, (axes, name) in enumerate(zip(grid, template.names)):
+        axes.errorbar(*effect_of(template, totals.totals, constant), marker="o", linewidth=1,
+                      capsize=2)
         axes.set_xlabel(name)
         axes.set_ylabel("mean total")
     return figure
@@ -179,10 +183,10 @@ def axes_of(parser, args, names):
     """Returns the indices of the constants of the axes: from left to right, then upwards."""
     if args.axes is None:
         return len(names) - 1, len(names) - 2
-    wanted = args.axes.split(",")
-    if len(wanted) != 2 or wanted[0] == wanted[1] or not set(wanted) <= set(names):
+    axes = args.axes.split(",")
+    if len(axes) != 2 or axes[0] == axes[1] or not set(axes) <= set(names):
         parser.error(f"--axes takes two of the constants {', '.join(names)}, as in A,B")
-    return names.index(wanted[0]), names.index(wanted[1])
+    return names.index(axes[0]), names.index(axes[1])
 
 
 def refuse_opponent(parser, args, fights):
@@ -221,27 +225,33 @@ def save(figure, title, path):
         figure.savefig(file, format=kind, dpi=110, metadata=date)
 
 
+def refuse_pictures(parser, pictures):
+    """Refuses a picture of another kind than PNG and SVG."""
+    for picture in pictures:
+        if picture[-4:] not in (".png", ".svg"):
+            parser.error(f"the picture's name has to end with .png or .svg: {picture}")
+
+
 def main():
     parser = make_parser()
     args = parser.parse_args()
-    for picture in filter(None, [args.picture, args.effects]):
-        if picture[-4:] not in (".png", ".svg"):
-            parser.error(f"the picture's name has to end with .png or .svg: {picture}")
+    refuse_pictures(parser, filter(None, [args.picture, args.effects]))
     template = tuning_files.Template(args.template)
     cert = tuning_files.Certificate(args.cert)
-    unknown = cert_inputs.settle(args)
+    why_unused = cert_inputs.settle(args)
     if not template.of(cert).names:
         parser.error("the template has no constants to draw")
     fights = cert.fights(args.schedule)
     refuse_opponent(parser, args, fights)
     axes = axes_of(parser, args, template.names)
-    table, plot = Table(template, cert, fights, args.opponent), load_pyplot()
+    totals, plot = Totals(template, cert, fights, args.opponent), load_pyplot()
     title = (f"best {cert.best}: {template.constants(cert.best)}, total {cert.total} of "
              f"{fights.greatest}")
     if args.opponent is not None:
         title += f"\nthe fights against opponent {args.opponent}"
-    alone = len(template.names) == 1
-    save(draw_line(plot, table) if alone else draw_maps(plot, table, *axes), title, args.picture)
+    picture = (draw_line(plot, totals) if len(template.names) == 1
+               else draw_maps(plot, totals, *axes))
+    save(picture, title, args.picture)
     if args.effects:
-        save(draw_effects(plot, table), title, args.effects)
-    cert_inputs.print_note(unknown)
+        save(draw_effects(plot, totals), title, args.effects)
+    cert_inputs.print_note(why_unused)

@@ -1,4 +1,4 @@
-"""The standard error of a mean."""
+"""Computes the standard error of a mean."""
 import math
 
 

@@ -1,7 +1,7 @@
-"""A folder that a command makes and goes on with after a kill.
+"""Makes the folder in which a command keeps its work, and goes on in it after a kill.
 
-It is locked while the command is at work in it. Its mark, a file of JSON, says which command made
-it and of what, so that no folder of somebody else is touched.
+The folder is locked while the command is at work in it. Its mark, a file of JSON, says which
+command made it and of what, so that no folder of somebody else is touched.
 """
 import fcntl, json, os, pathlib, re
 
@@ -13,20 +13,21 @@ class OwnFolder:
     """A folder of the command `COMMAND`, locked until the command ends.
 
     `MARK` is the name of its mark. `THROWN` says what --anew throws away, and `INSTEAD` what to
-    name otherwise, so that other inputs get a folder of their own.
+    name otherwise, so that other inputs get a folder of their own. `given_path` is its path as the
+    user or the command gives it, and `path` the whole one.
     """
 
     COMMAND = MARK = THROWN = INSTEAD = ""
 
-    def __init__(self, given):
-        self.given, self.path = given, pathlib.Path(given).resolve()
-        with naming(given):
+    def __init__(self, given_path):
+        self.given_path, self.path = given_path, pathlib.Path(given_path).resolve()
+        with naming(given_path):
             self.path.mkdir(exist_ok=True)
         self.lock = os.open(self.path, os.O_RDONLY)
         try:
             fcntl.flock(self.lock, fcntl.LOCK_EX | fcntl.LOCK_NB)
         except BlockingIOError:
-            raise Fault(f"another {self.COMMAND} is at work in {given}", 2) from None
+            raise Fault(f"another {self.COMMAND} is at work in {given_path}", 2) from None
 
     def maker(self):
         """Returns the command with the version of its folders."""
@@ -39,20 +40,22 @@ class OwnFolder:
         if all(re.fullmatch(rf"{self.MARK}\.\d+\.new", name) for name in files):
             return {}
         try:
-            made = json.loads((self.path / self.MARK).read_text())
-            if made["by"] == self.maker() and is_own(made):
-                return made
+            mark = json.loads((self.path / self.MARK).read_text())
+            if mark["by"] == self.maker() and is_own(mark):
+                return mark
         except (OSError, ValueError, KeyError, TypeError, AttributeError):
             pass
-        raise Fault(f"{self.given} is not a folder of this {self.COMMAND}, and is not touched", 2)
+        raise Fault(f"{self.given_path} is not a folder of this {self.COMMAND}, and is not touched",
+                    2)
 
-    def write_mark(self, made):
+    def write_mark(self, mark):
         with whole_file(self.path / self.MARK) as file:
-            json.dump({"by": self.maker(), **made}, file)
+            json.dump({"by": self.maker(), **mark}, file)
 
-    def refuse_others(self, made, wanted, what):
-        """Refuses a folder that is made of something else than what is wanted: `what` is wrong."""
-        other = [kind for kind, value in wanted.items() if made.get(kind) != value]
-        if other:
-            raise Fault(f"{what} ({', '.join(other)}): give --anew to throw {self.THROWN} away and "
-                        f"begin again, or another {self.INSTEAD}", 2)
+    def refuse_other_inputs(self, recorded, inputs, complaint):
+        """Refuses a folder if what it recorded of its inputs differs from `inputs`. `complaint` is
+        the text that says so."""
+        others = [kind for kind, value in inputs.items() if recorded.get(kind) != value]
+        if others:
+            raise Fault(f"{complaint} ({', '.join(others)}): give --anew to throw {self.THROWN} "
+                        f"away and begin again, or another {self.INSTEAD}", 2)

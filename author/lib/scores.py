@@ -8,9 +8,9 @@ Example: cwtune-scores my.cert
 import concurrent.futures, os
 
 from . import cert_inputs, tuning_files
-from .endings import Fault, counted, say
-from .program import load_of, rules_of
-from .words import add_program, add_rules, add_words, command_parser, number_from
+from .endings import Fault, say
+from .program import assemble, rules_of
+from .words import add_program, add_rules, add_words, command_parser, counted, number_from
 
 # With more settings than this none is assembled, to save time.
 MOST_ASSEMBLED = 2000
@@ -23,83 +23,93 @@ def print_scores(title, points, fights):
         print("    does not assemble")
         return
     for opponent in sorted({fight.opponent for fight in fights}):
-        own = [(i, fight) for i, fight in enumerate(fights) if fight.opponent == opponent]
-        made = [points[i] for i, _ in own if i in points]
-        score = sum(points[i] * fight.weight for i, fight in own if i in points)
-        left = f", {len(own) - len(made)} not played" if len(made) < len(own) else ""
-        wins, ties, losses = (made.count(kind) for kind in (3, 1, 0))
-        most = 3 * sum(fight.weight for _, fight in own)
+        scheduled = [(index, fight.weight) for index, fight in enumerate(fights)
+                     if fight.opponent == opponent]
+        played = [(points[index], weight) for index, weight in scheduled if index in points]
+        outcomes = [fight_points for fight_points, _ in played]
+        wins, ties, losses = map(outcomes.count, (3, 1, 0))
+        score = sum(fight_points * weight for fight_points, weight in played)
+        greatest = 3 * sum(weight for _, weight in scheduled)
+        left = len(scheduled) - len(played)
         print(f"    opponent {opponent}: {wins} wins {ties} ties {losses} losses, "
-              f"{score} of {most}{left}")
+              f"{score} of {greatest}{f', {left} not played' if left else ''}")
 
 
 def print_start(cert, fights, template):
     """Prints what START made, and how much less than the best."""
     total = cert.total_of(template.start, fights)
-    said = "" if total is None else f", total {total}, {cert.total - total} less than the best"
-    print_scores(f"START, setting {template.start}{said} {template.constants(template.start)}",
+    shown = "" if total is None else f", total {total}, {cert.total - total} less than the best"
+    print_scores(f"START, setting {template.start}{shown} {template.constants(template.start)}",
                  cert.points(template.start), fights)
 
 
-def print_best(cert, fights, template, most):
-    """Prints the first settings of the ranking, as far as the certificate shows it."""
+def print_first(cert, fights, template, wanted):
+    """Prints the first `wanted` settings of the ranking, as far as the certificate shows it."""
     full, dropped, exact = cert.ranked(fights)
     print(f"{counted(len(full), 'setting')} played all fights, {dropped} "
           f"{'was' if dropped == 1 else 'were'} dropped" if dropped
           else f"best of {counted(len(full), 'setting')}")
     if dropped:
-        print(f"    {tuning_files.said_of_ranks(exact, most)}")
-    for total, v in full[:min(most, exact)]:
-        constants = f" {template.constants(v)}" if template else ""
-        print(f"    setting {v}: total {total}{constants}")
+        print(f"    {tuning_files.exactness_text(exact, wanted)}")
+    for total, setting in full[:min(wanted, exact)]:
+        constants = f" {template.constants(setting)}" if template else ""
+        print(f"    setting {setting}: total {total}{constants}")
 
 
 class Warriors:
     """Which settings make one warrior: by their rows, and else by what they assemble to."""
 
     def __init__(self, cert, args):
-        self.cert, self.loads = cert, {}
+        self.cert, self.load_files = cert, {}
         if len(cert.rows) <= MOST_ASSEMBLED:
-            words = [*rules_of(args).words(), "--setting"]
-            alone = [v for v, row in enumerate(cert.rows) if row[0] == "cap"]
-
-            def load(v):
-                return load_of(args.program, *words, str(v), args.template)[0]
-
             try:
-                with concurrent.futures.ThreadPoolExecutor(os.cpu_count()) as pool:
-                    self.loads = dict(zip(alone, pool.map(load, alone)))
+                self.read_load_files(args)
             except Fault as fault:
                 say("note", str(fault), 0)
 
+    def read_load_files(self, args):
+        """Assembles each setting whose row does not name another one with an equal warrior."""
+        words = [*rules_of(args).words(), "--setting"]
+        settings = [setting for setting, row in enumerate(self.cert.rows) if row[0] == "cap"]
+
+        def load_file(setting):
+            return assemble(args.program, *words, str(setting), args.template)[0]
+
+        with concurrent.futures.ThreadPoolExecutor(os.cpu_count()) as pool:
+            self.load_files = dict(zip(settings, pool.map(load_file, settings)))
+
     def are_one(self, settings):
         """Returns whether these settings make one warrior, or None if that is not known."""
-        if any(self.cert.rows[v][0] == "refused" for v in settings):
+        if any(self.cert.rows[setting][0] == "refused" for setting in settings):
             return False
-        twins = sorted({self.cert.twin(v) for v in settings})
+        twins = {self.cert.twin(setting) for setting in settings}
         if len(twins) == 1:
             return True
-        loads = {self.loads.get(v) for v in twins}
-        return None if None in loads or b"" in loads else len(loads) == 1
+        load_files = {self.load_files.get(twin) for twin in twins}
+        return None if None in load_files or b"" in load_files else len(load_files) == 1
+
+
+def idle_text(alike):
+    """Returns a text that says how often a constant changes nothing. `alike` says for each choice
+    of the other constants whether all its values make one warrior, None if that is not known."""
+    text = f"{alike.count(True)} of {len(alike)}"
+    if None in alike:
+        return text + f", {alike.count(None)} not known"
+    return text + ", changes nothing" if all(alike) else text
 
 
 def print_idle(template, warriors):
     """Prints for each constant for how many settings of the others its value makes no difference to
     the warrior."""
     print("for how many choices of the other constants all values of one make the same warrior")
-    for k, name in enumerate(template.names):
+    for constant, name in enumerate(template.names):
         groups = {}
-        for v, values in enumerate(template.settings):
-            groups.setdefault(values[:k] + values[k + 1:], []).append(v)
+        for setting, values in enumerate(template.settings):
+            others = values[:constant] + values[constant + 1:]
+            groups.setdefault(others, []).append(setting)
         alike = [warriors.are_one(group) for group in groups.values()]
-        said = f"{alike.count(True)} of {len(groups)}"
-        if len(template.values[k]) == 1:
-            said = "only one value"
-        elif None in alike:
-            said += f", {alike.count(None)} not known"
-        elif all(alike):
-            said += ", changes nothing"
-        print(f"    {name}: {said}")
+        single = len(template.ranges[constant]) == 1
+        print(f"    {name}: {'only one value' if single else idle_text(alike)}")
 
 
 def make_parser():
@@ -119,9 +129,9 @@ def make_parser():
 def main():
     parser = make_parser()
     args = parser.parse_intermixed_args()
-    unknown = cert_inputs.settle(args)
+    why_unused = cert_inputs.settle(args)
     if args.schedule is None:
-        parser.error(f"give SCHEDULE: {unknown or 'the schedule of the tuning is not there'}")
+        parser.error(f"give SCHEDULE: {why_unused or 'the schedule of the tuning is not there'}")
     cert = tuning_files.Certificate(args.cert)
     fights = cert.fights(args.schedule)
     template = tuning_files.Template(args.template).of(cert) if args.template else None
@@ -130,7 +140,7 @@ def main():
                  cert.points(cert.best), fights)
     if template:
         print_start(cert, fights, template)
-    print_best(cert, fights, template, args.top)
+    print_first(cert, fights, template, args.top)
     if template:
         print_idle(template, Warriors(cert, args))
-    cert_inputs.print_note(unknown)
+    cert_inputs.print_note(why_unused)

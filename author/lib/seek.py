@@ -14,11 +14,11 @@ Example: cwtune-seek my.red fights.csv dwarf.red scanner.red > better.red
 import itertools, math, pathlib, random, re, sys, tempfile
 from typing import NamedTuple
 
-from .endings import Fault, counted, end_as, end_by_kill_as_by_interrupt
+from .endings import Fault, end_as, end_by_kill_as_by_interrupt
 from .grid import Grid
 from .program import NO_CANDIDATE, rules_of, run_program
 from .tuning_files import MOST_SETTINGS
-from .words import add_program, add_rules, add_words, command_parser, number_from
+from .words import add_program, add_rules, add_words, command_parser, counted, number_from
 
 # How `cwtune-study` reads this command's lines: START's total, if it assembles, and the number of
 # fights.
@@ -26,56 +26,61 @@ START_LINE = re.compile(r"^start: total (\d+) of", re.M)
 FOUND_LINE = re.compile(r"^found: total .*, (\d+) fights in", re.M)
 
 
-class Enough(Exception):
-    """The fights of --fights were played."""
+class FightsReached(Exception):
+    """Raised once the fights reach --fights N, which ends the climb."""
 
 
-class Found(NamedTuple):
-    """The best setting of a line, and the fights of its tuning."""
+class BestOfLine(NamedTuple):
+    """The best setting of a line: its total, its values, and the fights of the line's tuning."""
 
     total: int
-    setting: tuple
+    values: tuple
     fights: int
 
 
 class Tunings:
-    """The tunings of lines and planes of a grid, none of them twice, and their fights."""
+    """The tunings of lines and planes of a grid, none of them twice, and their fights.
+
+    A line is known by the values of one of its settings, and by the indices `free` of the constants
+    in which its settings differ.
+    """
 
     def __init__(self, args, grid, folder):
         self.args, self.grid, self.folder = args, grid, pathlib.Path(folder)
-        self.made, self.fights, self.greatest = {}, 0, ""
+        self.best_by_line, self.fights, self.greatest = {}, 0, ""
 
-    def key(self, setting, free):
-        """Returns the key of a line: its free constants, and the values of the others."""
-        return free, tuple(at for k, at in enumerate(setting) if k not in free)
+    def line(self, values, free):
+        """Returns what all settings of a line have in common: `free`, and the other values."""
+        return free, tuple(value for constant, value in enumerate(values) if constant not in free)
 
-    def is_made(self, setting, free):
+    def is_tuned(self, values, free):
         """Returns whether a line through a setting was tuned before."""
-        return self.key(setting, free) in self.made
+        return self.line(values, free) in self.best_by_line
 
-    def best(self, setting, free):
+    def best(self, values, free):
         """Returns the best setting of a line through a setting, or None if none of the line
-        assembles."""
-        key = self.key(setting, free)
-        if key not in self.made:
+        assembles. Tunes the line if it was not tuned before."""
+        line = self.line(values, free)
+        if line not in self.best_by_line:
             if self.args.fights and self.fights >= self.args.fights:
-                raise Enough
-            self.made[key] = self.tune(self.grid.line_through(setting, free))
-            self.fights += self.made[key].fights if self.made[key] else 0
-        return self.made[key]
+                raise FightsReached
+            best = self.tune(self.grid.line_through(values, free))
+            self.best_by_line[line] = best
+            self.fights += best.fights if best else 0
+        return self.best_by_line[line]
 
     def tune(self, text):
         """Tunes a template. Returns its best setting, or None if none assembles."""
         (self.folder / "template.red").write_bytes(text)
-        done = self.run()
-        if done.returncode == 1 and done.stderr.endswith(NO_CANDIDATE.encode()):
+        completed = self.run()
+        if completed.returncode == 1 and completed.stderr.endswith(NO_CANDIDATE.encode()):
             return None
-        if done.returncode != 0:
-            end_as(done.returncode, done.stderr)
-        report = dict(line.split(" ", 1) for line in done.stdout.decode().splitlines())
+        if completed.returncode != 0:
+            end_as(completed.returncode, completed.stderr)
+        report = dict(line.split(" ", 1) for line in completed.stdout.decode().splitlines())
         total, _, self.greatest = report["total"].split()
-        return Found(int(total), self.grid.setting_of(report["constants"]),
-                     int(report["fights"].split()[0]))
+        return BestOfLine(int(total), self.grid.values_of(report["constants"]),
+                          int(report["fights"].split()[0]))
 
     def run(self):
         """Runs `cwtune tune`, or `cwtune-spread` if there are several jobs."""
@@ -89,62 +94,62 @@ class Tunings:
 
 
 class Climb:
-    """A climb from a setting: where it is, and the total there, None if it does not assemble."""
+    """A climb from a setting: the values where it is, and the total there, None if it does not
+    assemble."""
 
-    def __init__(self, tunings, setting):
+    def __init__(self, tunings, values):
         self.tunings, self.grid = tunings, tunings.grid
-        self.setting, self.total = setting, None
+        self.values, self.total = values, None
 
     def go(self, choices):
         """Plays the fights of the first setting, and then tunes one choice of constants after the
         other until none of them gains."""
-        alone = self.tunings.best(self.setting, ())
-        self.total = alone and alone.total
-        said = f"total {self.total} of {self.tunings.greatest}" if alone else "does not assemble:"
-        print(f"start: {said} {self.grid.constants_of(self.setting)}", file=sys.stderr, flush=True)
-        idle = 0
+        first = self.tunings.best(self.values, ())
+        self.total = first and first.total
+        total = f"total {self.total} of {self.tunings.greatest}" if first else "does not assemble:"
+        print(f"start: {total} {self.grid.constants_of(self.values)}", file=sys.stderr, flush=True)
+        without_gain = 0
         for free in itertools.cycle(choices):
-            if idle == len(choices):
+            if without_gain == len(choices):
                 return
-            idle = 0 if self.step(free) else idle + 1
+            without_gain = 0 if self.step(free) else without_gain + 1
 
     def step(self, free):
         """Tunes the constants `free`, prints what came, and returns whether that gained."""
-        known = self.tunings.is_made(self.setting, free)
-        best = self.tunings.best(self.setting, free)
+        tuned_before = self.tunings.is_tuned(self.values, free)
+        best = self.tunings.best(self.values, free)
         if best is None:
             return False
         gains = self.total is None or best.total > self.total
         gain = f" (+{best.total - (self.total or 0)})" if gains else ""
         if gains:
-            self.setting, self.total = best.setting, best.total
-        names = ",".join(self.grid.names[k] for k in free)
-        if gains or not known:
-            print(f"{names}: total {self.total}{gain} {self.grid.constants_of(self.setting)}, "
-                  f"{0 if known else best.fights} fights", file=sys.stderr, flush=True)
+            self.values, self.total = best.values, best.total
+        names = ",".join(self.grid.names[constant] for constant in free)
+        if gains or not tuned_before:
+            print(f"{names}: total {self.total}{gain} {self.grid.constants_of(self.values)}, "
+                  f"{0 if tuned_before else best.fights} fights", file=sys.stderr, flush=True)
         return gains
 
 
 def choices_of(grid, pairs):
     """Returns which constants are tuned together: each alone, or each two of them."""
-    if not pairs or len(grid.names) == 1:
-        choices = [(k,) for k in range(len(grid.names))]
-    else:
-        choices = list(itertools.combinations(range(len(grid.names)), 2))
+    constants = range(len(grid.names))
+    choices = list(itertools.combinations(constants, 2 if pairs and len(constants) > 1 else 1))
     for free in choices:
-        settings = math.prod(len(grid.values[k]) for k in free)
+        settings = math.prod(len(grid.ranges[constant]) for constant in free)
         if settings > MOST_SETTINGS:
-            raise Fault(f"{','.join(grid.names[k] for k in free)}: {settings} settings, more than "
-                        f"the {MOST_SETTINGS} that `cwtune tune` takes", 2)
+            names = ",".join(grid.names[constant] for constant in free)
+            raise Fault(f"{names}: {settings} settings, more than the {MOST_SETTINGS} that "
+                        "`cwtune tune` takes", 2)
     return choices
 
 
 def starts_of(grid, count, seed):
-    """Yields START, and then settings drawn from all."""
+    """Yields the values of START, and then of `count` settings drawn from all."""
     yield grid.start_values
-    draw = random.Random(seed)
+    dice = random.Random(seed)
     for _ in range(count):
-        yield tuple(draw.choice(values) for values in grid.values)
+        yield tuple(dice.choice(values) for values in grid.ranges)
 
 
 def seek(args, grid, tunings):
@@ -152,12 +157,12 @@ def seek(args, grid, tunings):
     best, climb = None, None
     choices = choices_of(grid, args.pairs)
     try:
-        for setting in starts_of(grid, args.starts, args.seed):
-            climb = Climb(tunings, setting)
+        for values in starts_of(grid, args.starts, args.seed):
+            climb = Climb(tunings, values)
             climb.go(choices)
             best = higher(best, climb)
         return best, ""
-    except Enough:
+    except FightsReached:
         return higher(best, climb), f", ended after {tunings.fights} fights (--fights)"
     except KeyboardInterrupt:
         return higher(best, climb), ", stopped"
@@ -170,15 +175,16 @@ def higher(best, climb):
     return climb if best is None or climb.total > best.total else best
 
 
-def print_end(args, grid, tunings, best, ended):
-    """Says what was found, and what is certain of it."""
+def print_end(args, grid, tunings, best, why_ended):
+    """Prints what was found, and what is certain of it. `why_ended` is empty if no constant
+    gains."""
     free = min(len(grid.names), 2 if args.pairs else 1)
-    made = counted(len(tunings.made), "tuning")
-    print(f"found: total {best.total} of {tunings.greatest} {grid.constants_of(best.setting)}, "
-          f"{tunings.fights} fights in {made}{ended}", file=sys.stderr)
-    if best.setting == grid.start_values:
+    tuned = counted(len(tunings.best_by_line), "tuning")
+    print(f"found: total {best.total} of {tunings.greatest} {grid.constants_of(best.values)}, "
+          f"{tunings.fights} fights in {tuned}{why_ended}", file=sys.stderr)
+    if best.values == grid.start_values:
         print("note: it is START, so nothing was gained", file=sys.stderr)
-    if ended:
+    if why_ended:
         print("note: it is the best setting that was seen, and more may be gained", file=sys.stderr)
     elif free == len(grid.names):
         print(f"note: none of all {grid.count()} settings has a greater total", file=sys.stderr)
@@ -187,18 +193,18 @@ def print_end(args, grid, tunings, best, ended):
               f"total; one elsewhere, of all {grid.count()} settings, may", file=sys.stderr)
 
 
-def values_of(args, grid, setting):
-    """Returns the values of the template that is printed: those of the box, unless it has more
-    settings than `cwtune tune` takes."""
+def ranges_of(args, grid, values):
+    """Returns the ranges of the template that is printed: those of the box around a setting, unless
+    it has more settings than `cwtune tune` takes."""
     if args.box is None:
-        return grid.values
-    values = grid.box(setting, args.box)
-    settings = math.prod(map(len, values))
+        return grid.ranges
+    ranges = grid.box(values, args.box)
+    settings = math.prod(map(len, ranges))
     if settings <= MOST_SETTINGS:
-        return values
+        return ranges
     print(f"note: --box={args.box} would leave {settings} settings, more than the {MOST_SETTINGS} "
           "that `cwtune tune` takes, so the ranges are not cut", file=sys.stderr)
-    return grid.values
+    return grid.ranges
 
 
 def make_parser():
@@ -230,13 +236,13 @@ def main():
                     "(cwtune-vary makes a template of a text with EQU lines)")
     with tempfile.TemporaryDirectory(prefix="cwtune-seek-") as folder:
         tunings = Tunings(args, grid, folder)
-        best, ended = seek(args, grid, tunings)
-    if best is None and ended:
+        best, why_ended = seek(args, grid, tunings)
+    if best is None and why_ended:
         print("stopped: before START or another setting was played", file=sys.stderr)
         raise KeyboardInterrupt
     if best is None:
         raise Fault("no setting that was tried assembles; `cwtune asm --setting start` says why of "
                     "START")
-    print_end(args, grid, tunings, best, ended)
-    values = values_of(args, grid, best.setting)
-    sys.stdout.buffer.write(grid.text(values, best.setting))
+    print_end(args, grid, tunings, best, why_ended)
+    ranges = ranges_of(args, grid, best.values)
+    sys.stdout.buffer.write(grid.text(ranges, best.values))

@@ -2,25 +2,24 @@
 
 Example: cwtune-series 4321 20 3 > fights.csv
 """
-from .endings import counted
 from .program import Rules, rules_of
 from .tuning_files import MOST_FIGHTS, MOST_OPPONENTS, Fight, schedule_text
-from .words import MEANING, add_hill, command_parser, number_from
+from .words import MEANING, add_hill, command_parser, counted, number_from
 
 
 def series(seed, rounds, core, distance):
     """Yields position and first mover of each round, as pMARS 0.9.2 chooses them."""
-    number = seed - distance
-    for i in range(rounds):
-        yield distance + number % (core + 1 - 2 * distance), "co"[i % 2]
-        number = number * 16807 % 2147483647
+    state = seed - distance
+    for index in range(rounds):
+        yield distance + state % (core + 1 - 2 * distance), "co"[index % 2]
+        state = state * 16807 % 2147483647
 
 
-def refuse_fights(parser, name, each, opponents):
-    """Refuses `each` fights against each opponent if that is more than a schedule may have. `name`
-    is the option that gave `each`."""
-    if each * opponents > MOST_FIGHTS:
-        parser.error(f"{name} {each} against {counted(opponents, 'opponent')}: more than "
+def refuse_fights(parser, name, rounds, opponents):
+    """Refuses `rounds` fights against each opponent if that is more than a schedule may have.
+    `name` is the option that gave `rounds`."""
+    if rounds * opponents > MOST_FIGHTS:
+        parser.error(f"{name} {rounds} against {counted(opponents, 'opponent')}: more than "
                      f"{MOST_FIGHTS} fights")
 
 
@@ -61,5 +60,5 @@ def main():
     refuse_seed(parser, "SEED", args.seed, rules)
     refuse_fights(parser, "ROUNDS", args.rounds, args.opponents)
     fights = list(series(args.seed, args.rounds, rules.core, rules.distance))
-    print(schedule_text(Fight(k, *fight) for k in range(args.opponents) for fight in fights),
-          end="")
+    print(schedule_text(Fight(opponent, position, first) for opponent in range(args.opponents)
+                        for position, first in fights), end="")

@@ -25,11 +25,11 @@ from . import cert_inputs, spread_parts, spread_shares, tuning_files
 from .endings import Fault, end_as, end_by_kill_as_by_interrupt
 from .program import EXPLAIN, rules_of, run_program
 from .spread_folder import Folder
-from .spread_jobs import Here, Hosts
+from .spread_jobs import HostJobs, LocalJobs
 from .spread_parts import Part
 from .spread_progress import PartsProgress, SharesProgress
 from .spread_report import best_of, index_of, ranks_of, report_of, write_whole
-from .spread_words import MOST, add_options, refuse_idle
+from .spread_words import MOST_PIECES, add_options, refuse_idle
 from .words import command_parser
 from .writing import naming, whole_file
 
@@ -48,22 +48,24 @@ def refuse_faults(args):
     A template has at most a million settings. So if nothing else is wrong, `tune` looks at all
     inputs, says that there is no such part, and plays no fight.
     """
-    done = tune_part(args, f"1/{MOST}")
-    if NO_SUCH_PART not in done.stderr:
-        end_as(done.returncode, done.stderr)
+    completed = tune_part(args, f"1/{MOST_PIECES}")
+    if NO_SUCH_PART not in completed.stderr:
+        end_as(completed.returncode, completed.stderr)
 
 
-def explained(args):
+def explain_words(args):
+    """Returns the option --explain of `cwtune`, if somebody wants explanations."""
     return ["--explain"] if args.explain or EXPLAIN else []
 
 
 def tune_part(args, part):
     """Runs the tuning of a part as `tune` alone does."""
-    return run_program(args.program, "tune", f"--part={part}", *explained(args), *options_of(args),
-                       "--", args.template, args.schedule, args.cert, *args.opponent)
+    return run_program(args.program, "tune", f"--part={part}", *explain_words(args),
+                       *tune_options(args), "--", args.template, args.schedule, args.cert,
+                       *args.opponent)
 
 
-def options_of(args):
+def tune_options(args):
     """Returns the rules, the method and the ranking of the tuning as options of `tune`."""
     return [*rules_of(args).words(), "--all" if args.all else f"--cache={args.cache}",
             *spread_shares.keep_words(args.keep)]
@@ -75,56 +77,58 @@ def method_of(args):
 
 
 def count_settings(args):
-    """Returns the number of settings, which the program counts, and shows its notes of what is
-    ignored in the template. Returns the notes too."""
-    done = run_program(args.program, "settings", *explained(args), "--", args.template)
-    if done.returncode != 0:
-        end_as(done.returncode, done.stderr)
-    sys.stderr.buffer.write(done.stderr)
+    """Returns the number of settings, which the program counts, and its notes of what is ignored in
+    the template, which this shows."""
+    completed = run_program(args.program, "settings", *explain_words(args), "--", args.template)
+    if completed.returncode != 0:
+        end_as(completed.returncode, completed.stderr)
+    sys.stderr.buffer.write(completed.stderr)
     sys.stderr.flush()
-    return int(done.stdout.split()[1]), done.stderr
+    return int(completed.stdout.split()[1]), completed.stderr
 
 
-def rejected_for_all(args, cert, notes):
+def rejection_by_form(args, cert, notes):
     """Returns the line of a certificate that is rejected for its form or for its best row, else
     nothing. Ends as `check` ends if it refuses an input. The notes were shown before.
 
     The first of 4294967295 shares has no setting, so nothing else is looked at.
     """
-    done = run_program(args.program, "check", f"--share=1/{MOST}", *explained(args),
-                       *spread_shares.keep_words(args.keep), *rules_of(args).words(), "--",
-                       args.template, args.schedule, cert, *args.opponent)
-    said = done.stderr.removeprefix(notes)
-    if done.returncode != 0 and not done.stdout:
-        end_as(done.returncode, said)
-    sys.stderr.buffer.write(said)
-    return done.stdout.decode() if done.returncode else ""
+    completed = run_program(args.program, "check", f"--share=1/{MOST_PIECES}",
+                            *explain_words(args), *spread_shares.keep_words(args.keep),
+                            *rules_of(args).words(), "--", args.template, args.schedule, cert,
+                            *args.opponent)
+    new_stderr = completed.stderr.removeprefix(notes)
+    if completed.returncode != 0 and not completed.stdout:
+        end_as(completed.returncode, new_stderr)
+    sys.stderr.buffer.write(new_stderr)
+    return completed.stdout.decode() if completed.returncode else ""
 
 
-def check(args, count, notes, cert):
+def check(args, setting_count, notes, cert):
     """Checks a certificate in shares. Returns what the whole check prints, and its status."""
-    if line := rejected_for_all(args, cert, notes):
+    if line := rejection_by_form(args, cert, notes):
         return line, 1
     merges = args.check_only and args.merge
-    shares = (spread_shares.ClusterShares(args, count) if merges
-              else spread_shares.Shares(args, count, cert))
+    shares = (spread_shares.ClusterShares(args, setting_count) if merges
+              else spread_shares.Shares(args, setting_count, cert))
     progress = SharesProgress(shares, args.progress)
-    with stopping(shares, progress):
-        say_missing(shares, progress, {} if merges else run_jobs(args, shares, progress))
-        shares.see_the_same()
-        line = spread_shares.verdict_of(progress.done(), cert)
-        shares.end()
-    return line, 0 if line.startswith("accepted") else 1
+    with explaining_stop(shares, progress):
+        faults = {} if merges else run_jobs(args, shares, progress)
+        refuse_missing(shares, progress, faults)
+        shares.refuse_changed_inputs()
+        verdict = spread_shares.verdict_of(progress.done(), cert)
+        shares.clean_up()
+    return verdict, 0 if verdict.startswith("accepted") else 1
 
 
 @contextlib.contextmanager
-def stopping(folder, progress):
+def explaining_stop(folder, progress):
     """Says after Ctrl-C what is done, unless that was said."""
     try:
         yield
     except KeyboardInterrupt as stop:
         if not stop.args and isinstance(folder, Folder):
-            print(f"stopped: {go_on(folder, progress)}", file=sys.stderr)
+            print(f"stopped: {how_to_go_on(folder, progress)}", file=sys.stderr)
         raise KeyboardInterrupt("said") from None
 
 
@@ -133,14 +137,15 @@ def run_jobs(args, folder, progress):
     faults, jobs = {}, None
     try:
         progress.show()
-        jobs = (Hosts if args.hosts else Here)(args, folder, folder.in_order(progress.todo))
-        while jobs.are_running():
-            for number, status in jobs.ended():
-                faults[number] = folder.keep(number, status)
+        numbers = folder.in_order(progress.numbers_left())
+        jobs = (HostJobs if args.hosts else LocalJobs)(args, folder, numbers)
+        while jobs.keep_running():
+            for number, status in jobs.take_ended():
+                faults[number] = folder.take_result(number, status)
                 progress.pieces[number] = folder.piece(number)
             progress.show()
             time.sleep(0.02)
-        faults |= dict.fromkeys(jobs.todo, jobs.fault)
+        faults |= dict.fromkeys(jobs.waiting, jobs.fault)
     finally:
         if jobs:
             jobs.stop()
@@ -148,39 +153,40 @@ def run_jobs(args, folder, progress):
     return faults
 
 
-def go_on(folder, progress):
+def how_to_go_on(folder, progress):
     """Returns the text that says what is done, and what to repeat."""
-    return (f"{len(progress.done())} of {folder.pieces} {folder.PIECE}s are done, and kept in "
-            f"{folder.given}: repeat the command to run the others")
+    return (f"{len(progress.done())} of {folder.piece_count} {folder.PIECE}s are done, and kept in "
+            f"{folder.given_path}: repeat the command to run the others")
 
 
-def say_missing(folder, progress, faults):
+def refuse_missing(folder, progress, faults):
     """If a piece has no result, ends: as its `cwtune` ended if that refused an input, else with
     status 3."""
-    missing = [number for number, piece in progress.pieces.items() if piece is None]
+    missing = progress.numbers_left()
     if not missing:
         return
-    said = [faults[number] for number in missing if faults.get(number)]
-    for line in said:
-        if line.startswith(("refused: ", "error: ")):
-            raise Fault(line.split(": ", 1)[1].strip(), 1 if line[0] == "r" else 2)
-    numbers = f"{'s' * (len(missing) > 1)} {', '.join(map(str, missing))} of {folder.pieces}"
-    cause = f" ({said[0].strip()})" if said else ""
-    hint = f"\n{go_on(folder, progress)}" if isinstance(folder, Folder) else ""
-    raise Fault(f"no result for {folder.PIECE}{numbers}{cause}{hint}", 3)
+    messages = [faults[number] for number in missing if faults.get(number)]
+    for message in messages:
+        if message.startswith(("refused: ", "error: ")):
+            word, fault = message.split(": ", 1)
+            raise Fault(fault.strip(), 1 if word == "refused" else 2)
+    numbers = f"{'s' * (len(missing) > 1)} {', '.join(map(str, missing))} of {folder.piece_count}"
+    why = f" ({messages[0].strip()})" if messages else ""
+    hint = f"\n{how_to_go_on(folder, progress)}" if isinstance(folder, Folder) else ""
+    raise Fault(f"no result for {folder.PIECE}{numbers}{why}{hint}", 3)
 
 
 def refuse_floors(parts):
     """Refuses parts of a cluster whose floors were too great to show which setting is the best."""
     best = best_of(parts)
     # A floor of 0 hides nothing. Without a best setting any other may hide one.
-    most, first = (best.total(), index_of(best)) if best else (-1, 0)
+    greatest, best_setting = (best.total(), index_of(best)) if best else (-1, 0)
     for part in filter(Part.is_below, parts):
         floor = int(part.report["total"].split()[1])
-        if floor - 1 > most or floor - 1 == most and part.first < first:
+        if floor - 1 > greatest or floor - 1 == greatest and part.first < best_setting:
             raise Fault(f"the part from setting {part.first} on is below the floor {floor}, but "
-                        f"the greatest total found is {max(most, 0)}: a greater one may be there",
-                        2)
+                        f"the greatest total found is {max(greatest, 0)}: a greater one may be "
+                        "there", 2)
 
 
 def refuse_ranking(args, cert):
@@ -193,34 +199,43 @@ def refuse_ranking(args, cert):
                         f"were they tuned with --keep {args.keep}?", 2)
 
 
+def end_without_candidate(args, folder, notes):
+    """Ends as `tune` ends if no setting assembles. The notes were shown before."""
+    folder.clean_up()
+    completed = tune_part(args, f"1/{folder.piece_count}")
+    end_as(completed.returncode, completed.stderr.removeprefix(notes))
+
+
 def finish(args, folder, progress, notes):
-    """Puts the parts together, writes CERT and prints the report."""
-    parts = progress.done()
+    """Puts the parts together, writes CERT and prints the report. Returns the status."""
+    parts, whole = progress.done(), folder.whole()
     if not any(part.report for part in parts):
-        folder.end()
-        done = tune_part(args, f"1/{folder.pieces}")
-        end_as(done.returncode, done.stderr.removeprefix(notes))
+        end_without_candidate(args, folder, notes)
     refuse_floors(parts)
-    with naming(folder.given):
+    with naming(folder.given_path):
         write_whole(folder, progress.pieces)
-    refuse_ranking(args, folder.whole())
+    refuse_ranking(args, whole)
     ranks = ranks_of(parts, args.keep)
-    said, status = check(args, folder.count, notes, folder.whole()) if args.check else ("", 0)
+    printed, status = check(args, folder.setting_count, notes, whole) if args.check else ("", 0)
     if status:
-        print(said, end="", flush=True)
+        print(printed, end="", flush=True)
         print(f"{args.cert} is not written, and the parts stay", file=sys.stderr)
         return status
-    verdict, *checked = said.splitlines() or [None]
-    if verdict and checked != ranks:
+    verdict, checked_ranks = printed.splitlines()[:1], printed.splitlines()[1:]
+    if verdict and checked_ranks != ranks:
         raise Fault("the check names another ranking than the parts", 3)
-    with whole_file(args.cert) as file, folder.whole().open() as whole:
-        shutil.copyfileobj(whole, file)
-    write_inputs(args)
-    print_start(args, folder.whole())
-    report = report_of(parts, folder.count) + ranks
-    print(*report, *([verdict] if verdict else []), sep="\n", flush=True)
-    folder.end()
+    write_cert(args, whole)
+    print_start(args, whole)
+    print(*report_of(parts, folder.setting_count), *ranks, *verdict, sep="\n", flush=True)
+    folder.clean_up()
     return 0
+
+
+def write_cert(args, whole):
+    """Copies the certificate of the whole template to CERT, and writes CERT.inputs."""
+    with whole_file(args.cert) as file, whole.open() as source:
+        shutil.copyfileobj(source, file)
+    write_inputs(args)
 
 
 def write_inputs(args):
@@ -242,25 +257,26 @@ def write_inputs(args):
 def print_start(args, whole):
     """Prints on standard error what START made, if it played all fights and somebody asks. `whole`
     is the certificate."""
-    if not explained(args):
+    if not explain_words(args):
         return
-    found, template = tuning_files.Certificate(str(whole)), tuning_files.Template(args.template)
-    total = found.total_of(template.start, tuning_files.read_schedule(args.schedule))
+    cert, template = tuning_files.Certificate(str(whole)), tuning_files.Template(args.template)
+    total = cert.total_of(template.start, tuning_files.read_schedule(args.schedule))
     if total is not None:
         print(f"  START, setting {template.start}, total {total} "
               f"{template.constants(template.start)}", file=sys.stderr)
 
 
-def tune(args, count, notes):
-    """Tunes the template in parts, or puts together what the jobs of a cluster wrote."""
-    folder = (spread_parts.ClusterParts(args, count) if args.merge
-              else spread_parts.Parts(args, count, options_of(args)))
+def tune(args, setting_count, notes):
+    """Tunes the template in parts, or puts together what the jobs of a cluster wrote. Returns the
+    status."""
+    folder = (spread_parts.ClusterParts(args, setting_count) if args.merge
+              else spread_parts.Parts(args, setting_count, tune_options(args)))
     progress = PartsProgress(folder, args.progress)
     for number in range(1, (args.merge or 0) + 1):
         part = f"{number}/{args.merge}"
-        cert_inputs.refuse_others(args, folder.cert(number), part, method_of(args))
-    with stopping(folder, progress):
-        say_missing(folder, progress, {} if args.merge else run_jobs(args, folder, progress))
+        cert_inputs.refuse_other_tuning(args, folder.cert(number), part, method_of(args))
+    with explaining_stop(folder, progress):
+        refuse_missing(folder, progress, {} if args.merge else run_jobs(args, folder, progress))
         try:
             return finish(args, folder, progress, notes)
         finally:
@@ -275,6 +291,6 @@ def main():
     if not args.check_only:
         refuse_faults(args)
         return tune(args, *count_settings(args))
-    line, status = check(args, *count_settings(args), args.cert)
-    print(line, end="", flush=True)
+    verdict, status = check(args, *count_settings(args), args.cert)
+    print(verdict, end="", flush=True)
     return status

@@ -1,4 +1,4 @@
-"""A folder of `cwtune-spread`: what its jobs are made of, and what came of them.
+"""Keeps in a folder what the jobs of `cwtune-spread` are made of, and what came of them.
 
     spread.json      what the folder is of: the number of pieces and of settings, and a fingerprint
                      of all inputs
@@ -25,81 +25,90 @@ class Copy(NamedTuple):
     source: str
 
 
-def copies_of(args, *more):
-    """Returns the inputs of a tuning, with `more` of them before the opponents."""
+def copies_of(args, *others):
+    """Returns the inputs of a tuning, with `others` before the opponents."""
     return [Copy("program", "cwtune", args.program), Copy("template", "t.red", args.template),
-            Copy("schedule", "s.csv", args.schedule), *more,
-            *(Copy("opponents", f"o{k}.red", path) for k, path in enumerate(args.opponent))]
+            Copy("schedule", "s.csv", args.schedule), *others,
+            *(Copy("opponents", f"o{index}.red", path)
+              for index, path in enumerate(args.opponent))]
 
 
 class Folder(OwnFolder):
     """A folder that `cwtune-spread` made.
 
-    Its subclasses say how a piece is called, what else its pieces depend on (`settled`), and which
-    files are its own.
+    Its subclasses say how a piece is called (`PIECE`), which files of the folder are its own
+    (`OWN_FILES`) and which of these a kill may leave (`UNFINISHED_FILES`), and of which kinds are
+    the files that a run of a piece reads alone (`SENT_KINDS`) and writes (`RETURNED_KINDS`).
     """
 
     COMMAND, MARK = "cwtune-spread", "spread.json"
-    SENT = []
+    SENT_KINDS = []
 
-    def __init__(self, args, given, copies, settled, pieces):
-        super().__init__(given)
-        self.copies, self.settled, self.pid = copies, settled, os.getpid()
+    def __init__(self, args, given_path, copies, options, piece_count, setting_count):
+        """Opens the folder, and makes it if it is new.
+
+        `copies` are the files of which its pieces are made, and `options` what else they depend on,
+        by kind. A folder that goes on keeps its own counts.
+        """
+        super().__init__(given_path)
+        self.copies, self.input_options, self.pid = copies, options, os.getpid()
         self.opponents = [copy.name for copy in copies if copy.kind == "opponents"]
-        made = self.read_mark(lambda made: made.get("piece", "part") == self.PIECE)
-        if args.anew or "of" not in made:
-            self.remove(self.OWN)
-            made = self.fill(*pieces)
-        self.refuse_others(made["of"], self.sources(),
-                           f"{self.THROWN} in {given} are of other inputs")
-        self.refuse_others(made["of"], self.kept(), f"the copies in {given} were changed")
-        self.remove(self.UNFINISHED)
-        self.pieces, self.count = made["parts"], made["count"]
+        mark = self.read_mark(lambda mark: mark.get("piece", "part") == self.PIECE)
+        if args.anew or "of" not in mark:
+            self.remove(self.OWN_FILES)
+            mark = self.fill(piece_count, setting_count)
+        self.refuse_other_inputs(mark["of"], self.inputs_fingerprint(),
+                                 f"{self.THROWN} in {given_path} are of other inputs")
+        self.refuse_other_inputs(mark["of"], self.copies_fingerprint(),
+                                 f"the copies in {given_path} were changed")
+        self.remove(self.UNFINISHED_FILES)
+        self.piece_count, self.setting_count = mark["parts"], mark["count"]
 
-    def sources(self):
-        """Returns the fingerprint of the inputs."""
+    def inputs_fingerprint(self):
+        """Returns the fingerprint of the inputs as they are now."""
         return self.fingerprint(copy.source for copy in self.copies)
 
-    def kept(self):
-        """Returns the fingerprint of their copies."""
+    def copies_fingerprint(self):
+        """Returns the fingerprint of the copies in the folder."""
         return self.fingerprint(self.path / copy.name for copy in self.copies)
 
     def fingerprint(self, paths):
-        """Returns a value for each thing that the pieces depend on."""
+        """Returns a value for each kind of input that the pieces depend on."""
         digests = {}
         for copy, path in zip(self.copies, paths):
             digests.setdefault(copy.kind, []).append(sha256_of(path))
-        return digests | self.settled
+        return digests | self.input_options
 
-    def fill(self, pieces, count):
-        """Copies the inputs, and then writes the mark with their fingerprint."""
+    def fill(self, piece_count, setting_count):
+        """Copies the inputs, and then writes the mark with their fingerprint, which it returns."""
         self.write_mark({"piece": self.PIECE})
         for copy in self.copies:
             shutil.copyfile(copy.source, self.path / copy.name)
         (self.path / "cwtune").chmod(0o755)
-        made = {"piece": self.PIECE, "parts": pieces, "count": count, "of": self.kept()}
-        self.write_mark(made)
-        return made
+        mark = {"piece": self.PIECE, "parts": piece_count, "count": setting_count,
+                "of": self.copies_fingerprint()}
+        self.write_mark(mark)
+        return mark
 
     def remove(self, pattern):
-        """Removes the files with such names."""
+        """Removes the files whose whole names match a pattern."""
         for name in os.listdir(self.path):
             if re.fullmatch(pattern, name):
                 (self.path / name).unlink()
 
-    def end(self):
+    def clean_up(self):
         """Removes the folder, but no file that somebody else put there."""
-        self.remove(self.OWN)
+        self.remove(self.OWN_FILES)
         if os.listdir(self.path) == [self.MARK]:
             (self.path / self.MARK).unlink()
             self.path.rmdir()
 
-    def in_order(self, todo):
-        """Returns the pieces in the order in which they begin."""
-        return todo
+    def in_order(self, numbers):
+        """Returns the numbers of pieces in the order in which they begin."""
+        return numbers
 
     def prepare(self, number):
-        """Writes what only this piece reads, the files of the kinds `SENT`."""
+        """Writes what only this piece reads, the files of the kinds `SENT_KINDS`."""
 
     def file(self, number, kind):
         """Returns where this run writes something of a piece."""

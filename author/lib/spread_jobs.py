@@ -1,4 +1,8 @@
-"""Runs the pieces of `cwtune-spread`, here or on other hosts. Each writes files of its own."""
+"""Runs jobs, here or on other hosts: the pieces of `cwtune-spread`, and the heats of a study.
+
+A folder says what the job of each number is: `prepare` writes what the job reads, `words` is what
+it runs in the folder's `path`, and `file` where each kind of output goes.
+"""
 import contextlib, ctypes, pathlib, shutil, signal, subprocess
 
 from .endings import Fault
@@ -14,17 +18,19 @@ def end_with_parent():
     ctypes.CDLL(None).prctl(PR_SET_PDEATHSIG, signal.SIGKILL)
 
 
-class Here:
-    """Pieces that run on this host, at most `jobs` side by side. All of them end."""
+class LocalJobs:
+    """Jobs that run on this host, at most `jobs` side by side. All of them end."""
 
     fault = None
 
-    def __init__(self, args, folder, todo):
-        self.folder, self.jobs, self.todo, self.running = folder, args.jobs, list(todo), {}
+    def __init__(self, args, folder, numbers):
+        self.folder, self.jobs, self.waiting = folder, args.jobs, list(numbers)
+        self.running = {}
 
-    def are_running(self):
-        while self.todo and len(self.running) < self.jobs:
-            number = self.todo.pop(0)
+    def keep_running(self):
+        """Starts as many jobs as may run. Returns whether one is running."""
+        while self.waiting and len(self.running) < self.jobs:
+            number = self.waiting.pop(0)
             self.running[number] = self.start(number)
         return bool(self.running)
 
@@ -36,9 +42,11 @@ class Here:
             return subprocess.Popen(folder.words(number), cwd=folder.path, stdin=subprocess.DEVNULL,
                                     stdout=report, stderr=fault, preexec_fn=end_with_parent)
 
-    def ended(self):
-        """Returns the pieces that have ended since the last call, with their statuses."""
-        ended = [(n, job.returncode) for n, job in self.running.items() if job.poll() is not None]
+    def take_ended(self):
+        """Returns the numbers of the jobs that have ended since the last call, with their
+        statuses."""
+        ended = [(number, job.returncode) for number, job in self.running.items()
+                 if job.poll() is not None]
         for number, _ in ended:
             del self.running[number]
         return ended
@@ -49,49 +57,57 @@ class Here:
             job.wait()
 
 
-class Hosts:
-    """Pieces that GNU parallel runs on other hosts, over ssh and rsync. Those that have not ended
-    when it ends are still in `todo`, and `fault` is why."""
+class HostJobs:
+    """Jobs that GNU parallel runs on other hosts, over ssh and rsync. Those that have not ended
+    when it ends are still in `waiting`, and `fault` is why."""
 
     fault = None
 
-    def __init__(self, args, folder, todo):
+    def __init__(self, args, folder, numbers):
         if not shutil.which("parallel"):
             raise Fault("--hosts needs GNU parallel (Debian package `parallel`)", 2)
-        self.folder, self.todo, self.over = folder, list(todo), False
-        for number in todo:
+        self.folder, self.waiting, self.is_over = folder, list(numbers), False
+        for number in numbers:
             folder.prepare(number)
-        piece = f"{{}}.{folder.pid}"
-        job = JOB.format(words=" ".join(folder.words("{}")), piece=piece,
-                         after=folder.AFTER.format(piece=piece))
-        hosts = str(pathlib.Path(args.hosts).resolve(strict=True))
-        words = ["parallel", "--will-cite", "--jobs", str(args.jobs), "--retries", "3",
-                 "--sshloginfile", hosts, "--workdir", str(folder.path), "--cleanup"]
-        words += [word for copy in folder.copies for word in ("--basefile", copy.name)]
-        words += [word for kind in folder.SENT for word in ("--transferfile", f"{piece}.{kind}")]
-        words += [word for kind in [*folder.KINDS, "status"]
-                  for word in ("--return", f"{piece}.{kind}")]
-        self.parallel = subprocess.Popen([*words, job], cwd=folder.path, stdin=subprocess.PIPE,
-                                         text=True, preexec_fn=end_with_parent)
+        self.parallel = subprocess.Popen(self.parallel_words(args), cwd=folder.path,
+                                         stdin=subprocess.PIPE, text=True,
+                                         preexec_fn=end_with_parent)
         # If it ends at once, it reads nothing.
-        with contextlib.suppress(BrokenPipeError), self.parallel.stdin as numbers:
-            numbers.write("".join(f"{number}\n" for number in todo))
+        with contextlib.suppress(BrokenPipeError), self.parallel.stdin as stdin:
+            stdin.write("".join(f"{number}\n" for number in numbers))
 
-    def are_running(self):
-        return not self.over
+    def parallel_words(self, args):
+        """Returns the words that run GNU parallel, which puts a number in place of each `{}`."""
+        folder, piece = self.folder, f"{{}}.{self.folder.pid}"
+        job = JOB.format(words=" ".join(folder.words("{}")), piece=piece,
+                         after=folder.SHELL_AFTER.format(piece=piece))
+        hosts = str(pathlib.Path(args.hosts).resolve(strict=True))
+        options = [("--jobs", str(args.jobs)), ("--retries", "3"), ("--sshloginfile", hosts),
+                   ("--workdir", str(folder.path)), ("--cleanup",),
+                   *(("--basefile", copy.name) for copy in folder.copies),
+                   *(("--transferfile", f"{piece}.{kind}") for kind in folder.SENT_KINDS),
+                   *(("--return", f"{piece}.{kind}")
+                     for kind in [*folder.RETURNED_KINDS, "status"])]
+        return ["parallel", "--will-cite", *(word for option in options for word in option), job]
 
-    def ended(self):
-        """Returns the pieces that have ended since the last call, with their statuses."""
-        self.over = self.parallel.poll() is not None
+    def keep_running(self):
+        """Returns whether GNU parallel was running at the last call of `take_ended`."""
+        return not self.is_over
+
+    def take_ended(self):
+        """Returns the numbers of the jobs that have ended since the last call, with their
+        statuses."""
+        self.is_over = self.parallel.poll() is not None
         if self.parallel.returncode:
             self.fault = f"GNU parallel ended with status {self.parallel.returncode}"
-        ended = [(n, int(s)) for n, s in zip(self.todo, map(self.status, self.todo)) if s]
+        statuses = [(number, self.status(number)) for number in self.waiting]
+        ended = [(number, int(status)) for number, status in statuses if status]
         for number, _ in ended:
-            self.todo.remove(number)
+            self.waiting.remove(number)
         return ended
 
     def status(self, number):
-        """Returns the status that came back for a piece, or nothing."""
+        """Returns the status that came back for a job, or an empty text."""
         path = self.folder.file(number, "status")
         text = path.read_text() if path.exists() else ""
         return text.strip() if text.endswith("\n") else ""

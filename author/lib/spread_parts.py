@@ -1,4 +1,5 @@
-"""The parts of a tuning by `cwtune-spread`, in the folder CERT.parts or beside CERT.
+"""Says how `cwtune-spread` tunes each part, and reads what came of it: in the folder CERT.parts, or
+beside CERT.
 
 In the folder `I.cert` is the certificate of part I, and `I.done` has its report and the digest of
 the certificate: the part is done if the certificate has this digest.
@@ -27,7 +28,8 @@ REPORT = re.compile(
 
 
 class Part(NamedTuple):
-    """What came of a part. Without a candidate `report` is empty."""
+    """What came of a part: its first setting, how many settings it has, and its report by the first
+    words of the lines, which is empty without a candidate."""
 
     first: int
     count: int
@@ -45,41 +47,44 @@ class Part(NamedTuple):
         return int(self.report["total"].split()[0])
 
     def ranked(self):
-        """Returns what its report says of its settings, by their indices within the whole template:
-        total and constants of each that is ranked, or of the best one."""
+        """Returns total and constants of each setting that its report ranks, or else of the best
+        one, by the setting's index within the whole template."""
         if not self.has_best():
             return {}
         best = self.report["best"], self.report["total"].split()[0], self.report["constants"]
         ranks = self.report.get("ranks") or [best]
-        return {self.first + int(v): (int(total), constants) for v, total, constants in ranks}
+        return {self.first + int(setting): (int(total), constants)
+                for setting, total, constants in ranks}
 
 
-def settings_of(number, pieces, count):
-    """Returns the settings of piece `number` of `pieces`, a range of indices."""
-    return range((number - 1) * count // pieces, number * count // pieces)
+def settings_of(number, piece_count, setting_count):
+    """Returns the settings of piece `number`, a range."""
+    return range((number - 1) * setting_count // piece_count,
+                 number * setting_count // piece_count)
 
 
-def part_of(number, parts, count, report):
-    """Returns part `number` of `parts` of the settings, with its report."""
-    settings = settings_of(number, parts, count)
+def part_of(number, part_count, setting_count, report):
+    """Returns part `number` with its report."""
+    settings = settings_of(number, part_count, setting_count)
     return Part(settings.start, len(settings), report)
 
 
-def report_in(path):
+def read_report(path):
     """Returns the lines of a report by their first words, and of the lines `rank` a list. Raises a
     ValueError if it is not a report, or was cut."""
     text = path.read_text()
     if not REPORT.fullmatch(text):
         raise ValueError
     report = dict(line.split(" ", 1) for line in text.splitlines() if not line.startswith("rank "))
-    ranks = [(v, total, constants or "-") for v, total, constants in re.findall(RANK, text)]
+    ranks = [(setting, total, constants or "-")
+             for setting, total, constants in re.findall(RANK, text)]
     return report | {"ranks": ranks} if ranks else report
 
 
-def part_with(start, parts, count):
-    """Returns which of the parts has setting `start`."""
-    return next(number for number in range(1, parts + 1)
-                if start in settings_of(number, parts, count))
+def part_with(setting, part_count, setting_count):
+    """Returns the number of the part that has a setting."""
+    return next(number for number in range(1, part_count + 1)
+                if setting in settings_of(number, part_count, setting_count))
 
 
 class ClusterParts:
@@ -91,27 +96,29 @@ class ClusterParts:
 
     PIECE = "part"
 
-    def __init__(self, args, count):
-        self.given, self.count, self.pieces = args.cert, count, args.merge
+    def __init__(self, args, setting_count):
+        self.given_path, self.piece_count = args.cert, args.merge
+        self.setting_count = setting_count
 
     def cert(self, number):
-        return pathlib.Path(f"{self.given}.{number}")
+        return pathlib.Path(f"{self.given_path}.{number}")
 
     def piece(self, number):
         """Returns what came of a part, or None if it has no result."""
         try:
-            fault = pathlib.Path(f"{self.given}.{number}.fault").read_text(errors="replace")
-            path = pathlib.Path(f"{self.given}.{number}.report")
-            report = report_in(path) if path.stat().st_size else {}
+            fault = pathlib.Path(f"{self.cert(number)}.fault").read_text(errors="replace")
+            path = pathlib.Path(f"{self.cert(number)}.report")
+            report = read_report(path) if path.stat().st_size else {}
         except (FileNotFoundError, ValueError):
             return None
-        is_done = fault == ("" if report else NO_CANDIDATE)
-        return part_of(number, self.pieces, self.count, report) if is_done else None
+        if fault != ("" if report else NO_CANDIDATE):
+            return None
+        return part_of(number, self.piece_count, self.setting_count, report)
 
     def whole(self):
-        return pathlib.Path(f"{self.given}.whole")
+        return pathlib.Path(f"{self.given_path}.whole")
 
-    def end(self):
+    def clean_up(self):
         """Leaves the files of the jobs where they are."""
 
 
@@ -121,71 +128,74 @@ class Parts(Folder):
     PIECE, THROWN, INSTEAD = "part", "the parts", "CERT"
     # What a run that was killed may leave: `tune` writes a certificate to a file beside it, and
     # then CERT.inputs.
-    UNFINISHED = r"(\d+|start)\.\d+\.\w+(\.inputs)?(\.unfinished-\d+)?|.*\.\d+\.new"
-    OWN = rf"cwtune|[ts]\.(red|csv)|o\d+\.red|whole\.cert|\d+\.(cert|done)|{UNFINISHED}"
-    # The files that a run writes, and what the shell does after a run on another host, which may
-    # have no certificate to send back.
-    KINDS = ["cert", "report", "fault"]
-    SENT = ["red"]
-    AFTER = "touch {piece}.cert; rm -f {piece}.cert.inputs; "
+    UNFINISHED_FILES = r"(\d+|start)\.\d+\.\w+(\.inputs)?(\.unfinished-\d+)?|.*\.\d+\.new"
+    OWN_FILES = rf"cwtune|[ts]\.(red|csv)|o\d+\.red|whole\.cert|\d+\.(cert|done)|{UNFINISHED_FILES}"
+    SENT_KINDS = ["red"]
+    RETURNED_KINDS = ["cert", "report", "fault"]
+    # What the shell does after a run on another host, which may have no certificate to send back.
+    SHELL_AFTER = "touch {piece}.cert; rm -f {piece}.cert.inputs; "
 
-    def __init__(self, args, count, options):
-        self.options, self.args, self.template = options, args, Template(args.template)
-        # The totals that are known, by the index of the setting.
+    def __init__(self, args, setting_count, tune_options):
+        self.tune_options, self.args, self.template = tune_options, args, Template(args.template)
+        # The totals that are known, by setting.
         self.totals = {}
-        settled = {"rules": rules_of(args)._asdict(), "cache": "all" if args.all else args.cache,
+        options = {"rules": rules_of(args)._asdict(), "cache": "all" if args.all else args.cache,
                    "keep": args.keep}
-        pieces = min(count, args.parts or 16 * args.jobs)
-        super().__init__(args, f"{args.cert}.parts", copies_of(args), settled, (pieces, count))
-        if args.parts and min(args.parts, self.count) != self.pieces:
-            raise Fault(f"{self.given} has {self.pieces} parts: leave out --parts, or give --anew "
-                        "to throw them away and begin again", 2)
+        part_count = min(setting_count, args.parts or 16 * args.jobs)
+        super().__init__(args, f"{args.cert}.parts", copies_of(args), options, part_count,
+                         setting_count)
+        if args.parts and min(args.parts, self.setting_count) != self.piece_count:
+            raise Fault(f"{self.given_path} has {self.piece_count} parts: leave out --parts, or "
+                        "give --anew to throw them away and begin again", 2)
 
-    def in_order(self, todo):
-        """Returns the parts in the order in which they begin: that of START first. Plays START
-        alone, if other parts need its total as their floor."""
-        start = self.template.start
-        with_start = part_with(start, self.pieces, self.count)
-        others = [number for number in todo if number != with_start]
+    def settings(self, number):
+        """Returns the settings of a part, a range."""
+        return settings_of(number, self.piece_count, self.setting_count)
+
+    def in_order(self, numbers):
+        """Returns the numbers of parts in the order in which these begin: that of START first.
+        Plays START alone, if other parts need its total as their floor."""
+        with_start = part_with(self.template.start, self.piece_count, self.setting_count)
+        others = [number for number in numbers if number != with_start]
         if others and not self.args.all and self.args.keep == 1 and not self.totals:
-            self.play_start(start)
-        return [number for number in todo if number == with_start] + others
+            self.play_start()
+        return [number for number in numbers if number == with_start] + others
 
-    def play_start(self, start):
+    def play_start(self):
         """Plays the fights of START alone, so that its total is known, if it assembles."""
         rules, name = rules_of(self.args).words(), f"start.{self.pid}"
         asm = ["asm", *rules, "--setting", "start", "t.red"]
         tune = ["tune", *rules, f"{name}.red", "s.csv", f"{name}.cert", *self.opponents]
         if self.run(asm, f"{name}.red") == 0 and self.run(tune, f"{name}.report") == 0:
             with contextlib.suppress(ValueError):
-                report = report_in(self.path / f"{name}.report")
-                self.totals[start] = part_of(1, 1, 1, report).total()
-        self.remove(self.UNFINISHED)
+                report = read_report(self.path / f"{name}.report")
+                self.totals[self.template.start] = part_of(1, 1, 1, report).total()
+        self.remove(self.UNFINISHED_FILES)
 
-    def run(self, words, to):
-        """Runs the program in the folder, and returns its status."""
-        with (self.path / to).open("wb") as out:
+    def run(self, words, output_name):
+        """Runs the program in the folder, with its output in a file there. Returns its status."""
+        with (self.path / output_name).open("wb") as output:
             return subprocess.run(["./cwtune", *words], cwd=self.path, stdin=subprocess.DEVNULL,
-                                  stdout=out, stderr=subprocess.DEVNULL,
+                                  stdout=output, stderr=subprocess.DEVNULL,
                                   preexec_fn=end_with_parent).returncode
 
     def floor(self, number):
         """Returns the floor of a part that begins now, as words of `tune`: the K-th best total that
         is known, or one more if the setting that has it comes before the part, since an equal total
         does not beat it."""
-        known = sorted((-total, v) for v, total in self.totals.items())[self.args.keep - 1:]
-        if not known or self.args.all:
+        ranked = sorted(self.totals, key=lambda setting: (-self.totals[setting], setting))
+        if len(ranked) < self.args.keep or self.args.all:
             return []
-        total, v = -known[0][0], known[0][1]
+        last_kept = ranked[self.args.keep - 1]
         # GNU parallel puts in the number of the part later.
-        is_before = number != "{}" and v < settings_of(number, self.pieces, self.count).start
-        return [f"--floor={total + is_before}"]
+        is_before = number != "{}" and last_kept < self.settings(number).start
+        return [f"--floor={self.totals[last_kept] + is_before}"]
 
     def prepare(self, number):
         """Writes the template of a part: its START is the setting of the part that is the fewest
         steps from START. The other settings of the part first play the fights that this one lost,
         so they are dropped sooner. A text that would be too long stays as it is."""
-        nearest = self.template.nearest_start(settings_of(number, self.pieces, self.count))
+        nearest = self.template.nearest_start(self.settings(number))
         text = self.template.with_start(nearest)
         if len(text) > MOST_BYTES:
             text = (self.path / "t.red").read_bytes()
@@ -193,25 +203,25 @@ class Parts(Folder):
 
     def words(self, number):
         """Returns the words that tune a part in the folder."""
-        own = f"{number}.{self.pid}"
-        return ["./cwtune", "tune", f"--part={number}/{self.pieces}", *self.options,
-                *self.floor(number), f"{own}.red", "s.csv", f"{own}.cert", *self.opponents]
+        name = f"{number}.{self.pid}"
+        return ["./cwtune", "tune", f"--part={number}/{self.piece_count}", *self.tune_options,
+                *self.floor(number), f"{name}.red", "s.csv", f"{name}.cert", *self.opponents]
 
-    def keep(self, number, status):
+    def take_result(self, number, status):
         """Keeps what a run of a part wrote, if that is a result. Returns the fault if it is not."""
         fault = self.file(number, "fault").read_text(errors="surrogateescape")
-        report, cert = {}, None
+        report, cert_digest = {}, None
         if status == 0:
             try:
-                report = report_in(self.file(number, "report"))
+                report = read_report(self.file(number, "report"))
             except ValueError:
                 return "failed: its report is cut, or not a report\n"
-            cert = sha256_of(self.file(number, "cert"))
+            cert_digest = sha256_of(self.file(number, "cert"))
             self.file(number, "cert.inputs").unlink(missing_ok=True)
             self.file(number, "cert").replace(self.cert(number))
         elif (status, fault) != (1, NO_CANDIDATE):
             return fault or f"failed: it ended with status {status}\n"
-        self.write_done(number, {"report": report, "cert": cert})
+        self.write_done(number, {"report": report, "cert": cert_digest})
         return None
 
     def cert(self, number):
@@ -220,14 +230,14 @@ class Parts(Folder):
 
     def piece(self, number):
         """Returns what came of a part, or None if it is not done. Notes its totals."""
-        done = self.read_done(number)
+        result = self.read_done(number)
         try:
-            if not done or done["cert"] and sha256_of(self.cert(number)) != done["cert"]:
+            if not result or result["cert"] and sha256_of(self.cert(number)) != result["cert"]:
                 return None
         except FileNotFoundError:
             return None
-        part = part_of(number, self.pieces, self.count, done["report"])
-        self.totals |= {v: total for v, (total, _) in part.ranked().items()}
+        part = part_of(number, self.piece_count, self.setting_count, result["report"])
+        self.totals |= {setting: total for setting, (total, _) in part.ranked().items()}
         return part
 
     def whole(self):

@@ -1,4 +1,4 @@
-"""How far `cwtune-spread` is: the pieces that are done, and the line that says so."""
+"""Keeps which pieces of `cwtune-spread` are done, and prints the line that says so."""
 import os, sys, time
 
 from .spread_parts import settings_of
@@ -9,17 +9,21 @@ PAUSE = 60
 
 
 class Progress:
-    """The pieces of a folder, None for one that is not done, and the line of what is done: at a
-    terminal, and with `in_log` once a minute elsewhere."""
+    """The pieces of a folder by number, None for one that is not done, and the line of what is
+    done: at a terminal, and with `in_log` once a minute elsewhere."""
 
     def __init__(self, folder, in_log):
         self.folder, self.in_log, self.shown, self.last_line_at = folder, in_log, "", -PAUSE
-        self.pieces = {n: folder.piece(n) for n in range(1, folder.pieces + 1)}
-        self.todo = [n for n, piece in self.pieces.items() if piece is None]
-        self.begun, self.before = time.monotonic(), self.settings()
+        self.pieces = {number: folder.piece(number) for number in range(1, folder.piece_count + 1)}
+        self.began_at, self.settings_before = time.monotonic(), self.settings_done()
 
     def done(self):
+        """Returns the pieces that are done."""
         return [piece for piece in self.pieces.values() if piece]
+
+    def numbers_left(self):
+        """Returns the numbers of the pieces that are not done."""
+        return [number for number, piece in self.pieces.items() if piece is None]
 
     def show(self):
         """Rewrites the line if it says something new, cut to the width of the terminal."""
@@ -35,30 +39,33 @@ class Progress:
         self.shown = line
 
     def clear(self):
+        """Clears the line at a terminal."""
         if self.shown:
             print("\r\x1b[K", end="", file=sys.stderr, flush=True)
 
-    def left(self):
+    def time_left(self):
         """Returns the text of the time that is left, once a piece was done in this run."""
-        settings, count = self.settings(), self.folder.count
-        if settings <= self.before:
+        settings = self.settings_done()
+        if settings <= self.settings_before:
             return ""
-        seconds = time.monotonic() - self.begun
-        left = int(seconds * (count - settings) / (settings - self.before))
-        return f", {left // 60}:{left % 60:02} left"
+        seconds = time.monotonic() - self.began_at
+        seconds_left = int(seconds * (self.folder.setting_count - settings)
+                           / (settings - self.settings_before))
+        return f", {seconds_left // 60}:{seconds_left % 60:02} left"
 
 
 class PartsProgress(Progress):
     """The parts of a tuning."""
 
-    def settings(self):
+    def settings_done(self):
         return sum(part.count for part in self.done())
 
     def line(self):
-        done, folder = self.done(), self.folder
-        line = (f"{len(done)} of {folder.pieces} parts, {self.settings()} of {folder.count} "
-                f"settings, {summed(done, 'fights', 0)} fights{self.left()}")
-        if best := best_of(done):
+        parts, folder = self.done(), self.folder
+        line = (f"{len(parts)} of {folder.piece_count} parts, {self.settings_done()} of "
+                f"{folder.setting_count} settings, {summed(parts, 'fights', 0)} fights"
+                f"{self.time_left()}")
+        if best := best_of(parts):
             line += f", best {index_of(best)} total {best.total()} {best.report['constants']}"
         return line
 
@@ -66,11 +73,12 @@ class PartsProgress(Progress):
 class SharesProgress(Progress):
     """The shares of a check."""
 
-    def settings(self):
-        count, shares = self.folder.count, self.folder.pieces
-        return sum(len(settings_of(number, shares, count))
-                   for number, line in self.pieces.items() if line)
+    def settings_done(self):
+        folder = self.folder
+        return sum(len(settings_of(number, folder.piece_count, folder.setting_count))
+                   for number, verdict in self.pieces.items() if verdict)
 
     def line(self):
-        return (f"{len(self.done())} of {self.folder.pieces} shares of the check, "
-                f"{self.settings()} of {self.folder.count} settings{self.left()}")
+        return (f"{len(self.done())} of {self.folder.piece_count} shares of the check, "
+                f"{self.settings_done()} of {self.folder.setting_count} settings"
+                f"{self.time_left()}")

@@ -1,8 +1,9 @@
 """Puts the parts of a tuning together: the report and the certificate of the whole template."""
 import contextlib
 
-from .endings import Fault, counted
+from .endings import Fault
 from .spread_parts import Part
+from .words import counted
 from .writing import naming
 
 
@@ -17,24 +18,32 @@ def index_of(part):
     return part.first + int(part.report["best"])
 
 
-def summed(parts, line, word):
-    return sum(int(part.report[line].split()[word]) for part in parts if part.report)
+def summed(parts, name, index):
+    """Returns the sum of a number of the reports: the one at `index` in the line `name`."""
+    return sum(int(part.report[name].split()[index]) for part in parts if part.report)
 
 
 def ranks_of(parts, keep):
     """Returns the first `keep` lines `rank` of the whole template, none if `keep` is 1."""
-    known = {}
+    if keep == 1:
+        return []
+    ranked = {}
     for part in parts:
-        known |= part.ranked()
-    first = sorted(known, key=lambda v: (-known[v][0], v))[:keep if keep > 1 else 0]
-    return [f"rank {rank} setting {v} total {known[v][0]}" + (
-        f" {known[v][1]}" if known[v][1] != "-" else "") for rank, v in enumerate(first, 1)]
+        ranked |= part.ranked()
+    first = sorted(ranked, key=lambda setting: (-ranked[setting][0], setting))[:keep]
+    return [rank_line(rank, setting, *ranked[setting]) for rank, setting in enumerate(first, 1)]
 
 
-def report_of(parts, count):
+def rank_line(rank, setting, total, constants):
+    values = f" {constants}" if constants != "-" else ""
+    return f"rank {rank} setting {setting} total {total}{values}"
+
+
+def report_of(parts, setting_count):
+    """Returns the lines of the report of the whole template."""
     best = best_of(parts)
     return [
-        f"vectors {count}",
+        f"vectors {setting_count}",
         f"candidates {summed(parts, 'candidates', 0)}",
         f"best {index_of(best)}",
         f"constants {best.report['constants']}",
@@ -43,16 +52,18 @@ def report_of(parts, count):
     ]
 
 
-def moved(part, row):
-    """Returns a row with its settings counted within the whole template."""
-    kind, setting, rest = row.split(",")
-    twin = str(int(rest) + part.first) if kind == "same" else rest
-    return f"{kind},{int(setting) + part.first},{twin}"
+def row_of_whole(part, row):
+    """Returns a row of a part with its settings counted within the whole template."""
+    kind, setting, content = row.split(",")
+    if kind == "same":
+        content = str(int(content) + part.first)
+    return f"{kind},{int(setting) + part.first},{content}"
 
 
 @contextlib.contextmanager
 def reading(folder, number):
-    """Gives the path of the certificate of a part, and names it in what goes wrong."""
+    """Gives a block the path of the certificate of a part, and names it in the faults of the
+    block."""
     path = folder.cert(number)
     try:
         with naming(path):
@@ -64,25 +75,27 @@ def reading(folder, number):
 def rows_of(folder, number, part):
     """Yields the rows of a part. There has to be one for each of its settings."""
     if not part.report:
-        yield from (f"refused,{v},-" for v in range(part.first, part.first + part.count))
+        settings = range(part.first, part.first + part.count)
+        yield from (f"refused,{setting},-" for setting in settings)
         return
     with reading(folder, number) as path:
-        head, _, *rows = path.read_text().splitlines()
-        _, _, count = head.split(",")
+        header, _, *rows = path.read_text().splitlines()
+        _, _, count = header.split(",")
         if {count, part.report["vectors"], str(len(rows))} != {str(part.count)}:
             raise Fault(f"the certificate of part {number} has {counted(len(rows), 'row')}, and "
                         f"the part has {counted(part.count, 'setting')}", 3)
         for row in rows:
-            yield moved(part, row)
+            yield row_of_whole(part, row)
 
 
 def write_whole(folder, parts):
-    """Puts the certificate of the whole template together. `parts` are the parts by number."""
+    """Writes the certificate of the whole template. `parts` are the parts by number."""
     best = best_of(parts.values())
     number = next(number for number, part in parts.items() if part is best)
     with reading(folder, number) as path, path.open() as file:
         _, version, _ = file.readline().split(",")
     with folder.whole().open("w") as file:
-        file.write(f"cwcert,{version},{folder.count}\nbest,{index_of(best)},{best.total()}\n")
+        file.write(f"cwcert,{version},{folder.setting_count}\n"
+                   f"best,{index_of(best)},{best.total()}\n")
         for number, part in parts.items():
             file.writelines(f"{row}\n" for row in rows_of(folder, number, part))

@@ -1,11 +1,11 @@
-"""The options of `cwtune-spread`."""
+"""Adds the options of `cwtune-spread` to its parser, and refuses those that do not fit together."""
 import os
 
 from .tuning_files import MOST_KEPT
 from .words import add_program, add_rules, add_words, number_from
 
 # The most parts and the most shares that the program takes.
-MOST = 2 ** 32 - 1
+MOST_PIECES = 2 ** 32 - 1
 
 
 def add_options(parser):
@@ -34,7 +34,7 @@ def add_jobs(parser):
                        "[default: the processors of this one]")
     group.add_argument("--parts", type=number_from(1), metavar="K",
                        help="parts to split the settings into [default: 16 for each job]")
-    group.add_argument("--shares", type=number_from(1, MOST), metavar="K",
+    group.add_argument("--shares", type=number_from(1, MOST_PIECES), metavar="K",
                        help="shares to split a check into [default: 8 for each job]")
     group.add_argument("--hosts", metavar="FILE", help="run on these hosts, a line each, over "
                        "ssh (--sshloginfile of GNU parallel; `:` is this one)")
@@ -72,9 +72,9 @@ def add_check(parser):
 
 def refuse_idle(parser, args):
     """Refuses options that would do nothing beside the others."""
-    idle = [("--merge", name) for name in ["parts", "hosts"] if args.merge]
-    idle += [("--check-only", name) for name in ["parts", "all"] if args.check_only]
-    for option, name in idle:
+    pairs = [("--merge", name) for name in ["parts", "hosts"] if args.merge]
+    pairs += [("--check-only", name) for name in ["parts", "all"] if args.check_only]
+    for option, name in pairs:
         if getattr(args, name):
             parser.error(f"argument {option}: not allowed with argument --{name}")
     for name in ["shares", "work"]:

@@ -24,7 +24,7 @@ from .study_result import report_of
 from .tuning_files import MOST_FIGHTS, MOST_SETTINGS, Certificate, read_schedule
 from .words import add_program, add_rules, command_parser, number_from
 
-NUMBER = number_from(1, MOST_FIGHTS)
+FIGHTS = number_from(1, MOST_FIGHTS)
 
 
 class Study:
@@ -35,22 +35,22 @@ class Study:
         self.title = os.path.basename(args.warrior)
         self.names = [name for name, _ in inputs.opponents]
         self.opponents = [f"opponents/{name}" for name in self.names]
-        self.rules = [word for word, usual in zip(rules_of(args).words(), Rules().words())
-                      if word != usual]
+        self.rules = [word for word, default in zip(rules_of(args).words(), Rules().words())
+                      if word != default]
         self.folder = Folder(args.out or f"{pathlib.Path(args.warrior).stem}.study", args.program,
-                             inputs.of(args), args.anew)
+                             inputs.fingerprint(args), args.anew)
 
-    def own(self, name, *words):
+    def author_words(self, name, *words):
         """Returns the words of a command for authors that takes the program and the rules."""
         return [name, *words, f"--program={self.args.program}", *self.rules]
 
-    def series(self, seed, rounds, name):
+    def write_series(self, seed, rounds, name):
         """Writes a schedule by cwtune-series."""
-        words = [word for word in self.rules if word.startswith(("--core", "--distance"))]
-        self.folder.run(["cwtune-series", *words, str(seed), str(rounds), str(len(self.names))],
+        rules = [word for word in self.rules if word.startswith(("--core", "--distance"))]
+        self.folder.run(["cwtune-series", *rules, str(seed), str(rounds), str(len(self.names))],
                         name)
 
-    def copy(self):
+    def copy_inputs(self):
         """Copies the inputs, and makes the template of a warrior."""
         folder, inputs = self.folder, self.inputs
         (folder.path / "opponents").mkdir(exist_ok=True)
@@ -58,107 +58,117 @@ class Study:
             folder.write(path, text)
         if self.args.ranges:
             folder.write("warrior.red", inputs.warrior)
-            words = [f"{it.name}={it.values[0]}:{it.values[-1]}:{it.values.step}"
-                     for it in self.args.ranges]
-            folder.run(self.own("cwtune-vary", "warrior.red", *words), "template.red")
+            words = [f"{name}={values[0]}:{values[-1]}:{values.step}"
+                     for name, values in self.args.ranges]
+            folder.run(self.author_words("cwtune-vary", "warrior.red", *words), "template.red")
         else:
             folder.write("template.red", inputs.template)
         grid = Grid(folder.path / "template.red")
         folder.write("start.red", grid.line_through(grid.start_values, ()))
 
-    def box(self):
-        """Makes box.red. Returns what was sought for it, and the total of START, if that is
-        known."""
+    def make_box(self):
+        """Makes box.red. Returns whether a climb sought it, the fights of the climb, and the total
+        of START, if that is known."""
         grid = Grid(self.folder.path / "template.red")
         if grid.count() <= self.args.exact:
             self.folder.run(["cat", "template.red"], "box.red")
             return {"sought": False, "fights": 0, "start": None}
-        box = math.prod(min(2 * self.args.box + 1, len(some)) for some in grid.values)
+        box = math.prod(min(2 * self.args.box + 1, len(values)) for values in grid.ranges)
         reach = self.args.box if box <= self.args.exact else 1
-        self.folder.run(self.own("cwtune-seek", f"--box={reach}", f"--jobs={self.args.jobs}")
-                        + ["template.red", "schedule.csv", *self.opponents], "box.red")
-        said = "\n".join(self.folder.log[-1]["said"])
-        start, found = (line.search(said) for line in (seek.START_LINE, seek.FOUND_LINE))
-        if not found:
+        words = self.author_words("cwtune-seek", f"--box={reach}", f"--jobs={self.args.jobs}")
+        messages = "\n".join(self.folder.run(
+            [*words, "template.red", "schedule.csv", *self.opponents], "box.red"))
+        start_line, found_line = (line.search(messages)
+                                  for line in (seek.START_LINE, seek.FOUND_LINE))
+        if not found_line:
             raise Fault("cwtune-seek did not say what it found", 3)
-        return {"sought": True, "fights": int(found[1]), "start": start and int(start[1])}
+        return {"sought": True, "fights": int(found_line[1]),
+                "start": start_line and int(start_line[1])}
 
-    def spread(self):
-        """Plays every fight of the box, and has the certificate checked."""
-        words = ["--all", "--check", f"--jobs={self.args.jobs}"]
-        self.folder.run(self.own("cwtune-spread", *words) + [
-            "box.red", "schedule.csv", "best.cert", *self.opponents], "best.txt", hears=False)
+    def tune_box(self):
+        """Plays every fight of the box, and has the certificate checked. Returns how many fights
+        that were, and the line of the check."""
+        words = self.author_words("cwtune-spread", "--all", "--check", f"--jobs={self.args.jobs}")
+        self.folder.run([*words, "box.red", "schedule.csv", "best.cert", *self.opponents],
+                        "best.txt", logs_messages=False)
         lines = (self.folder.path / "best.txt").read_text().splitlines()
         fights = next(line.split()[1] for line in lines if line.startswith("fights "))
         return {"fights": int(fights), "check": lines[-1]}
 
-    def first(self):
+    def first_settings(self):
         """Returns the first settings of the ranking of the box."""
-        found = Certificate(str(self.folder.path / "best.cert"))
-        full, *_ = found.ranked(read_schedule(self.folder.path / "schedule.csv"))
-        return [v for _, v in full[:study_fresh.FIRST]]
+        cert = Certificate(str(self.folder.path / "best.cert"))
+        ranking = cert.ranked(read_schedule(self.folder.path / "schedule.csv"))
+        return [setting for _, setting in ranking.full[:study_fresh.FIRST]]
 
     def go(self):
         """Goes through all stages. Returns the report."""
-        stage = self.folder.stage
-        made = ["warrior.red"] if self.args.ranges else []
-        stage("inputs", self.copy, "template.red", "start.red", *made, *self.opponents)
-        stage("schedule", lambda: self.series(self.args.seed, self.args.rounds, "schedule.csv"),
+        args, stage = self.args, self.folder.stage
+        warrior = ["warrior.red"] if args.ranges else []
+        stage("inputs", self.copy_inputs, "template.red", "start.red", *warrior, *self.opponents)
+        stage("schedule", lambda: self.write_series(args.seed, args.rounds, "schedule.csv"),
               "schedule.csv")
-        sought = stage("box", self.box, "box.red")
-        print_box(self.folder.path, sought["sought"])
-        spread = stage("best", self.spread, "best.cert", "best.txt")
-        winner, points, last = study_fresh.find(self, self.first())
-        words = self.own("cwtune-warrior", f"--setting={winner}", "box.red")
-        stage("winner", lambda: self.folder.run(words, "winner.red"), "winner.red")
-        stage("report", lambda: self.report(sought, spread, winner, points, last),
+        box_result = stage("box", self.make_box, "box.red")
+        print_box(self.folder.path, box_result["sought"])
+        tuning_result = stage("best", self.tune_box, "best.cert", "best.txt")
+        fresh_results = study_fresh.find_winner(self, self.first_settings())
+        stage("winner", lambda: self.write_winner(fresh_results[0]), "winner.red")
+        stage("report", lambda: self.write_report(box_result, tuning_result, *fresh_results),
               "report.json", "report.html")
         self.folder.write_log()
         return json.loads((self.folder.path / "report.json").read_text())
 
-    def report(self, *results):
+    def write_winner(self, winner):
+        """Writes the text of the winner."""
+        words = self.author_words("cwtune-warrior", f"--setting={winner}", "box.red")
+        self.folder.run(words, "winner.red")
+
+    def write_report(self, *results):
+        """Writes the report of the results of all stages, which are those of `report_of`."""
         report = report_of(self, *results)
         self.folder.write("report.json", (json.dumps(report, indent=1) + "\n").encode())
         self.folder.write("report.html", study_report.html_of(report).encode(errors="replace"))
 
 
-def print_box(folder, sought):
-    """Says what will be exact, and what was only sought."""
+def print_box(folder, was_sought):
+    """Prints what will be exact, and what was only sought."""
     count, box = Grid(folder / "template.red").count(), Grid(folder / "box.red").count()
-    if sought:
+    if was_sought:
         print(f"of {count} settings a box of {box} is tuned, around what the climb found: exact "
               "within the box, only sought outside of it", flush=True)
     else:
         print(f"all {count} settings are tuned: their ranking is exact", flush=True)
 
 
-def constants(values):
-    return " ".join(f"{name}={value}" for name, value in values.items())
+def print_fresh(name, player):
+    """Prints what a player made in its fresh fights, and its values."""
+    fresh = player["fresh"]
+    constants = " ".join(f"{constant}={value}" for constant, value in player["values"].items())
+    print(f"fresh: {name}: {fresh['points']} of {3 * fresh['fights']} ({fresh['percent']:.1f}% "
+          f"+- {fresh['error']:.1f}) {constants}")
 
 
 def print_end(folder, report):
+    """Prints what the study found, and where its files are."""
     best, winner, start = report["ranking"][0], report["winner"], report["start"]
     greatest, gain = report["schedule"]["greatest"], report["gain"]
     print(f"tuned: setting {best['setting']} is best, total {best['tuned']} of {greatest}, START "
           f"{start['tuned']} ({report['check']})")
-    for name, it in [(f"setting {winner['setting']}, rank {winner['rank']}", winner),
-                     ("START", start)]:
-        fresh = it["fresh"]
-        print(f"fresh: {name}: {fresh['points']} of {3 * fresh['fights']} ({fresh['percent']:.1f}% "
-              f"+- {fresh['error']:.1f}) {constants(it['values'])}")
+    print_fresh(f"setting {winner['setting']}, rank {winner['rank']}", winner)
+    print_fresh("START", start)
     if winner["values"] == start["values"]:
         print("the winner is START: nothing better was found")
     else:
         print(f"over START: {gain['percent']:+.1f}% +- {gain['error']:.1f}, {gain['words']}")
     for name in ["winner.red", "report.html"]:
-        print(os.path.join(folder.given, name))
+        print(os.path.join(folder.given_path, name))
 
 
 def make_parser():
     parser = command_parser(__doc__)
     parser.add_argument("--out", metavar="FOLDER", help="where all files go [default: NAME.study, "
                         "for a warrior NAME.red]")
-    parser.add_argument("--rounds", type=NUMBER, default=20, metavar="R",
+    parser.add_argument("--rounds", type=FIGHTS, default=20, metavar="R",
                         help="fights of the tuning against each opponent [default: 20]")
     parser.add_argument("--seed", type=number_from(1, 65535), metavar="S",
                         help="the first position, as SEED of cwtune-series [default: 4321, or less "
@@ -169,7 +179,7 @@ def make_parser():
     parser.add_argument("--box", type=number_from(1), default=2, metavar="N",
                         help="values on both sides of what the climb finds; 1 if the box would "
                         "have more than --exact settings [default: 2]")
-    parser.add_argument("--fresh", type=NUMBER, default=100, metavar="F",
+    parser.add_argument("--fresh", type=FIGHTS, default=100, metavar="F",
                         help="fresh fights of a heat against each opponent [default: 100]")
     parser.add_argument("--jobs", type=number_from(1), default=os.cpu_count(), metavar="N",
                         help="jobs that run side by side [default: the processors]")
@@ -194,6 +204,6 @@ def main():
     try:
         print_end(study.folder, study.go())
     except KeyboardInterrupt:
-        print(f"stopped: what is done is kept in {study.folder.given}: repeat the command to go on",
-              file=sys.stderr)
+        print(f"stopped: what is done is kept in {study.folder.given_path}: repeat the command to "
+              "go on", file=sys.stderr)
         raise

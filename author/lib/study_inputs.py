@@ -1,4 +1,4 @@
-"""What `cwtune-study` is given: reads it, and refuses what no study can be made of."""
+"""Reads what `cwtune-study` is given, and refuses what no study can be made of."""
 import argparse, hashlib, json, os, pathlib, re, tempfile
 from typing import NamedTuple
 
@@ -9,6 +9,9 @@ from .program import EXPLAIN, rules_of, run_program
 from .series import refuse_distance, refuse_fights, refuse_seed
 from .tuning_files import MOST_OPPONENTS
 
+# The options that a study depends on.
+OPTIONS = ["rounds", "seed", "exact", "box", "fresh"]
+
 
 class Inputs(NamedTuple):
     """The text of the warrior, the template that is made of it, or the same text, and the name and
@@ -18,22 +21,22 @@ class Inputs(NamedTuple):
     template: bytes
     opponents: list
 
-    def of(self, args):
+    def fingerprint(self, args):
         """Returns a fingerprint of all that the study depends on, as JSON gives it back."""
-        hashed = lambda text: hashlib.sha256(text).hexdigest()
         options = {name: getattr(args, name) for name in OPTIONS}
         return json.loads(json.dumps({
-            "program": hashed(pathlib.Path(args.program).read_bytes()),
-            "template": [hashed(self.warrior), hashed(self.template)],
-            "opponents": [[name, hashed(text)] for name, text in self.opponents],
+            "program": sha256_of_text(pathlib.Path(args.program).read_bytes()),
+            "template": [sha256_of_text(self.warrior), sha256_of_text(self.template)],
+            "opponents": [[name, sha256_of_text(text)] for name, text in self.opponents],
             "rules": rules_of(args)._asdict(), "options": options}))
 
 
-OPTIONS = ["rounds", "seed", "exact", "box", "fresh"]
+def sha256_of_text(text):
+    return hashlib.sha256(text).hexdigest()
 
 
 def sort_words(parser, args):
-    """Sorts the words of the command: the warrior, the opponents, the ranges."""
+    """Sorts the words of the command into the warrior, the opponents and the ranges."""
     files, args.ranges = [], []
     for word in [args.warrior, *args.opponents]:
         if re.match(rf"{vary.NAME}=", word) and not os.path.exists(word):
@@ -85,14 +88,14 @@ def read(parser, args):
     settle_options(parser, args)
     args.program = os.path.abspath(args.program)
     warrior = pathlib.Path(args.warrior).read_bytes()
-    has_ranges = any(map(is_range_line, warrior.split(b"\n")))
-    if args.ranges or not has_ranges:
+    is_template = any(map(is_range_line, warrior.split(b"\n")))
+    if args.ranges or not is_template:
         text = vary.warrior_text(parser, args)
         if not args.ranges:
             raise Fault(f"{args.warrior}: no range line: give words NAME=LOW:HIGH:STEP too "
                         f"(`cwtune-vary {args.warrior}` lists the names)")
-        refuse(args, args.warrior, "--", args.warrior)
-        template = vary.made_of(args, text)
+        refuse_text(args, args.warrior, "--", args.warrior)
+        template = vary.checked_template(args, text)
     else:
         refuse_start(args, Grid(args.warrior))
         template = warrior
@@ -107,14 +110,16 @@ def refuse_start(args, grid):
     with tempfile.TemporaryDirectory() as folder:
         path = pathlib.Path(folder, os.path.basename(args.warrior))
         path.write_bytes(grid.line_through(grid.start_values, ()))
-        refuse(args, f"START of {args.warrior}", "--setting=start", "--", path.name, cwd=folder)
+        refuse_text(args, f"START of {args.warrior}", "--setting=start", "--", path.name,
+                    cwd=folder)
 
 
-def refuse(args, name, *words, **more):
-    """Refuses a text that `cwtune asm` refuses, with its status."""
-    done = run_program(args.program, "asm", *EXPLAIN, *rules_of(args).words(), *words, **more)
-    if done.returncode:
-        fault = fault_of(done)
+def refuse_text(args, name, *words, **options):
+    """Refuses a text that `cwtune asm` refuses, with its status. `name` says which text it is."""
+    completed = run_program(args.program, "asm", *EXPLAIN, *rules_of(args).words(), *words,
+                            **options)
+    if completed.returncode:
+        fault = fault_of(completed)
         raise Fault(f"{name} does not assemble: {fault}") if fault.status == 1 else fault
 
 
@@ -125,7 +130,7 @@ def opponents_of(args):
         if "\n" in path:
             raise Fault("the name of an opponent has a line end", 2)
         texts[free_name(os.path.basename(path), texts)] = pathlib.Path(path).read_bytes()
-        refuse(args, path, "--", path)
+        refuse_text(args, path, "--", path)
     return list(texts.items())
 
 

@@ -3,15 +3,17 @@
 The totals are a list for each value of the first constant, with a total for each value of the
 second: the second constant goes from left to right and the first one upwards, as in
 `cwtune-landscape`. Of one constant they are a list with one list. A setting that does not assemble
-has no total, None.
+has no total, None. The values of a setting are here a dict, by the names of the constants.
 """
 from typing import NamedTuple
 
 from . import study_charts as charts
-from .study_page import count
+from .study_page import integer
 
 SHADES = 7
 MOST_SQUARES = 10000
+# The y at which a map begins.
+TOP = 8
 # A square that is lower shows no number, and a mark around a smaller one is this large.
 LEAST_HEIGHT = 16
 LEAST_MARK = 9
@@ -19,85 +21,93 @@ LEAST_MARK = 9
 FIRST_DARK = 4
 
 
-class Field(NamedTuple):
-    """Totals over one or two constants. Over one they are a list with one list."""
+class Landscape(NamedTuple):
+    """Totals over one or two constants: their names, their ranges, and the totals."""
 
-    axes: list
-    values: list
+    names: list
+    ranges: list
     totals: list
 
-    def at(self, setting):
-        """Returns where a setting is: row and column. None if it is not here."""
+    def place(self, values):
+        """Returns the row and the column of the setting with these values, or None if it is not
+        here."""
         try:
-            indices = [own.index(setting[name]) for name, own in zip(self.axes, self.values)]
+            indices = [whole.index(values[name]) for name, whole in zip(self.names, self.ranges)]
         except ValueError:
             return None
         return (0, *indices)[-2:]
 
-    def known(self):
-        """Returns the totals that are there."""
-        return [it for row in self.totals for it in row if it is not None]
+    def known_totals(self):
+        """Returns the totals of the settings that assemble."""
+        return [total for row in self.totals for total in row if total is not None]
 
-    def ends(self):
+    def least_and_greatest(self):
         """Returns the least and the greatest total."""
-        known = self.known() or [0]
-        return min(known), max(known)
+        totals = self.known_totals() or [0]
+        return min(totals), max(totals)
 
-    def title(self, i, j):
+    def title(self, row, column):
         """Returns the values and the total of a square in words."""
-        (rows, columns), total = self.values, self.totals[i][j]
-        return f"{self.axes[0]} {rows[i]}, {self.axes[1]} {columns[j]}: {total}"
+        upwards, across = self.ranges
+        return (f"{self.names[0]} {upwards[row]}, {self.names[1]} {across[column]}: "
+                f"{self.totals[row][column]}")
 
     def count(self):
+        """Returns the number of settings."""
         return sum(map(len, self.totals))
 
 
-def field_of(landscape):
+def read_landscape(landscape):
     """Reads the landscape of a report. Of one constant the totals are a list with one list there; a
     plain list, and a list for each value, are taken too."""
-    axes, values, totals = (landscape[name] for name in ("axes", "values", "totals"))
-    if len(axes) == 1:
-        totals = [[it for row in totals for it in (row if isinstance(row, list) else [row])]]
-    return Field(axes, values, totals)
+    names, ranges, totals = (landscape[key] for key in ("axes", "values", "totals"))
+    if len(names) == 1:
+        totals = [[total for row in totals
+                   for total in (row if isinstance(row, list) else [row])]]
+    return Landscape(names, ranges, totals)
 
 
 def greatest(totals):
-    """Returns the greatest of the totals that are there, or None."""
-    return max((it for it in totals if it is not None), default=None)
+    """Returns the greatest of the totals that are not None, or None."""
+    return max((total for total in totals if total is not None), default=None)
 
 
-def thinned(field, most=MOST_SQUARES):
-    """Returns how many values of each constant become one, and the field of the greatest totals."""
-    step = 1
-    while count_after(field, step) > most:
+def thinned(landscape, most=MOST_SQUARES):
+    """Returns how many values of each constant become one, so that there are at most `most`
+    squares, and the landscape of the greatest totals."""
+    step, totals = 1, landscape.totals
+    while count_after(landscape, step) > most:
         step += 1
-    rows = range(0, len(field.totals), step)
-    columns = range(0, len(field.totals[0]), step)
-    totals = [[greatest(it for row in field.totals[i:i + step] for it in row[j:j + step])
-               for j in columns] for i in rows]
-    return step, Field(field.axes, [own[::step] for own in field.values], totals)
+    rows, columns = range(0, len(totals), step), range(0, len(totals[0]), step)
+    thin_totals = [[greatest(total for row in totals[first_row:first_row + step]
+                             for total in row[first_column:first_column + step])
+                    for first_column in columns] for first_row in rows]
+    thin_ranges = [values[::step] for values in landscape.ranges]
+    return step, Landscape(landscape.names, thin_ranges, thin_totals)
 
 
-def count_after(field, step):
-    return -(-len(field.totals) // step) * -(-len(field.totals[0]) // step)
+def count_after(landscape, step):
+    """Returns how many squares there are if `step` values of each constant become one."""
+    return -(-len(landscape.totals) // step) * -(-len(landscape.totals[0]) // step)
 
 
-def outside(setting, winner, field):
+def is_outside(values, winner_values, landscape):
     """Returns whether a setting is not on the picture: a value is not in the box, or one that is
     held at the winner's differs."""
-    held = [name for name in winner if name not in field.axes]
-    return field.at(setting) is None or any(setting[name] != winner[name] for name in held)
+    held = [name for name in winner_values if name not in landscape.names]
+    return landscape.place(values) is None or any(
+        values[name] != winner_values[name] for name in held)
 
 
-def shade_of(total, low, high):
+def shade_of(total, least, most):
     """Returns the shade of a total, from 0 for the least total to 6 for the greatest."""
-    if high == low:
+    if most == least:
         return SHADES // 2
-    return min(SHADES - 1, int(SHADES * (total - low) / (high - low)))
+    return min(SHADES - 1, int(SHADES * (total - least) / (most - least)))
 
 
 class Squares(NamedTuple):
-    """The squares of a map: how many, and their size in units."""
+    """The squares of a map: how many rows and columns, and the size of a square in units."""
 
     rows: int
     columns: int
@@ -108,106 +118,118 @@ class Squares(NamedTuple):
         """Returns the left upper corner of the square in a row and column. Row 0 is lowest."""
         row, column = place
         return (round(charts.LEFT + column * self.width, 2),
-                round(8 + (self.rows - 1 - row) * self.height, 2))
+                round(TOP + (self.rows - 1 - row) * self.height, 2))
 
     def bottom(self):
-        return round(8 + self.rows * self.height, 2)
+        """Returns the y at which the map ends."""
+        return round(TOP + self.rows * self.height, 2)
 
 
-def squares_of(field):
-    rows, columns = len(field.totals), len(field.totals[0])
+def squares_of(landscape):
+    rows, columns = len(landscape.totals), len(landscape.totals[0])
     width = min(60, (charts.RIGHT - charts.LEFT) / columns)
     return Squares(rows, columns, width, min(width, 306 / rows))
 
 
-def square(squares, place, total, shade, title):
-    """Yields a square, and its total if there is room. Without a total it is a small cross."""
+def draw_cross(x, y, width, height):
+    """Returns a small cross in the middle of a square."""
+    arm = min(3, width / 4, height / 4)
+    return charts.path(f"M{x - arm:.2f} {y - arm:.2f}l{2 * arm:.2f} {2 * arm:.2f}"
+                       f"m0 {-2 * arm:.2f}l{-2 * arm:.2f} {2 * arm:.2f}", "curve")
+
+
+def draw_square(squares, place, total, shade, title):
+    """Yields a square, and its total if there is room. Without a total it is a cross."""
     (x, y), width, height = squares.corner(place), squares.width, squares.height
-    middle, centre = round(x + width / 2, 2), round(y + height / 2, 2)
+    middle_x, middle_y = round(x + width / 2, 2), round(y + height / 2, 2)
     if total is None:
-        arm = min(3, width / 4, height / 4)
-        yield charts.path(f"M{middle - arm:.2f} {centre - arm:.2f}l{2 * arm:.2f} {2 * arm:.2f}"
-                          f"m0 {-2 * arm:.2f}l{-2 * arm:.2f} {2 * arm:.2f}", "curve")
+        yield draw_cross(middle_x, middle_y, width, height)
         return
     # A little larger, so that no line of the page shows between two squares.
     yield charts.rect(x, y, round(width + 0.3, 2), round(height + 0.3, 2), f"q{shade}", title)
-    if width >= 7 * len(count(total)) + 4 and height >= LEAST_HEIGHT:
-        yield charts.word(middle, centre + 4, count(total),
-                          "middle " + ("high" if shade >= FIRST_DARK else "low"))
+    if width >= 7 * len(integer(total)) + 4 and height >= LEAST_HEIGHT:
+        yield charts.label(middle_x, middle_y + 4, integer(total),
+                           "middle " + ("high" if shade >= FIRST_DARK else "low"))
 
 
-def all_squares(field, squares, titled):
-    """Yields the squares of a map, with what they are as a title if there are not too many."""
-    ends = field.ends()
-    for i, row in enumerate(field.totals):
-        for j, total in enumerate(row):
-            shade = None if total is None else shade_of(total, *ends)
-            title = field.title(i, j) if titled else None
-            yield from square(squares, (i, j), total, shade, title)
+def draw_squares(landscape, squares, titled):
+    """Yields the squares of a map, each with its title if `titled`."""
+    least, most = landscape.least_and_greatest()
+    for row, totals in enumerate(landscape.totals):
+        for column, total in enumerate(totals):
+            shade = None if total is None else shade_of(total, least, most)
+            title = landscape.title(row, column) if titled else None
+            yield from draw_square(squares, (row, column), total, shade, title)
 
 
-def outline(squares, place, kind):
+def draw_mark(squares, place, style):
     """Returns a mark around a square, on a line of the page's colour."""
     (x, y), width, height = squares.corner(place), squares.width, squares.height
-    wide, high = max(LEAST_MARK, width - 3), max(LEAST_MARK, height - 3)
-    box = (round(x + (width - wide) / 2, 2), round(y + (height - high) / 2, 2),
-           round(wide, 2), round(high, 2))
-    return charts.rect(*box, "halo") + charts.rect(*box, kind)
+    mark_width, mark_height = max(LEAST_MARK, width - 3), max(LEAST_MARK, height - 3)
+    mark = (round(x + (width - mark_width) / 2, 2), round(y + (height - mark_height) / 2, 2),
+            round(mark_width, 2), round(mark_height, 2))
+    return charts.rect(*mark, "halo") + charts.rect(*mark, style)
 
 
-def ticks(squares, field):
+def draw_ticks(squares, landscape):
     """Yields the values along both sides: as many as can be read."""
     every = -(-squares.columns * 40 // max(1, round(squares.columns * squares.width)))
-    for j in range(0, squares.columns, every):
-        x, _ = squares.corner((0, j))
-        yield charts.word(round(x + squares.width / 2, 2), squares.bottom() + 15,
-                          field.values[1][j], "soft middle")
+    for column in range(0, squares.columns, every):
+        x, _ = squares.corner((0, column))
+        yield charts.label(round(x + squares.width / 2, 2), squares.bottom() + 15,
+                           landscape.ranges[1][column], "soft middle")
     every = -(-squares.rows * 14 // max(1, round(squares.rows * squares.height)))
-    for i in range(0, squares.rows, every):
-        _, y = squares.corner((i, 0))
-        yield charts.word(charts.LEFT - 5, round(y + squares.height / 2 + 4, 2),
-                          field.values[0][i], "soft end")
+    for row in range(0, squares.rows, every):
+        _, y = squares.corner((row, 0))
+        yield charts.label(charts.LEFT - 5, round(y + squares.height / 2 + 4, 2),
+                           landscape.ranges[0][row], "soft end")
 
 
-def legend(field, top, with_start):
+def legend(landscape, top, with_start):
     """Yields what the shades and the marks mean."""
-    low, high = map(count, field.ends())
-    yield charts.word(0, top + 11, f"tuned total {low}")
-    left = 76 + 7 * len(low)
+    least, most = map(integer, landscape.least_and_greatest())
+    yield charts.label(0, top + 11, f"tuned total {least}")
+    left = 76 + 7 * len(least)
     for shade in range(SHADES):
         yield charts.rect(round(left + 14 * shade, 2), top + 1, 14, 12, f"q{shade}")
-    yield charts.word(round(left + 14 * SHADES + 6, 2), top + 11, high)
-    yield charts.rect(2, top + 23, 10, 10, "mark") + charts.word(19, top + 32, "winner")
+    yield charts.label(round(left + 14 * SHADES + 6, 2), top + 11, most)
+    yield charts.rect(2, top + 23, 10, 10, "mark") + charts.label(19, top + 32, "winner")
     if with_start:
         yield charts.rect(76, top + 23, 10, 10, "mark-start")
-        yield charts.word(93, top + 32, "START")
-    if len(field.known()) < field.count():
+        yield charts.label(93, top + 32, "START")
+    if len(landscape.known_totals()) < landscape.count():
         yield charts.path(f"M148 {top + 25}l6 6m0 -6l-6 6", "curve")
-        yield charts.word(161, top + 32, "does not assemble")
+        yield charts.label(161, top + 32, "does not assemble")
 
 
-def shade_map(field, start, winner, titled):
-    """Draws a map of two constants. `start` and `winner` are places, or None."""
-    squares = squares_of(field)
-    bottom = squares.bottom()
-    parts = [*all_squares(field, squares, titled), *ticks(squares, field)]
-    parts += [outline(squares, place, kind) for place, kind in
-              [(start, "mark-start"), (winner, "mark")] if place is not None]
-    parts.append(charts.word(charts.LEFT, bottom + 32,
-                             f"across: {charts.shortened(field.axes[1], 20)}, "
-                             f"upwards: {charts.shortened(field.axes[0], 20)}"))
-    parts += legend(field, bottom + 46, start is not None)
-    return charts.svg("landscape", f"Tuned totals over {field.axes[0]} and {field.axes[1]}",
-                      round(bottom + 84), parts)
+def draw_map(landscape, start_place, winner_place, titled):
+    """Draws a map of two constants. A place may be None."""
+    squares = squares_of(landscape)
+    bottom, (upwards, across) = squares.bottom(), landscape.names
+    elements = [*draw_squares(landscape, squares, titled), *draw_ticks(squares, landscape)]
+    elements += [draw_mark(squares, place, style) for place, style in
+                 [(start_place, "mark-start"), (winner_place, "mark")] if place is not None]
+    elements.append(charts.label(charts.LEFT, bottom + 32,
+                                 f"across: {charts.shortened(across, 20)}, "
+                                 f"upwards: {charts.shortened(upwards, 20)}"))
+    elements += legend(landscape, bottom + 46, start_place is not None)
+    return charts.svg("landscape", f"Tuned totals over {upwards} and {across}",
+                      round(bottom + 84), elements)
 
 
-def picture(whole, start, winner, titled=True):
+def draw_landscape(landscape, start_values, winner_values, titled=True):
     """Draws the totals of a box. Returns how many values of a constant became one, and the
     picture."""
-    step, field = thinned(whole)
-    first, last = (None if outside(it, winner, whole) else whole.at(it) for it in (start, winner))
-    first, last = (it and tuple(place // step for place in it) for it in (first, last))
-    if len(field.axes) == 1:
-        return step, charts.line(field.axes[0], field.values[0], field.totals[0],
-                                 *(it and it[1] for it in (first, last)))
-    return step, shade_map(field, first, last, titled)
+    step, thin = thinned(landscape)
+
+    def thin_place(values):
+        if is_outside(values, winner_values, landscape):
+            return None
+        return tuple(index // step for index in landscape.place(values))
+
+    start_place, winner_place = thin_place(start_values), thin_place(winner_values)
+    if len(thin.names) > 1:
+        return step, draw_map(thin, start_place, winner_place, titled)
+    start_index, winner_index = (place and place[1] for place in (start_place, winner_place))
+    return step, charts.draw_line(thin.names[0], thin.ranges[0], thin.totals[0], start_index,
+                                  winner_index)

@@ -1,4 +1,4 @@
-"""The style sheet of the page of a study: colours for light and dark, tables, pictures."""
+"""Styles the page of a study: colours for light and dark, tables, pictures."""
 STYLE = """
 :root{color-scheme:light dark;--page:#fff;--ink:#1c2127;--soft:#59636e;--line:#d5dbe1;
 --quiet:#f4f6f8;--winner:#b8420b;--own:#d2662f;--other:#8a949f;

@@ -1,7 +1,8 @@
 """Reads templates, schedules (with and without weights) and certificates (of both versions).
 
 A file that is none of these is refused in a few words; what exactly is wrong with it, `cwtune`
-says.
+says. A setting is its index here, as in the output of `cwtune`; `settings` of a template has the
+values of each.
 """
 import csv, functools, itertools, math
 from typing import NamedTuple
@@ -33,13 +34,17 @@ class Fights(list):
 
 
 class Template(Grid):
-    """A template as `cwtune` takes it, and its settings; the first constant changes slowest."""
+    """A template as `cwtune` takes it.
+
+    `settings` are the values of its settings in their order, in which the first constant changes
+    slowest, and `start` is the index of START.
+    """
 
     def __init__(self, path):
         super().__init__(path)
         if self.count() > MOST_SETTINGS:
             raise Fault(f"{path}: more than {MOST_SETTINGS} settings")
-        self.settings = list(itertools.product(*self.values))
+        self.settings = list(itertools.product(*self.ranges))
         self.start = self.settings.index(self.start_values)
 
     def read(self, path):
@@ -51,74 +56,94 @@ class Template(Grid):
             raise Fault(f"{path}: not a template, a schedule or a certificate")
         return text
 
-    def steps(self, v):
-        """Returns the index of each value of setting v in its range, the last constant first."""
+    def steps(self, setting):
+        """Returns for each constant the index of the setting's value in the range, the last
+        constant first."""
         indices = []
-        for values in reversed(self.values):
-            v, index = divmod(v, len(values))
+        for values in reversed(self.ranges):
+            setting, index = divmod(setting, len(values))
             indices.append(index)
         return indices
 
     def nearest_start(self, settings):
-        """Returns which of the settings, a range of indices, is the fewest steps from START; of
-        several the first."""
-        start = self.steps(self.start)
-        return min(settings, key=lambda v: sum(abs(own - other) for own, other
-                                               in zip(self.steps(v), start)))
+        """Returns which of the settings is the fewest steps from START; of several the first."""
+        start_steps = self.steps(self.start)
 
-    def with_start(self, v):
-        """Returns the text of this template with setting v as START."""
-        return self.text(self.values, self.settings[v])
+        def distance(setting):
+            pairs = zip(self.steps(setting), start_steps)
+            return sum(abs(index - start_index) for index, start_index in pairs)
 
-    def constants(self, v):
-        """Returns the values of setting v as the report says them."""
-        return self.constants_of(self.settings[v])
+        return min(settings, key=distance)
 
-    def of(self, found):
+    def with_start(self, setting):
+        """Returns the text of this template with another setting as START."""
+        return self.text(self.ranges, self.settings[setting])
+
+    def constants(self, setting):
+        """Returns the values of a setting as the report says them."""
+        return self.constants_of(self.settings[setting])
+
+    def of(self, cert):
         """Returns this template, which has to have as many settings as a certificate has rows."""
-        if len(self.settings) != len(found.rows):
-            raise Fault(f"the certificate is of {len(found.rows)} settings, and the template "
+        if len(self.settings) != len(cert.rows):
+            raise Fault(f"the certificate is of {len(cert.rows)} settings, and the template "
                         f"has {len(self.settings)}", 2)
         return self
 
 
 class Rows:
-    """The rows of a certificate: `rows[v]` is ("refused", None), ("same", u) or ("cap", points).
+    """The rows of a certificate.
 
-    If no setting reaches the floor of the tuning, `best` is None and `total` is the floor.
+    `rows[setting]` is ("refused", None), ("same", twin) or ("cap", points): the twin is the setting
+    whose fights are shared, and the points are a dict by fight. If no setting reaches the floor of
+    the tuning, `best` is None and `total` is the floor.
     """
 
     def __init__(self, path):
         self.path = path
         try:
             records = read_records(path)
-            (mark, version, count), (second, best, total) = itertools.islice(records, 2)
+            (mark, version, count), (answer, best, total) = itertools.islice(records, 2)
             self.version, self.total = int(version), int(total)
-            self.best = None if (second, best) == ("none", "-") else int(best)
-            self.rows = [read_row(v, record) for v, record in enumerate(records)]
-            named = [rest for kind, rest in self.rows if kind == "same"]
+            self.best = None if (answer, best) == ("none", "-") else int(best)
+            self.rows = [read_row(setting, record) for setting, record in enumerate(records)]
+            named = [content for kind, content in self.rows if kind == "same"]
             named += [] if self.best is None else [self.best]
-            good = (mark == "cwcert" and int(count) == len(self.rows) and version in ("1", "2")
-                    and second == ("none" if self.best is None else "best")
-                    and all(map(self.has_fights, named)))
+            well_formed = (mark == "cwcert" and int(count) == len(self.rows)
+                           and version in ("1", "2")
+                           and answer == ("none" if self.best is None else "best")
+                           and all(map(self.lists_fights, named)))
         except (ValueError, csv.Error):
-            good = False
-        if not good:
+            well_formed = False
+        if not well_formed:
             raise Fault(f"{path}: not a certificate")
 
-    def has_fights(self, v):
-        """Returns whether there is a setting v, and its row lists fights."""
-        return 0 <= v < len(self.rows) and self.rows[v][0] == "cap"
+    def lists_fights(self, setting):
+        """Returns whether there is this setting, and its row lists fights."""
+        return 0 <= setting < len(self.rows) and self.rows[setting][0] == "cap"
 
-    def twin(self, v):
-        """Returns the setting whose fights setting v shares, or v."""
-        kind, rest = self.rows[v]
-        return rest if kind == "same" else v
+    def twin(self, setting):
+        """Returns the setting whose fights a setting shares, or itself."""
+        kind, content = self.rows[setting]
+        return content if kind == "same" else setting
 
-    def points(self, v):
-        """Returns the points that setting v made, by fight, or None if it does not assemble."""
-        kind, rest = self.rows[self.twin(v)]
-        return rest if kind == "cap" else None
+    def points(self, setting):
+        """Returns the points that a setting made, by fight, or None if it does not assemble."""
+        kind, content = self.rows[self.twin(setting)]
+        return content if kind == "cap" else None
+
+
+class Ranking(NamedTuple):
+    """What a certificate shows of the ranking.
+
+    `full` has total and index of each setting that played all fights, the best first; `dropped` is
+    how many settings were dropped, and `exact` how many of the first are exact: no cap of a dropped
+    setting beats them.
+    """
+
+    full: list
+    dropped: int
+    exact: int
 
 
 class Certificate(Rows):
@@ -133,12 +158,12 @@ class Certificate(Rows):
     def is_of(self, fights):
         """Returns whether the certificate can be of these fights: it lists no other ones, and its
         best setting played them all, has its total, and is the first of the ranking."""
-        points = self.points(self.best)
-        listed = [rest for kind, rest in self.rows if kind == "cap"]
-        if any(not 0 <= i < len(fights) for rest in listed for i in rest):
+        best_points = self.points(self.best)
+        listed = [content for kind, content in self.rows if kind == "cap"]
+        if any(not 0 <= index < len(fights) for points in listed for index in points):
             return False
-        return (len(points) == len(fights) and cap(points, fights) == self.total
-                and self.ranked(fights)[0][0][1] == self.best)
+        return (len(best_points) == len(fights) and cap(best_points, fights) == self.total
+                and self.ranked(fights).full[0][1] == self.best)
 
     def fights(self, schedule):
         """Returns the fights of a schedule, which is a path. Without one each weight is 1, and the
@@ -150,30 +175,29 @@ class Certificate(Rows):
         else:
             fights = Fights([Fight(0, 0, "c", 1)] * len(self.points(self.best)))
         if not self.is_of(fights):
-            wrong = (f" is not a certificate of the schedule {schedule}" if schedule
-                     else ": its rows are not those of its best setting and total")
-            raise Fault(self.path + wrong, 2)
+            complaint = (f" is not a certificate of the schedule {schedule}" if schedule
+                         else ": its rows are not those of its best setting and total")
+            raise Fault(self.path + complaint, 2)
         return fights
 
-    def total_of(self, v, fights):
-        """Returns the total of setting v, or None if it did not play all fights."""
-        points = self.points(v)
+    def total_of(self, setting, fights):
+        """Returns the total of a setting, or None if it did not play all fights."""
+        points = self.points(setting)
         return cap(points, fights) if points is not None and len(points) == len(fights) else None
 
     def ranked(self, fights):
-        """Returns total and index of the settings that played all fights, the best first; how many
-        settings were dropped; and how many of the first are exact: no cap of a dropped setting
-        beats them."""
-        totals = [(self.total_of(v, fights), v) for v in range(len(self.rows))]
+        """Returns the ranking of the settings by these fights."""
+        totals = [(self.total_of(setting, fights), setting) for setting in range(len(self.rows))]
 
-        def rank(pair):
-            return -pair[0], pair[1]
+        def order(pair):
+            total, setting = pair
+            return -total, setting
 
-        full = sorted((pair for pair in totals if pair[0] is not None), key=rank)
-        dropped = [(cap(self.points(v), fights), v) for total, v in totals
-                   if total is None and self.points(v) is not None]
-        most = min(map(rank, dropped), default=(math.inf, 0))
-        return full, len(dropped), sum(rank(pair) < most for pair in full)
+        full = sorted((pair for pair in totals if pair[0] is not None), key=order)
+        dropped = [(cap(self.points(setting), fights), setting) for total, setting in totals
+                   if total is None and self.points(setting) is not None]
+        first_dropped = min(map(order, dropped), default=(math.inf, 0))
+        return Ranking(full, len(dropped), sum(order(pair) < first_dropped for pair in full))
 
 
 def read_records(path):
@@ -186,18 +210,19 @@ def read_schedule(path):
     """Returns the fights of a schedule. Without the field `weight` each weight is 1."""
     try:
         header, *records = read_records(path)
-        weights = header == [*HEADER, "weight"]
-        fights = Fights(read_fight(record if weights else [*record, "1"]) for record in records)
+        has_weights = header == [*HEADER, "weight"]
+        fights = Fights(read_fight(record if has_weights else [*record, "1"])
+                        for record in records)
     except (ValueError, csv.Error):
         header, fights = None, []
-    if not fights or not (weights or header == HEADER):
+    if not fights or not (has_weights or header == HEADER):
         raise Fault(f"{path}: not a schedule")
     return fights
 
 
 def schedule_text(fights):
     """Returns the text of a plain schedule."""
-    records = (f"{it.opponent},{it.position},{it.first}\n" for it in fights)
+    records = (f"{fight.opponent},{fight.position},{fight.first}\n" for fight in fights)
     return ",".join(HEADER) + "\n" + "".join(records)
 
 
@@ -206,16 +231,16 @@ def read_fight(record):
     return Fight(int(opponent), int(position), first, int(weight))
 
 
-def read_row(v, record):
-    """Returns the row of setting v, or raises a ValueError if the record is not one."""
-    kind, setting, rest = record
-    if kind not in ("cap", "same", "refused") or int(setting) != v:
+def read_row(setting, record):
+    """Returns the row of a setting, or raises a ValueError if the record is not one."""
+    kind, index, content = record
+    if kind not in ("cap", "same", "refused") or int(index) != setting:
         raise ValueError
     if kind == "refused":
         return kind, None
     if kind == "same":
-        return kind, int(rest)
-    return kind, read_points(rest)
+        return kind, int(content)
+    return kind, read_points(content)
 
 
 @functools.lru_cache(1 << 14)
@@ -227,12 +252,14 @@ def read_points(text):
 
 def cap(points, fights):
     """Returns the greatest total of a setting with these points; its total if all are listed."""
-    return fights.greatest - sum((3 - made) * fights[i].weight for i, made in points.items())
+    return fights.greatest - sum((3 - fight_points) * fights[index].weight
+                                 for index, fight_points in points.items())
 
 
-def said_of_ranks(exact, wanted):
-    """Says how many of the first of a ranking are exact, though settings were dropped."""
-    said = "the first of the ranking is exact" if exact == 1 else (
+def exactness_text(exact, wanted):
+    """Returns a text that says how many of the first of a ranking are exact, though settings were
+    dropped. `wanted` is how many were asked for."""
+    shown = "the first of the ranking is exact" if exact == 1 else (
         f"the first {exact} of the ranking are exact")
-    return said if exact >= wanted else (
-        f"only {said}; cwtune tune --keep {wanted} makes the first {wanted} exact")
+    return shown if exact >= wanted else (
+        f"only {shown}; cwtune tune --keep {wanted} makes the first {wanted} exact")

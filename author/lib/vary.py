@@ -10,11 +10,11 @@ Example: cwtune-vary my.red STEP=5:4000:10 FIRST=0:20:1 > my-template.red
 import argparse, difflib, math, re, sys
 from typing import NamedTuple
 
-from .endings import Fault, counted
+from .endings import Fault
 from .grid import is_range_line
-from .program import assembled, refuse_another, rules_of
+from .program import load_file_of, refuse_other_warrior, rules_of
 from .tuning_files import MOST_CONSTANTS, MOST_SETTINGS
-from .words import add_program, add_rules, command_parser
+from .words import add_program, add_rules, command_parser, counted
 
 NAME = r"[A-Za-z_][A-Za-z0-9_]*"
 EQU_LINE = re.compile(rf"\s*({NAME}):?\s+equ\b(.*)", re.IGNORECASE | re.DOTALL)
@@ -22,7 +22,8 @@ NUMBER = re.compile(r"([+-]?[0-9]{1,5})|\(\s*([+-]?[0-9]{1,5})\s*\)")
 
 
 class Equ(NamedTuple):
-    """The line of an EQU name. `value` is its number, or None if its text is something else."""
+    """A line `NAME EQU text`: its number, its name, its text, and the value of the text, None if
+    that is not a plain number."""
 
     line: int
     name: str
@@ -30,8 +31,8 @@ class Equ(NamedTuple):
     value: int | None
 
 
-class Range(NamedTuple):
-    """The values of a constant, as the words NAME=LOW:HIGH:STEP say them."""
+class ConstantRange(NamedTuple):
+    """The range of a constant, as the words NAME=LOW:HIGH:STEP say it."""
 
     name: str
     values: range
@@ -39,18 +40,18 @@ class Range(NamedTuple):
 
 def range_from(word):
     """Reads NAME=LOW:HIGH:STEP for argparse. Without `:STEP` the step is 1."""
-    found = re.fullmatch(rf"({NAME})=(-?[0-9]{{1,5}}):(-?[0-9]{{1,5}})(?::([0-9]{{1,5}}))?", word)
-    if not found:
+    match = re.fullmatch(rf"({NAME})=(-?[0-9]{{1,5}}):(-?[0-9]{{1,5}})(?::([0-9]{{1,5}}))?", word)
+    if not match:
         raise argparse.ArgumentTypeError(f"{word} is not of the form NAME=LOW:HIGH:STEP, as "
                                          "STEP=5:4000:10, without blanks")
-    low, high, step = int(found[2]), int(found[3]), int(found[4] or 1)
+    low, high, step = int(match[2]), int(match[3]), int(match[4] or 1)
     if step == 0:
         raise argparse.ArgumentTypeError(f"{word}: the step is 0")
     if low > high:
         raise argparse.ArgumentTypeError(f"{word}: {low} is above {high}")
     if max(abs(low), abs(high)) > 65535:
         raise argparse.ArgumentTypeError(f"{word}: values are -65535 to 65535")
-    return Range(found[1], range(low, high + 1, step))
+    return ConstantRange(match[1], range(low, high + 1, step))
 
 
 def code_of(line):
@@ -58,7 +59,7 @@ def code_of(line):
     return line.partition(";")[0]
 
 
-def lines_read(text):
+def assembled_lines(text):
     """Yields the number and the text of each line that is assembled: from `;redcode`, if there is
     such a line, to END."""
     lines = list(enumerate(text.split("\n"), 1))
@@ -70,28 +71,29 @@ def lines_read(text):
 
 
 def equs_of(text):
-    """Returns the EQU lines outside blocks."""
+    """Returns the EQU lines outside FOR blocks."""
     equs, depth = [], 0
-    for number, line in lines_read(text):
+    for number, line in assembled_lines(text):
         words = [word.lower() for word in code_of(line).split()[:3]]
         depth += ("for" in words) - ("rof" in words)
-        found = EQU_LINE.fullmatch(code_of(line))
-        if found and depth == 0:
-            value = NUMBER.fullmatch(found[2].strip())
-            equs.append(Equ(number, found[1], found[2].strip(),
-                            value and int(value[1] or value[2])))
+        match = EQU_LINE.fullmatch(code_of(line))
+        if match and depth == 0:
+            name, equ_text = match[1], match[2].strip()
+            plain = NUMBER.fullmatch(equ_text)
+            equs.append(Equ(number, name, equ_text, plain and int(plain[1] or plain[2])))
     return equs
 
 
 def uses_of(text, equ):
-    """Returns in how many places the text uses a name."""
+    """Returns in how many places the text uses the name of an EQU line."""
     name = re.compile(rf"(?<![A-Za-z0-9_]){equ.name}(?![A-Za-z0-9_])")
-    return sum(len(name.findall(code_of(line))) for number, line in lines_read(text)
+    return sum(len(name.findall(code_of(line))) for number, line in assembled_lines(text)
                if number != equ.line)
 
 
-def listed(text):
-    """Yields a line for each number that can have a range."""
+def numbers_of(text):
+    """Yields for each number that can have a range a line that says where it is and how often it is
+    used."""
     for equ in equs_of(text):
         if equ.value is not None:
             uses = counted(uses_of(text, equ), "use")
@@ -104,43 +106,44 @@ def near_name(name, names):
     return next(iter(alike or difflib.get_close_matches(name, names, 1)), None)
 
 
-def equ_of(path, equs, wanted):
-    """Returns the line of the EQU that gets a range, whose number has to be one of its values."""
-    found = [equ for equ in equs if equ.name == wanted.name]
-    if not found:
-        near = near_name(wanted.name, [equ.name for equ in equs if equ.value is not None])
+def equ_of(path, equs, name, values):
+    """Returns the EQU line of a name, whose number has to be one of the values."""
+    equ = next((equ for equ in equs if equ.name == name), None)
+    if equ is None:
+        near = near_name(name, [equ.name for equ in equs if equ.value is not None])
         hint = f"; did you mean {near}?" if near else ""
-        raise Fault(f"{path}: no line `{wanted.name} EQU number`{hint}")
-    equ = found[0]
+        raise Fault(f"{path}: no line `{name} EQU number`{hint}")
     if equ.value is None:
         raise Fault(f"{path}, line {equ.line}: {equ.text or 'nothing'} is not a plain number, so "
                     f"{equ.name} can have no range")
-    values = wanted.values
     if equ.value not in values:
-        below, above = ([v for v in values if v < equ.value], [v for v in values if v > equ.value])
-        near = [*below[-1:], *above[:1]]
-        verb = "are" if len(near) > 1 else "is"
+        below = [value for value in values if value < equ.value]
+        above = [value for value in values if value > equ.value]
+        nearest = [*below[-1:], *above[:1]]
+        verb = "are" if len(nearest) > 1 else "is"
         raise Fault(f"{path}, line {equ.line}: {equ.name} is {equ.value}, which is none of its "
-                    f"values; the nearest {verb} {' and '.join(map(str, near))}")
+                    f"values; the nearest {verb} {' and '.join(map(str, nearest))}")
     return equ
 
 
 def range_lines(line, equ, values):
-    """Returns what takes the place of an EQU line: its comment, and the range line."""
+    """Returns the lines that take the place of an EQU line: its comment, and the range line."""
     end = "\r" if line.endswith("\r") else ""
-    comment = line.removesuffix("\r").partition(";")
-    kept = [comment[1] + comment[2] + end] if comment[1] else []
-    return [*kept, f";@tune {equ.name} {values[0]} {values[-1]} {values.step} {equ.value}{end}"]
+    _, semicolon, comment = line.removesuffix("\r").partition(";")
+    comments = [semicolon + comment + end] if semicolon else []
+    return [*comments,
+            f";@tune {equ.name} {values[0]} {values[-1]} {values.step} {equ.value}{end}"]
 
 
 def template_of(path, text, ranges):
     """Returns the text with range lines in place of EQU lines."""
     equs, lines = equs_of(text), text.split("\n")
-    lines = [[line] for line in lines]
-    for wanted in ranges:
-        equ = equ_of(path, equs, wanted)
-        lines[equ.line - 1] = range_lines(lines[equ.line - 1][0], equ, wanted.values)
-    return "\n".join(line for pieces in lines for line in pieces)
+    replaced = {}
+    for name, values in ranges:
+        equ = equ_of(path, equs, name, values)
+        replaced[equ.line] = range_lines(lines[equ.line - 1], equ, values)
+    return "\n".join(new for number, line in enumerate(lines, 1)
+                     for new in replaced.get(number, [line]))
 
 
 def refuse_ranges(args, text):
@@ -148,18 +151,21 @@ def refuse_ranges(args, text):
 
     For this each constant has its START alone, as `cwtune` takes at most a million settings.
     """
-    starts = [Range(equ.name, range(equ.value, equ.value + 1)) for equ in equs_of(text)
-              if equ.name in {wanted.name for wanted in args.ranges}]
+    names = {name for name, _ in args.ranges}
+    starts = [ConstantRange(equ.name, range(equ.value, equ.value + 1)) for equ in equs_of(text)
+              if equ.name in names]
     template = template_of(args.warrior, text, starts).encode("latin-1")
     rules = rules_of(args).words()
-    wanted = assembled(args.program, args.warrior, *rules, "--", args.warrior)
-    refuse_another("with range lines", template, wanted, args.program, *rules, "--setting=start")
+    load_file = load_file_of(args.program, args.warrior, *rules, "--", args.warrior)
+    refuse_other_warrior("with range lines", template, load_file, args.program, *rules,
+                         "--setting=start")
 
 
 def print_size(settings):
-    """Says on standard error how many settings there are, and if that is too many for `tune`."""
-    more = f", more than the {MOST_SETTINGS} that `cwtune tune` takes" * (settings > MOST_SETTINGS)
-    print(f"note: {counted(settings, 'setting')}{more}", file=sys.stderr)
+    """Prints on standard error how many settings there are, and if they are too many for `tune`."""
+    excess = f", more than the {MOST_SETTINGS} that `cwtune tune` takes"
+    print(f"note: {counted(settings, 'setting')}{excess if settings > MOST_SETTINGS else ''}",
+          file=sys.stderr)
 
 
 def make_parser():
@@ -175,8 +181,8 @@ def make_parser():
 
 def warrior_text(parser, args):
     """Returns the text of the warrior. Refuses a template, and ranges that no template has."""
-    names = [wanted.name for wanted in args.ranges]
-    if twice := [name for k, name in enumerate(names) if name in names[:k]]:
+    names = [name for name, _ in args.ranges]
+    if twice := [name for index, name in enumerate(names) if name in names[:index]]:
         parser.error(f"{twice[0]} has two ranges")
     if len(names) > MOST_CONSTANTS:
         parser.error(f"a template has at most {MOST_CONSTANTS} constants")
@@ -187,8 +193,8 @@ def warrior_text(parser, args):
     return text
 
 
-def made_of(args, text):
-    """Returns the template of a text, whose start setting is the warrior of the text."""
+def checked_template(args, text):
+    """Returns the template of a text. Refuses ranges whose START is not the warrior of the text."""
     template = template_of(args.warrior, text, args.ranges)
     refuse_ranges(args, text)
     return template.encode("latin-1")
@@ -199,11 +205,11 @@ def main():
     args = parser.parse_intermixed_args()
     text = warrior_text(parser, args)
     if not args.ranges:
-        numbers = list(listed(text))
-        for line in numbers:
+        lines = list(numbers_of(text))
+        for line in lines:
             print(line)
-        if not numbers:
+        if not lines:
             print("note: no line `NAME EQU number`", file=sys.stderr)
         return
-    sys.stdout.buffer.write(made_of(args, text))
-    print_size(math.prod(len(wanted.values) for wanted in args.ranges))
+    sys.stdout.buffer.write(checked_template(args, text))
+    print_size(math.prod(len(values) for _, values in args.ranges))

@@ -13,12 +13,13 @@ import argparse, re, sys
 from . import cert_inputs, tuning_files
 from .endings import Fault
 from .grid import is_range_line
-from .program import assembled, refuse_another, rules_of
-from .words import WORDS, add_program, add_rules, add_words, command_parser
+from .program import load_file_of, refuse_other_warrior, rules_of
+from .words import FILE_HELP, add_program, add_rules, add_words, command_parser
 
-HEAD = b";redcode"
+# How the line begins after which the new lines come.
+REDCODE_LINE = b";redcode"
 # pMARS 0.9.2 reads no longer lines.
-MOST_OF_PMARS = 255
+MOST_LINE_BYTES = 255
 
 
 def equ_line(name, value):
@@ -27,29 +28,29 @@ def equ_line(name, value):
     return f"{name} EQU {value}" if value >= 0 else f"{name} EQU ({value})"
 
 
-def inserted(template, setting, totals):
+def new_lines(template, setting, totals):
     """Returns the lines that say which setting it is, and what its values are.
 
     `totals` are those of the setting and of START, each None if it is not known.
     """
-    total, start = totals
-    of = f", total {total}" if total is not None else ""
-    of += f"; total of START {start}" if start is not None else ""
-    names = zip(template.names, template.settings[setting])
-    return [f";strategy cwtune: setting {setting} of {len(template.settings)}{of}",
-            *(equ_line(name, value) for name, value in names)]
+    total, start_total = totals
+    shown = f", total {total}" if total is not None else ""
+    shown += f"; total of START {start_total}" if start_total is not None else ""
+    return [f";strategy cwtune: setting {setting} of {len(template.settings)}{shown}",
+            *map(equ_line, template.names, template.settings[setting])]
 
 
 def text_of(text, template, setting, totals=(None, None)):
-    """Returns the text of a setting: bytes of a template in, bytes out."""
+    """Returns the text of a setting. `text` is that of the template; both are bytes."""
     lines = [b"; " + line[1:] if is_range_line(line) else line
              for line in text.split(b"\n")]
-    head = next((k for k, line in enumerate(lines) if line[:len(HEAD)].lower() == HEAD), -1)
+    place = 1 + next((index for index, line in enumerate(lines)
+                      if line[:len(REDCODE_LINE)].lower() == REDCODE_LINE), -1)
     end = b"\r" if lines[0].endswith(b"\r") else b""
-    new = [line.encode("latin-1") + end for line in inserted(template, setting, totals)]
-    if head + 1 == len(lines):  # the text ends with the head
+    new = [line.encode("latin-1") + end for line in new_lines(template, setting, totals)]
+    if place == len(lines):  # the text ends with its `;redcode` line
         lines.append(b"")
-    return b"\n".join([*lines[:head + 1], *new, *lines[head + 1:]])
+    return b"\n".join([*lines[:place], *new, *lines[place:]])
 
 
 def setting_word(word):
@@ -60,7 +61,7 @@ def setting_word(word):
 
 
 def setting_of(template, word):
-    """Returns the index that a word names."""
+    """Returns the setting that the W of --setting names."""
     if word == "start":
         return template.start
     setting = int(word)
@@ -77,15 +78,16 @@ def total_of_start(cert, template, schedule):
     return cert.total_of(template.start, cert.fights(schedule))
 
 
-def print_foreign(text):
-    """Says on standard error which lines pMARS does not take, or takes otherwise."""
+def print_pmars_notes(text):
+    """Notes on standard error which lines pMARS refuses or cuts."""
     for number, line in enumerate(text.split(b"\n"), 1):
         code = line.partition(b";")[0]
-        if len(line) > MOST_OF_PMARS:
-            print(f"note: pMARS cuts line {number} at {MOST_OF_PMARS} bytes", file=sys.stderr)
-        elif found := re.fullmatch(rb"(?i)(?:.*\s)?(nop|dat)\s*", code):
-            word = found[1].decode().upper()
-            print(f"note: pMARS refuses line {number}: {word} without an operand", file=sys.stderr)
+        if len(line) > MOST_LINE_BYTES:
+            print(f"note: pMARS cuts line {number} at {MOST_LINE_BYTES} bytes", file=sys.stderr)
+        elif match := re.fullmatch(rb"(?i)(?:.*\s)?(nop|dat)\s*", code):
+            opcode = match[1].decode().upper()
+            print(f"note: pMARS refuses line {number}: {opcode} without an operand",
+                  file=sys.stderr)
 
 
 def make_parser():
@@ -95,7 +97,7 @@ def make_parser():
     add_program(parser)
     add_rules(parser, of_tuning=True)
     add_words(parser, "template")
-    parser.add_argument("cert", metavar="CERT", nargs="?", help=WORDS["cert"])
+    parser.add_argument("cert", metavar="CERT", nargs="?", help=FILE_HELP["cert"])
     return parser
 
 
@@ -107,21 +109,21 @@ def main():
     if args.cert is not None and args.setting is not None:
         parser.error("give CERT or --setting, and not both")
     template, totals = tuning_files.Template(args.template), (None, None)
-    args.schedule, unknown = None, ""
+    args.schedule, why_unused = None, ""
     if args.cert is None:
         setting = setting_of(template, args.setting)
     else:
         cert = tuning_files.Certificate(args.cert)
-        unknown = cert_inputs.settle(args)
+        why_unused = cert_inputs.settle(args)
         template.of(cert)
         setting = cert.best
         totals = cert.total, total_of_start(cert, template, args.schedule)
     with open(args.template, "rb") as file:
         text = text_of(file.read(), template, setting, totals)
     rules = rules_of(args).words()
-    wanted = assembled(args.program, f"setting {setting}", *rules, f"--setting={setting}", "--",
-                       args.template)
-    refuse_another("with the values as EQU lines", text, wanted, args.program, *rules)
-    print_foreign(text)
+    load_file = load_file_of(args.program, f"setting {setting}", *rules, f"--setting={setting}",
+                             "--", args.template)
+    refuse_other_warrior("with the values as EQU lines", text, load_file, args.program, *rules)
+    print_pmars_notes(text)
     sys.stdout.buffer.write(text)
-    cert_inputs.print_note(unknown)
+    cert_inputs.print_note(why_unused)

@@ -1,31 +1,34 @@
-"""The words of the commands: parsers, the files and options that several have, and numbers."""
+"""Makes the parsers of the commands, with the files, options and numbers that several have."""
 import argparse, shutil
 
-from .program import BUILT, FOUND, HILLS, Rules, program_of
+from .program import BUILT, DEFAULT, HILLS, Rules, program_of
 
-STATUS = ("Exit status: 0 done; 1 a file is refused; 2 usage error, or two files do not fit "
-          "together;\n3 I/O error, or a run without a result.")
+EXIT_STATUS = ("Exit status: 0 done; 1 a file is refused; 2 usage error, or two files do not fit "
+               "together;\n3 I/O error, or a run without a result.")
 
-WORDS = {"template": "a Redcode text with range lines", "cert": "the certificate of a tuning",
-         "schedule": "the fights of the tuning", "opponent": "the opponents, in the tuning's order"}
+# What the help of the commands says of each file, and of each rule.
+FILE_HELP = {"template": "a Redcode text with range lines",
+             "cert": "the certificate of a tuning", "schedule": "the fights of the tuning",
+             "opponent": "the opponents, in the tuning's order"}
 MEANING = {"core": "the core size", "cycles": "the most cycles of a fight",
            "tasks": "the most tasks of a warrior", "length": "the most instructions of a warrior",
            "distance": "the least distance of two warriors"}
 
 
-def command_parser(text):
-    """Returns the parser of a command: the first part of a text says what the command does, and the
-    others, an example last, follow the options. The exit status is added if no part has it."""
-    about, *more, example = text.strip().split("\n\n")
-    status = [] if "Exit status" in text else [STATUS]
+def command_parser(docstring):
+    """Returns the parser of a command, whose docstring is its help: the first paragraph says what
+    the command does; the others, an example last, follow the options. The exit status is added if
+    no paragraph has it."""
+    about, *more, example = docstring.strip().split("\n\n")
+    status = [] if "Exit status" in docstring else [EXIT_STATUS]
     return argparse.ArgumentParser(description=about, epilog="\n\n".join([*more, *status, example]),
                                    allow_abbrev=False,
                                    formatter_class=argparse.RawDescriptionHelpFormatter)
 
 
-def module_parser(module, text):
+def module_parser(module, docstring):
     """Returns the parser of a module that is run by `python3 -m`: its docstring is its help."""
-    about, _, rest = text.strip().partition("\n\n")
+    about, _, rest = docstring.strip().partition("\n\n")
     return argparse.ArgumentParser(prog=f"python3 -m {module}", description=about, epilog=rest,
                                    formatter_class=argparse.RawDescriptionHelpFormatter)
 
@@ -44,15 +47,20 @@ def number_from(low, high=None):
     return read
 
 
+def counted(number, noun):
+    """Returns a number with its noun, as `1 setting` and `2 settings`."""
+    return f"{number} {noun}{'s' * (number != 1)}"
+
+
 def add_built(parser):
-    """Adds a program as a word of a module."""
+    """Adds a program to the words of a module of a room."""
     parser.add_argument("program", nargs="?", default=BUILT, metavar="PROGRAM",
                         help="the program cwtune [default: the one built here]")
 
 
-def program_word(module, text):
+def program_word(module, docstring):
     """Reads the words of a module that takes a program alone. Returns the program."""
-    parser = module_parser(module, text)
+    parser = module_parser(module, docstring)
     add_built(parser)
     return program_of(parser.parse_args().program)
 
@@ -60,13 +68,13 @@ def program_word(module, text):
 def add_words(parser, *names):
     """Adds the files of a tuning to the words of a command."""
     for name in names:
-        parser.add_argument(name, metavar=name.upper(), help=WORDS[name],
+        parser.add_argument(name, metavar=name.upper(), help=FILE_HELP[name],
                             nargs="+" if name == "opponent" else None)
 
 
 def add_opponents_of_tuning(parser):
     parser.add_argument("opponents", metavar="OPPONENT", nargs="*", default=[],
-                        help=WORDS["opponent"] + " [default: those of the tuning]")
+                        help=FILE_HELP["opponent"] + " [default: those of the tuning]")
 
 
 def program_at(word):
@@ -75,7 +83,7 @@ def program_at(word):
 
 
 def add_program(parser):
-    parser.add_argument("--program", type=program_at, default=FOUND, metavar="FILE",
+    parser.add_argument("--program", type=program_at, default=DEFAULT, metavar="FILE",
                         help="the program cwtune [default: the one built here, else on the PATH]")
 
 

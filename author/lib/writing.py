@@ -1,4 +1,4 @@
-"""Files that are written whole or not at all."""
+"""Writes files whole or not at all."""
 import contextlib, os, pathlib, shutil
 
 from .endings import Fault
@@ -19,21 +19,21 @@ def whole_file(path, mode="w"):
 
     After a fault `path` is as it was. A device or a pipe is opened itself.
     """
-    real = pathlib.Path(os.path.realpath(path))
+    target = pathlib.Path(os.path.realpath(path))
     with naming(path):
-        if real.exists() and not real.is_file():
+        if target.exists() and not target.is_file():
             with open(path, mode) as file:
                 yield file
             return
-        new = real.with_name(f"{real.name}.{os.getpid()}.new")
+        new = target.with_name(f"{target.name}.{os.getpid()}.new")
         try:
             with new.open(mode) as file:
                 yield file
                 file.flush()
                 os.fsync(file.fileno())
-            if real.exists():
-                shutil.copymode(real, new)
-            new.replace(real)
+            if target.exists():
+                shutil.copymode(target, new)
+            new.replace(target)
         finally:
             with contextlib.suppress(OSError):
                 new.unlink()

@@ -14,8 +14,10 @@ reporting        the page of a study
 
 Each of them but `run` and `study_refused` has a function `trials`. It yields the names of what was
 tried, and for each a list of what was wrong, which `run` counts. What a module tries in a folder of
-its own is named after its title and its function, as `cwtune-spread, folders: two at once`.
+its own is named after its title and its function, as `cwtune-spread, folders: a file in its place`.
 
-Their libraries: `commands` runs a command, `spread_place` and `study_place` make the folders of two
-commands, and `report_samples` has the reports of `reporting`.
+Their libraries: `commands` runs a command and plays tables of refusals, `spread_place` and
+`study_place` make the folders of two commands, and `report_samples` makes up the reports of
+`reporting`. In all of them a `result` is how a command ended (`commands.Result`), and `expected` is
+how it has to end.
 """

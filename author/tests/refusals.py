@@ -1,129 +1,156 @@
-"""Gives the commands files and words that they have to refuse."""
+"""Gives the commands files and words that they have to refuse.
+
+A table has what is refused for one reason. Its files are beside those of examples/tuning/, and the
+names of those that are refused say what is wrong with them.
+"""
 import os, pathlib, tempfile
 
 from gate.tally import compare
 
-from .commands import TUNING, printed
+from .commands import TUNING, Refusal, printed, refused, run, usage_error
 
-# Files of the trials beside those of examples/tuning/. Most are refused.
-FILES = {
-    "binary": bytes(range(256)),
-    "empty": b"",
-    # A byte more than a template may have.
-    "long": b";" * 65537,
-    # A schedule of four fights, which is not that of step.cert, and one of two.
-    "other.csv": b"opponent,position,first\n0,3670,c\n0,5123,o\n1,2085,c\n1,6100,o\n",
+# Files that are read as they should be.
+RIGHT = {
+    # Schedules of two fights, and of four that are not those of step.cert.
     "two.csv": b"opponent,position,first\n0,3670,c\n0,5123,o\n",
-    # Not certificates: a row of two fields, a row that refers to none, a best setting without a
-    # row, a setting in place of a dash, and a dash in place of a setting.
-    "row.cert": b"cwcert,1,1\nbest,0,3\ncap,0\n",
-    "twin.cert": b"cwcert,1,2\nbest,0,3\ncap,0,0:3\nsame,1,2\n",
-    "best.cert": b"cwcert,1,1\nbest,1,3\ncap,0,0:3\n",
-    "half.cert": b"cwcert,1,2\nnone,0,4\ncap,0,0:0\nsame,1,0\n",
-    "dash.cert": b"cwcert,1,2\nbest,-,4\ncap,0,0:0\nsame,1,0\n",
-    # A certificate without a best setting.
-    "below.cert": b"cwcert,1,2\nnone,-,4\ncap,0,0:0\nsame,1,0\n",
-    # Rankings that are exact for the first one, since a setting with the cap 3 is before the one
-    # with the total 3, and for the first two, since it is after it.
-    "one.cert": b"cwcert,1,4\nbest,1,4\ncap,0,0:0\ncap,1,0:3 1:1\ncap,2,0:3 1:0\n"
-                b"cap,3,0:1 1:0\n",
-    "two.cert": b"cwcert,1,4\nbest,1,4\ncap,0,0:3 1:0\ncap,1,0:3 1:1\ncap,2,0:1 1:0\n"
-                b"cap,3,0:0\n",
-    # Wrong rows: the total is 16, setting 0 totals more than the best one, a fight does not exist.
-    "total.cert": (TUNING / "step.cert").read_bytes().replace(b"best,3,16", b"best,3,17"),
-    "lead.cert": b"cwcert,1,2\nbest,1,3\ncap,0,0:3 1:3\ncap,1,0:3 1:0\n",
-    "minus.cert": b"cwcert,1,2\nbest,0,4\ncap,0,0:3 1:1\ncap,1,-9:0\n",
-    # Templates of two settings and of one, and one whose picture would have 37 maps.
+    "other.csv": b"opponent,position,first\n0,3670,c\n0,5123,o\n1,2085,c\n1,6100,o\n",
+    # Templates of two settings, of one, and of 37 maps.
     "two.red": b";@tune K 0 1 1 0\nJMP 1-K\n",
     "plain.red": b"MOV 0, 1\n",
-    "plain.cert": b"cwcert,1,1\nbest,0,3\ncap,0,0:3\n",
     "maps.red": b";@tune A 0 36 1 0\n;@tune B 0 0 1 0\n;@tune C 0 0 1 0\nMOV 0, 1\n",
+    # Certificates of the last two, and one in which no setting reaches the floor.
+    "plain.cert": b"cwcert,1,1\nbest,0,3\ncap,0,0:3\n",
     "maps.cert": b"cwcert,1,37\nbest,0,3\ncap,0,0:3\n" + b"".join(
-        b"same,%d,0\n" % v for v in range(1, 37)),
-    # Not templates: a range line of four words, two of one constant, 10 ** 12 settings.
-    "range.red": b"NOP\n;@tune K 0 5 1\n",
-    "twice.red": b";@tune K 0 5 1 1\n;@tune K 0 5 1 1\nMOV 0, K\n",
-    "ranges.red": b"".join(b";@tune %c 0 9999 1 0\n" % name for name in b"ABC"),
+        b"same,%d,0\n" % setting for setting in range(1, 37)),
+    "below-floor.cert": b"cwcert,1,2\nnone,-,4\ncap,0,0:0\nsame,1,0\n",
+    # Certificates of two.csv. In the first only the first of the ranking is exact: setting 0, which
+    # was dropped, may total 3, and comes before setting 2 with that total. In the other one the
+    # first two are exact, since the dropped setting comes after the one with the total 3.
+    "one-exact.cert": b"cwcert,1,4\nbest,1,4\ncap,0,0:0\ncap,1,0:3 1:1\ncap,2,0:3 1:0\n"
+                      b"cap,3,0:1 1:0\n",
+    "two-exact.cert": b"cwcert,1,4\nbest,1,4\ncap,0,0:3 1:0\ncap,1,0:3 1:1\ncap,2,0:1 1:0\n"
+                      b"cap,3,0:0\n",
 }
+NOT_OF_ANY_KIND = {"binary": bytes(range(256)), "empty": b""}
+NOT_CERTIFICATES = {
+    "row-of-two-fields.cert": b"cwcert,1,1\nbest,0,3\ncap,0\n",
+    "same-as-no-setting.cert": b"cwcert,1,2\nbest,0,3\ncap,0,0:3\nsame,1,2\n",
+    "best-without-a-row.cert": b"cwcert,1,1\nbest,1,3\ncap,0,0:3\n",
+    "none-with-a-setting.cert": b"cwcert,1,2\nnone,0,4\ncap,0,0:0\nsame,1,0\n",
+    "best-with-a-dash.cert": b"cwcert,1,2\nbest,-,4\ncap,0,0:0\nsame,1,0\n",
+}
+WRONG_CERTIFICATES = {
+    "total-17-and-not-16.cert": (TUNING / "step.cert").read_bytes().replace(b"best,3,16",
+                                                                            b"best,3,17"),
+    "more-than-the-best.cert": b"cwcert,1,2\nbest,1,3\ncap,0,0:3 1:3\ncap,1,0:3 1:0\n",
+    "no-such-fight.cert": b"cwcert,1,2\nbest,0,4\ncap,0,0:3 1:1\ncap,1,-9:0\n",
+}
+WRONG_TEMPLATES = {
+    "65537-bytes.red": b";" * 65537,
+    "four-words.red": b"NOP\n;@tune K 0 5 1\n",
+    "constant-twice.red": b";@tune K 0 5 1 1\n;@tune K 0 5 1 1\nMOV 0, K\n",
+    "too-many-settings.red": b"".join(b";@tune %c 0 9999 1 0\n" % name for name in b"ABC"),
+}
+FILES = RIGHT | NOT_OF_ANY_KIND | NOT_CERTIFICATES | WRONG_CERTIFICATES | WRONG_TEMPLATES
+
 NO_FILE = "No such file or directory"
-NO_RANGE = "is not a range line: ;@tune NAME LOW HIGH STEP START, with START one of the values"
-BELOW = "it names no best setting, since none reaches the floor 4"
-WRONG_ROWS = "its rows are not those of its best setting and total"
-# What the commands have to refuse: the words, the line on standard error, and the status.
-REFUSALS = [
-    ("cwtune-scores none schedule.csv", f"failed: none: {NO_FILE}", 3),
-    ("cwtune-scores step.cert none", f"failed: none: {NO_FILE}", 3),
-    ("cwtune-scores step.cert .", "failed: .: Is a directory", 3),
-    *((f"cwtune-scores {name} schedule.csv", f"refused: {name}: not a certificate", 1)
-      for name in ["binary", "empty", "row.cert", "twin.cert", "best.cert", "half.cert",
-                   "dash.cert", "schedule.csv"]),
-    ("cwtune-scores below.cert schedule.csv", f"refused: below.cert: {BELOW}", 1),
-    ("cwtune-landscape step.red below.cert x.png", f"refused: below.cert: {BELOW}", 1),
-    *((f"cwtune-scores step.cert {name}", f"refused: {name}: not a schedule", 1)
-      for name in ["binary", "empty", "step.cert"]),
-    *((f"cwtune-scores step.cert {name}",
-       f"error: step.cert is not a certificate of the schedule {name}", 2)
-      for name in ["other.csv", "weighted.csv"]),
-    *((f"cwtune-scores {name} two.csv",
-       f"error: {name} is not a certificate of the schedule two.csv", 2)
-      for name in ["lead.cert", "minus.cert"]),
-    ("cwtune-holdout --top 1 two.red lead.cert x.red", f"error: lead.cert: {WRONG_ROWS}", 2),
-    ("cwtune-landscape two.red minus.cert x.png", f"error: minus.cert: {WRONG_ROWS}", 2),
-    ("cwtune-scores step.cert schedule.csv --template range.red",
-     f"refused: range.red: line 2 {NO_RANGE}", 1),
-    ("cwtune-scores step.cert schedule.csv --template twice.red",
-     "refused: twice.red: two range lines of one constant", 1),
-    ("cwtune-scores step.cert schedule.csv --template ranges.red",
-     "refused: ranges.red: more than 1000000 settings", 1),
-    ("cwtune-scores step.cert schedule.csv --top -3",
-     "cwtune-scores: error: argument --top: -3 is not 1 or more", 2),
-    ("cwtune-scores step.cert schedule.csv --top x",
-     "cwtune-scores: error: argument --top: invalid number value: 'x'", 2),
-    ("cwtune-series 1234 -5 -2", "cwtune-series: error: argument ROUNDS: -5 is not 1 to 10000", 2),
-    ("cwtune-series 1234 5 65", "cwtune-series: error: argument OPPONENTS: 65 is not 1 to 64", 2),
-    ("cwtune-series 1234 5 2 --core 70000",
-     "cwtune-series: error: argument --core: 70000 is not 8 to 65535", 2),
-    ("cwtune-series 1234 5 2 --distance 0",
-     "cwtune-series: error: argument --distance: 0 is not 1 to 32767", 2),
-    ("cwtune-series 40 5 2 --core 79 --distance 40",
-     "cwtune-series: error: --distance is more than half of --core", 2),
-    ("cwtune-holdout --rounds 10001 two.red lead.cert x.red",
-     "cwtune-holdout: error: --rounds 10001 against 1 opponent: more than 10000 fights", 2),
-    ("cwtune-holdout --distance 4001 two.red lead.cert x.red",
-     "cwtune-holdout: error: --distance is more than half of --core", 2),
-    ("cwtune-series 100 5 2 --hill lp",
-     "cwtune-series: error: SEED 100 is not 200 to 7800, the positions that pMARS takes", 2),
-    ("cwtune-series 1234 5 2 --hill x",
-     "cwtune-series: error: argument --hill: invalid choice: 'x' (choose from '94nop', 'tiny', "
-     "'nano', 'lp')", 2),
-    ("cwtune-files none", f"failed: none: {NO_FILE}", 3),
-    *((f"cwtune-files {name}", f"refused: {name}: not a template, a schedule or a certificate", 1)
-      for name in ["binary", "empty"]),
-    *((f"cwtune-{words} long", "refused: long: 65537 bytes, more than the 65536 of a template", 1)
-      for words in ["files", "scores step.cert schedule.csv --template"]),
-    ("cwtune-landscape stone.red all-fights.cert x.png --axes STEP,STEP",
-     "cwtune-landscape: error: --axes takes two of the constants STEP, FIRST, as in A,B", 2),
-    ("cwtune-landscape stone.red all-fights.cert x.png --opponent 1",
-     "cwtune-landscape: error: --opponent needs --schedule", 2),
-    ("cwtune-landscape stone.red all-fights.cert x.png --schedule schedule.csv --opponent 5",
-     "cwtune-landscape: error: --opponent 5: the opponents of the schedule are 0, 1, 2, 3, 4", 2),
-    ("cwtune-landscape plain.red plain.cert x.png",
-     "cwtune-landscape: error: the template has no constants to draw", 2),
-    ("cwtune-landscape none step.cert x.png", f"failed: none: {NO_FILE}", 3),
-    ("cwtune-landscape step.red binary x.png", "refused: binary: not a certificate", 1),
-    ("cwtune-landscape step.red total.cert x.png", f"error: total.cert: {WRONG_ROWS}", 2),
-    ("cwtune-landscape step.red step.cert x.png --schedule other.csv",
-     "error: step.cert is not a certificate of the schedule other.csv", 2),
-    *((f"cwtune-landscape step.red step.cert {name}",
-       f"cwtune-landscape: error: the picture's name has to end with .png or .svg: {name}", 2)
+CANNOT_BE_READ = [
+    Refusal("cwtune-scores none schedule.csv", 3, f"failed: none: {NO_FILE}"),
+    Refusal("cwtune-scores step.cert none", 3, f"failed: none: {NO_FILE}"),
+    Refusal("cwtune-scores step.cert .", 3, "failed: .: Is a directory"),
+    Refusal("cwtune-files none", 3, f"failed: none: {NO_FILE}"),
+    Refusal("cwtune-landscape none step.cert x.png", 3, f"failed: none: {NO_FILE}"),
+]
+OF_ANOTHER_KIND = [
+    *(Refusal(f"cwtune-files {name}", 1,
+              f"refused: {name}: not a template, a schedule or a certificate")
+      for name in NOT_OF_ANY_KIND),
+    *(Refusal(f"cwtune-scores {name} schedule.csv", 1, f"refused: {name}: not a certificate")
+      for name in [*NOT_OF_ANY_KIND, *NOT_CERTIFICATES, "schedule.csv"]),
+    Refusal("cwtune-landscape step.red binary x.png", 1, "refused: binary: not a certificate"),
+    *(Refusal(f"cwtune-scores step.cert {name}", 1, f"refused: {name}: not a schedule")
+      for name in [*NOT_OF_ANY_KIND, "step.cert"]),
+]
+NO_BEST_SETTING = [
+    Refusal(words, 1, "refused: below-floor.cert: it names no best setting, since none reaches the "
+            "floor 4")
+    for words in ["cwtune-scores below-floor.cert schedule.csv",
+                  "cwtune-landscape step.red below-floor.cert x.png"]
+]
+OF_WRONG_TEMPLATES = [
+    *(Refusal(f"{words} 65537-bytes.red", 1,
+              "refused: 65537-bytes.red: 65537 bytes, more than the 65536 of a template")
+      for words in ["cwtune-files", "cwtune-scores step.cert schedule.csv --template"]),
+    *(Refusal(f"cwtune-scores step.cert schedule.csv --template {name}", 1,
+              f"refused: {name}: {fault}")
+      for name, fault in {
+          "four-words.red": "line 2 is not a range line: ;@tune NAME LOW HIGH STEP START, with "
+                            "START one of the values",
+          "constant-twice.red": "two range lines of one constant",
+          "too-many-settings.red": "more than 1000000 settings"}.items()),
+]
+OF_ANOTHER_SCHEDULE = [
+    *(Refusal(words, 2, f"error: {cert} is not a certificate of the schedule {schedule}")
+      for words, cert, schedule in [
+          ("cwtune-scores step.cert other.csv", "step.cert", "other.csv"),
+          ("cwtune-scores step.cert weighted.csv", "step.cert", "weighted.csv"),
+          ("cwtune-scores more-than-the-best.cert two.csv", "more-than-the-best.cert", "two.csv"),
+          ("cwtune-scores no-such-fight.cert two.csv", "no-such-fight.cert", "two.csv"),
+          ("cwtune-landscape step.red step.cert x.png --schedule other.csv", "step.cert",
+           "other.csv")]),
+    *(Refusal(words, 2, f"error: {cert}: its rows are not those of its best setting and total")
+      for words, cert in [
+          ("cwtune-holdout --top 1 two.red more-than-the-best.cert x.red",
+           "more-than-the-best.cert"),
+          ("cwtune-landscape two.red no-such-fight.cert x.png", "no-such-fight.cert"),
+          ("cwtune-landscape step.red total-17-and-not-16.cert x.png",
+           "total-17-and-not-16.cert")]),
+]
+WRONG_NUMBERS = [
+    usage_error("cwtune-scores step.cert schedule.csv --top -3",
+                "argument --top: -3 is not 1 or more"),
+    usage_error("cwtune-scores step.cert schedule.csv --top x",
+                "argument --top: invalid number value: 'x'"),
+    usage_error("cwtune-series 1234 -5 -2", "argument ROUNDS: -5 is not 1 to 10000"),
+    usage_error("cwtune-series 1234 5 65", "argument OPPONENTS: 65 is not 1 to 64"),
+    usage_error("cwtune-series 1234 5 2 --core 70000",
+                "argument --core: 70000 is not 8 to 65535"),
+    usage_error("cwtune-series 1234 5 2 --distance 0",
+                "argument --distance: 0 is not 1 to 32767"),
+    usage_error("cwtune-series 40 5 2 --core 79 --distance 40",
+                "--distance is more than half of --core"),
+    usage_error("cwtune-series 100 5 2 --hill lp",
+                "SEED 100 is not 200 to 7800, the positions that pMARS takes"),
+    usage_error("cwtune-series 1234 5 2 --hill x",
+                "argument --hill: invalid choice: 'x' (choose from '94nop', 'tiny', 'nano', "
+                "'lp')"),
+    usage_error("cwtune-holdout --rounds 10001 two.red more-than-the-best.cert x.red",
+                "--rounds 10001 against 1 opponent: more than 10000 fights"),
+    usage_error("cwtune-holdout --distance 4001 two.red more-than-the-best.cert x.red",
+                "--distance is more than half of --core"),
+]
+WRONG_PICTURES = [
+    usage_error("cwtune-landscape stone.red all-fights.cert x.png --axes STEP,STEP",
+                "--axes takes two of the constants STEP, FIRST, as in A,B"),
+    usage_error("cwtune-landscape stone.red all-fights.cert x.png --opponent 1",
+                "--opponent needs --schedule"),
+    usage_error("cwtune-landscape stone.red all-fights.cert x.png --schedule schedule.csv "
+                "--opponent 5",
+                "--opponent 5: the opponents of the schedule are 0, 1, 2, 3, 4"),
+    usage_error("cwtune-landscape plain.red plain.cert x.png",
+                "the template has no constants to draw"),
+    *(usage_error(f"cwtune-landscape step.red step.cert {name}",
+                  f"the picture's name has to end with .png or .svg: {name}")
       for name in ["x.jpg", "x", "png"]),
 ]
-# What needs matplotlib to be refused.
+REFUSALS = [*CANNOT_BE_READ, *OF_ANOTHER_KIND, *NO_BEST_SETTING, *OF_WRONG_TEMPLATES,
+            *OF_ANOTHER_SCHEDULE, *WRONG_NUMBERS, *WRONG_PICTURES]
+# What is refused only once matplotlib is there.
 NOT_DRAWN = [
-    ("cwtune-landscape step.red step.cert none/x.png", f"failed: none/x.png: {NO_FILE}", 3),
-    ("cwtune-landscape maps.red maps.cert x.png",
-     "refused: 37 maps, one for each choice of the other constants; at most 36: tune a template "
-     "with fewer of them", 1),
+    Refusal("cwtune-landscape step.red step.cert none/x.png", 3, f"failed: none/x.png: {NO_FILE}"),
+    Refusal("cwtune-landscape maps.red maps.cert x.png", 1,
+            "refused: 37 maps, one for each choice of the other constants; at most 36: tune a "
+            "template with fewer of them"),
 ]
 
 
@@ -134,29 +161,28 @@ def trials(python, draws):
             pathlib.Path(folder, path.name).write_bytes(path.read_bytes())
         for name, text in FILES.items():
             pathlib.Path(folder, name).write_bytes(text)
-        files = sorted(os.listdir(folder))
-        for words, line, status in REFUSALS + NOT_DRAWN * draws:
-            came = printed(*words.split(), folder=folder, python=python)
-            yield compare(words, f"{line}\nstatus {status}\n", came)
-        yield compare("refusals write no file", files, sorted(os.listdir(folder)))
+        before = sorted(os.listdir(folder))
+        yield from refused(REFUSALS + NOT_DRAWN * draws,
+                           lambda words: run(*words, folder=folder, python=python))
+        yield compare("refusals write no file", before, sorted(os.listdir(folder)))
         yield from shown(folder)
 
 
 def shown(folder):
-    """Shows certificates that are not refused: one without a best setting, one whose template has
-    one setting, and two whose rankings are exact for the first one and for the first two."""
-    yield compare("cwtune-files below.cert", "below.cert: certificate, version 1, of 2 settings: "
-                  "none reaches the floor 4\n",
-                  printed("cwtune-files", "below.cert", folder=folder))
-    yield compare("cwtune-files plain.cert", "plain.cert: certificate, version 1, of 1 setting: "
-                  "best 0 total 3\n", printed("cwtune-files", "plain.cert", folder=folder))
-    for name, words, said_of in [
-        ("one.cert", [], ["only the first of the ranking is exact; cwtune tune --keep 10 makes the "
-                          "first 10 exact", "setting 1: total 4"]),
-        ("two.cert", ["--top=2"], ["the first 2 of the ranking are exact", "setting 1: total 4",
-                                   "setting 0: total 3"]),
+    """Shows certificates that have something in common with those that are refused."""
+    for name, line in [
+        ("below-floor.cert", "certificate, version 1, of 2 settings: none reaches the floor 4"),
+        ("plain.cert", "certificate, version 1, of 1 setting: best 0 total 3"),
     ]:
-        out = printed("cwtune-scores", name, "two.csv", *words, folder=folder)
+        yield compare(f"cwtune-files {name}", f"{name}: {line}\n",
+                      printed("cwtune-files", name, folder=folder))
+    for name, words, lines in [
+        ("one-exact.cert", [], ["only the first of the ranking is exact; cwtune tune --keep 10 "
+                                "makes the first 10 exact", "setting 1: total 4"]),
+        ("two-exact.cert", ["--top=2"], ["the first 2 of the ranking are exact",
+                                         "setting 1: total 4", "setting 0: total 3"]),
+    ]:
+        output = printed("cwtune-scores", name, "two.csv", *words, folder=folder)
         yield compare(f"the ranking of {name}", [
-            "3 settings played all fights, 1 was dropped", *said_of],
-            [line.strip() for line in out.splitlines()[2:-1]])
+            "3 settings played all fights, 1 was dropped", *lines],
+            [line.strip() for line in output.splitlines()[2:-1]])

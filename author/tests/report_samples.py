@@ -1,4 +1,4 @@
-"""Made-up reports, of which `reporting.py` makes pages."""
+"""Makes up reports of studies, of which `reporting` makes pages."""
 import itertools, random
 
 HOSTILE = ['<script src="http://x">alert(1)</script>', "a & b &amp; 'c'", "\udcff\udc80.red",
@@ -6,70 +6,75 @@ HOSTILE = ['<script src="http://x">alert(1)</script>', "a & b &amp; 'c'", "\udcf
            "\x00\x1b[31m\u202ered"]
 WARRIORS = ["dwarf", "imp-ring", "scanner", "replicator", "core-clear", "gate", "quick-scan",
             "stone"]
-SETTING = 1012
+WINNER = 1012
 
 
-def fresh_of(dice, names, fights, better=0):
-    """Returns fresh fights against opponents. `better` is a percent of all fights."""
-    rows = []
+def fresh_of(dice, names, fights, more_wins=0):
+    """Returns fresh fights, `fights` against each opponent. `more_wins` is a percent of them."""
+    opponents = []
     for name in names:
-        wins = dice.randint(fights // 5, fights // 2) + better * fights // 100
+        wins = dice.randint(fights // 5, fights // 2) + more_wins * fights // 100
         ties = dice.randint(0, fights - wins) // 2
-        rows.append({"name": name, "wins": wins, "ties": ties, "losses": fights - wins - ties,
-                     "percent": 100 * (3 * wins + ties) / (3 * fights)})
-    points, many = sum(3 * row["wins"] + row["ties"] for row in rows), fights * len(names)
-    return {"fights": many, "points": points, "percent": 100 * points / (3 * many),
-            "error": 1.1 + dice.random() / 3, "opponents": rows}
+        opponents.append({"name": name, "wins": wins, "ties": ties, "losses": fights - wins - ties,
+                          "percent": 100 * (3 * wins + ties) / (3 * fights)})
+    points = sum(3 * opponent["wins"] + opponent["ties"] for opponent in opponents)
+    all_fights = fights * len(names)
+    return {"fights": all_fights, "points": points, "percent": 100 * points / (3 * all_fights),
+            "error": 1.1 + dice.random() / 3, "opponents": opponents}
 
 
 def box_of(sizes):
-    """Returns the values of a constant for each size."""
+    """Returns for each size a constant with as many values."""
     names = ["STEP", "FIRST", "DECOY", "PLACE", "GATE"]
-    return {name: [3005 + 1000 * k + 4 * i for i in range(size)]
-            for k, (name, size) in enumerate(zip(names, sizes))}
+    return {name: [3005 + 1000 * constant + 4 * index for index in range(size)]
+            for constant, (name, size) in enumerate(zip(names, sizes))}
 
 
-def landscape_of(dice, box, best, total):
-    """Returns totals below `total`, which is that of the best. One setting does not assemble."""
-    axes = list(box)[:2]
-    values = [box[name] for name in axes]
-    places = [own.index(best[name]) for name, own in zip(axes, values)]
-    hills = [[dice.randint(0, 20) for _ in own] for own in values]
-    totals = [total - 3 - sum(it) - dice.randint(0, 9) for it in itertools.product(*hills)]
+def landscape_of(dice, box, best_values, best_total):
+    """Returns a landscape whose best setting has the greatest total. One setting does not
+    assemble."""
+    names = list(box)[:2]
+    ranges = [box[name] for name in names]
+    place = [values.index(best_values[name]) for name, values in zip(names, ranges)]
+    losses = [[dice.randint(0, 20) for _ in values] for values in ranges]
+    totals = [best_total - 3 - sum(pair) - dice.randint(0, 9)
+              for pair in itertools.product(*losses)]
     totals[-1] = None
-    width = len(values[-1])
-    totals = [totals[k:k + width] for k in range(0, len(totals), width)]
-    row, column = (0, *places)[-2:]
-    totals[row][column] = total
-    return {"axes": axes, "values": values, "totals": totals}
+    width = len(ranges[-1])
+    rows = [totals[first:first + width] for first in range(0, len(totals), width)]
+    row, column = (0, *place)[-2:]
+    rows[row][column] = best_total
+    return {"axes": names, "values": ranges, "totals": rows}
 
 
-def effects_of(dice, box, total):
-    return [{"name": name, "values": own, "means": [total - dice.random() * 50 for _ in own],
-             "errors": [dice.random() * 5 for _ in own]} for name, own in box.items()]
+def effects_of(dice, box, best_total):
+    return [{"name": name, "values": values,
+             "means": [best_total - dice.random() * 50 for _ in values],
+             "errors": [dice.random() * 5 for _ in values]} for name, values in box.items()]
 
 
-def ranking_of(dice, winner, other, names):
+def ranking_of(dice, winner, other_values, names):
     """Returns ten of a ranking: the winner is the second, and the last has no fresh fights."""
-    rows = [{"rank": k, "setting": 77 + k, "values": other, "tuned": winner["tuned"] + 2 - k,
-             "fresh": fresh_of(dice, names, 200 if k < 6 else 100)} for k in range(1, 11)]
-    rows[-1]["fresh"] = None
-    return [rows[0], winner, *rows[2:]]
+    ranking = [{"rank": rank, "setting": 77 + rank, "values": other_values,
+                "tuned": winner["tuned"] + 2 - rank,
+                "fresh": fresh_of(dice, names, 200 if rank < 6 else 100)} for rank in range(1, 11)]
+    ranking[-1]["fresh"] = None
+    return [ranking[0], winner, *ranking[2:]]
 
 
-def made_of(names):
-    """Returns what says how the report was made."""
+def origin_of(names):
+    """Returns the part of a report that says how it was made. `names` are the opponents'."""
     return {
         "title": "Open Stone", "made": "2026-11-27", "program": "cwtune 1.2.3",
         "rules": {"core": 8000, "cycles": 80000, "tasks": 8001, "length": 100, "distance": 101},
-        "opponents": [{"name": name, "digest": f"{300 + k} {k:064x}"}
-                      for k, name in enumerate(names)],
+        "opponents": [{"name": name, "digest": f"{300 + index} {index:064x}"}
+                      for index, name in enumerate(names)],
         "schedule": {"fights": 20 * len(names), "rounds": 20, "seed": 4321,
                      "greatest": 60 * len(names)},
-        "check": f"accepted best {SETTING} total 350",
+        "check": f"accepted best {WINNER} total 350",
         "commands": ["cwtune-series 4321 20 8 > schedule.csv",
                      "cwtune-spread --all --jobs 4 box.red schedule.csv best.cert opponents/*.red",
-                     f"cwtune-warrior --setting {SETTING} box.red > winner.red"],
+                     f"cwtune-warrior --setting {WINNER} box.red > winner.red"],
         "files": [{"name": name, "digest": f"{size} {size:064x}"} for name, size in
                   [("template.red", 903), ("schedule.csv", 2091), ("best.cert", 81234)]],
         "winner_text": ";redcode-94\n;name Open Stone\nSTEP EQU 3017\n        MOV <1, >STEP\n"}
@@ -77,24 +82,25 @@ def made_of(names):
 
 def sample(sizes, opponents=8):
     """Returns a report of as many constants as there are sizes of the box."""
-    dice, box, total = random.Random(1), box_of(sizes), 250
+    dice, box, best_total = random.Random(1), box_of(sizes), 250
     names = [f"{name}.red" for name in itertools.islice(itertools.cycle(WARRIORS), opponents)]
-    best = {name: own[len(own) // 2] for name, own in box.items()}
-    start = {"values": {name: own[0] for name, own in box.items()},
+    best_values = {name: values[len(values) // 2] for name, values in box.items()}
+    start = {"values": {name: values[0] for name, values in box.items()},
              "tuned": None if len(sizes) > 2 else 231, "fresh": fresh_of(dice, names, 400)}
-    winner = {"rank": 2, "setting": SETTING, "values": best, "tuned": total,
+    winner = {"rank": 2, "setting": WINNER, "values": best_values, "tuned": best_total,
               "fresh": fresh_of(dice, names, 400, 12)}
-    constants = [{"name": name, "low": own[0] - 400, "high": own[-1] + 400, "step": 4,
-                  "start": start["values"][name], "best": best[name], "box": own}
-                 for name, own in box.items()]
+    constants = [{"name": name, "low": values[0] - 400, "high": values[-1] + 400, "step": 4,
+                  "start": start["values"][name], "best": best_values[name], "box": values}
+                 for name, values in box.items()]
     gain = winner["fresh"]["percent"] - start["fresh"]["percent"]
     return {
-        **made_of(names), "start": start, "winner": winner, "constants": constants,
+        **origin_of(names), "start": start, "winner": winner, "constants": constants,
         "settings": {"template": 134421, "box": 2503, "sought": len(sizes) > 1,
                      "seek_fights": 51234, "box_fights": 400480},
         "ranking": ranking_of(dice, winner, start["values"], names),
         "gain": {"percent": gain, "error": 1.23, "words": "a gain"},
-        "landscape": landscape_of(dice, box, best, total), "effects": effects_of(dice, box, total)}
+        "landscape": landscape_of(dice, box, best_values, best_total),
+        "effects": effects_of(dice, box, best_total)}
 
 
 def renamed(piece, names):
@@ -113,10 +119,10 @@ def hostile():
     report["title"] = report["winner_text"] = report["check"] = "\n".join(HOSTILE)
     report["commands"] = report["program"] = HOSTILE
     report["files"] = [{"name": name, "digest": name} for name in HOSTILE]
-    for rows in (report["opponents"], report["start"]["fresh"]["opponents"],
-                 report["winner"]["fresh"]["opponents"]):
-        for row, name in zip(rows, HOSTILE):
-            row["name"] = name
+    for opponents in (report["opponents"], report["start"]["fresh"]["opponents"],
+                      report["winner"]["fresh"]["opponents"]):
+        for opponent, name in zip(opponents, HOSTILE):
+            opponent["name"] = name
     return report
 
 

@@ -8,44 +8,44 @@ from gate.tally import compare
 
 from .report_samples import HOSTILE, REPORTS
 
-# What a page may be made of.
+# The tags and the attributes of which a page may be made.
 TAGS = set("html head meta title style body main h1 h2 h3 p strong span ul li code div table "
            "caption thead tbody tr th td dl dt dd pre details summary figure svg text path rect "
            "circle".split())
-WORDS = set("lang charset name content class role tabindex aria-label aria-labelledby scope "
-            "colspan id viewbox x y width height cx cy r d".split())
-EMPTY = {"meta"}
+ATTRIBUTES = set("lang charset name content class role tabindex aria-label aria-labelledby scope "
+                 "colspan id viewbox x y width height cx cy r d".split())
+UNCLOSED_TAGS = {"meta"}
 
 
 class Reader(html.parser.HTMLParser):
-    """Notes what is wrong with a page, its words, its headings and its ids."""
+    """Reads a page: notes what is wrong with it, its words, the levels of its headings, its ids."""
 
-    def __init__(self, made):
+    def __init__(self, page):
         super().__init__()
-        self.open, self.wrong, self.words, self.levels, self.ids = [], [], [], [], []
-        self.feed(made)
+        self.open_tags, self.wrong, self.words, self.levels, self.ids = [], [], [], [], []
+        self.feed(page)
         self.close()
-        self.wrong += [f"<{tag}> is not closed" for tag in self.open]
+        self.wrong += [f"<{tag}> is not closed" for tag in self.open_tags]
 
     def handle_starttag(self, tag, attrs):
         self.wrong += [f"<{tag}>"] * (tag not in TAGS)
-        self.wrong += [f"{name}= in <{tag}>" for name, _ in attrs if name not in WORDS]
+        self.wrong += [f"{name}= in <{tag}>" for name, _ in attrs if name not in ATTRIBUTES]
         self.wrong += ["a head without a scope"] * (tag == "th" and "scope" not in dict(attrs))
         self.ids += [value for name, value in attrs if name == "id"]
         self.levels += [int(tag[1])] if tag in ("h1", "h2", "h3") else []
-        if tag not in EMPTY:
-            self.open.append(tag)
+        if tag not in UNCLOSED_TAGS:
+            self.open_tags.append(tag)
 
     def handle_startendtag(self, tag, attrs):
         self.handle_starttag(tag, attrs)
         self.handle_endtag(tag)
 
     def handle_endtag(self, tag):
-        if not self.open or self.open.pop() != tag:
+        if not self.open_tags or self.open_tags.pop() != tag:
             self.wrong.append(f"</{tag}>")
 
     def handle_data(self, data):
-        if self.open[-1:] != ["style"]:
+        if self.open_tags[-1:] != ["style"]:
             self.words.append(data)
 
 
@@ -53,38 +53,39 @@ def words_of(report):
     return " ".join(Reader(html_of(report)).words)
 
 
-def numbers_of(report, but=()):
-    """Yields the numbers of a report as the page spells them, without commas."""
-    if isinstance(report, dict):
-        for name, value in report.items():
-            yield from () if name in but else numbers_of(value, but)
-    elif isinstance(report, list):
-        for value in report:
-            yield from numbers_of(value, but)
-    elif isinstance(report, float):
-        yield f"{report:.1f}"
-    elif isinstance(report, int) and not isinstance(report, bool):
-        yield str(report)
+def numbers_of(piece, left_out=()):
+    """Yields the numbers of a piece of a report as the page spells them, without commas. The values
+    of the keys `left_out` are left out."""
+    if isinstance(piece, dict):
+        for name, value in piece.items():
+            yield from () if name in left_out else numbers_of(value, left_out)
+    elif isinstance(piece, list):
+        for value in piece:
+            yield from numbers_of(value, left_out)
+    elif isinstance(piece, float):
+        yield f"{piece:.1f}"
+    elif isinstance(piece, int) and not isinstance(piece, bool):
+        yield str(piece)
 
 
 def missing(report, words):
     """Returns the numbers of a report that are not among the words of its page."""
-    found = re.findall(r"-?[0-9][0-9,]*(?:\.[0-9]+)?", words)
-    shown = {it.replace(",", "") for it in found}
+    shown = {number.replace(",", "")
+             for number in re.findall(r"-?[0-9][0-9,]*(?:\.[0-9]+)?", words)}
     # The effects of one constant are its landscape.
     left_out = ["ranking"] + ["effects"] * (len(report["effects"]) == 1)
     left_out += [] if report["settings"]["sought"] else ["seek_fights"]
     # Of the ranking the page shows the sums.
-    wanted = [*numbers_of(report, left_out), *numbers_of(report["ranking"], ["opponents"])]
-    return [f"{it} is not on the page" for it in sorted(set(wanted) - shown)]
+    expected = {*numbers_of(report, left_out), *numbers_of(report["ranking"], ["opponents"])}
+    return [f"{number} is not on the page" for number in sorted(expected - shown)]
 
 
-def pictures(made):
+def pictures(page):
     """Reads the pictures of a page as XML. Returns how many there are, and what was wrong."""
-    found, wrong = re.findall(r"<svg .*?</svg>", made, re.DOTALL), []
-    for piece in found:
+    svgs, wrong = re.findall(r"<svg .*?</svg>", page, re.DOTALL), []
+    for svg in svgs:
         try:
-            tree = ElementTree.fromstring(piece)
+            tree = ElementTree.fromstring(svg)
         except ElementTree.ParseError as error:
             wrong.append(f"a picture is not XML: {error}")
             continue
@@ -96,28 +97,29 @@ def pictures(made):
         for name, value in (pair for part in tree.iter() for pair in part.items()):
             if name not in ("class", "id") and re.search(r"nan|inf|None|e-", value):
                 wrong.append(f"{name}={value} in a picture")
-    return len(found), wrong
+    return len(svgs), wrong
 
 
-def faults_of(made, reader):
+def faults_of(page, reader):
     """Returns what is wrong with a page that was read."""
     levels, ids = reader.levels, reader.ids
-    return [*reader.wrong, *pictures(made)[1],
-            *(f"h{b} after h{a}" for a, b in zip(levels, levels[1:]) if b > a + 1),
+    return [*reader.wrong, *pictures(page)[1],
+            *(f"h{level} after h{before}" for before, level in zip(levels, levels[1:])
+              if level > before + 1),
             *["not one h1 at the top"] * (levels.count(1) != 1 or levels[0] != 1),
             *["an id twice"] * (len(set(ids)) != len(ids)),
-            *["bytes that are not UTF-8"] * bool(re.search(r"[\ud800-\udfff]", made)),
-            *(it for it in ("url(", "@import") if it in made.lower())]
+            *["bytes that are not UTF-8"] * bool(re.search(r"[\ud800-\udfff]", page)),
+            *(word for word in ("url(", "@import") if word in page.lower())]
 
 
 def pages():
     """Makes the page of each report."""
     for name, report in REPORTS.items():
-        made, constants = html_of(report), len(report["effects"])
-        reader = Reader(made)
-        yield f"the page of {name}", faults_of(made, reader)
+        page, constants = html_of(report), len(report["effects"])
+        reader = Reader(page)
+        yield f"the page of {name}", faults_of(page, reader)
         yield compare(f"the pictures of {name}", 2 + (constants if constants > 1 else 0),
-                      pictures(made)[0])
+                      pictures(page)[0])
         # Of many totals the page has the picture alone.
         if name not in ("many settings", "many values"):
             yield f"the numbers of {name}", missing(report, " ".join(reader.words))
@@ -126,12 +128,12 @@ def pages():
 def alone():
     """Looks for what a page would fetch. The words of a report are text, and may name it."""
     for name in ("one constant", "two constants", "four constants"):
-        made = html_of(REPORTS[name]).lower()
+        page = html_of(REPORTS[name]).lower()
         yield f"{name}: nothing to fetch", [
-            it for it in ("http", "src=", "href", "<script", "<link") if it in made]
-    made = html_of(REPORTS["a hostile report"])
-    yield "nothing hostile is a tag", [it for it in ("<script", "<img", "\x1b", "\u202e", "\r")
-                                       if it in made]
+            word for word in ("http", "src=", "href", "<script", "<link") if word in page]
+    page = html_of(REPORTS["a hostile report"])
+    yield "nothing hostile is a tag", [word for word in ("<script", "<img", "\x1b", "\u202e", "\r")
+                                       if word in page]
     words = words_of(REPORTS["a hostile report"])
     yield "hostile names are shown", [
         name for name in HOSTILE[:2] + HOSTILE[3:5] if words.count(name) < 5]
@@ -140,45 +142,51 @@ def alone():
 def sentences():
     """Makes pages whose words depend on the report."""
     report = copy.deepcopy(REPORTS["two constants"])
-    own = report["winner"]["values"]
-    for gain, words, said in [
+    winner_values = report["winner"]["values"]
+    for gain, start, sentence in [
             ((12.34, 1.23, "a gain"), {}, "12.3 ± 1.2 percentage points more, a gain."),
             ((-0.45, 1.2, "a loss"), {}, "0.5 ± 1.2 percentage points less, a loss."),
-            ((0.0, 0.0, "no difference"), {"values": own}, "The winner is START itself."),
+            ((0.0, 0.0, "no difference"), {"values": winner_values},
+             "The winner is START itself."),
             ((0.0, 0.0, "no difference"), {"tuned": None}, "and has no tuned total."),
-            ((0.0, 0.0, "no difference"), {"values": own | {"STEP": 1}},
+            ((0.0, 0.0, "no difference"), {"values": winner_values | {"STEP": 1}},
              "START is not in this picture: STEP 1, FIRST 4013.")]:
         report["gain"] = dict(zip(("percent", "error", "words"), gain))
-        came = words_of(report | {"start": report["start"] | words})
-        yield f"the page says: {said}", [] if said in re.sub(" +", " ", came) else [came[:900]]
-    came = words_of(REPORTS["many values"])
+        words = re.sub(" +", " ", words_of(report | {"start": report["start"] | start}))
+        yield f"the page says: {sentence}", [] if sentence in words else [words[:900]]
+    words = words_of(REPORTS["many values"])
     yield "many values are drawn as fewer", [
-        it for it in ["Each point is the greatest total among 2 values", "(10,001 values)",
-                      "The totals are in  report.json"] if it not in came]
-    for sought, said in [(True, "may lie outside the box"), (False, "a greater tuned total than")]:
+        sentence for sentence in ["Each point is the greatest total among 2 values",
+                                  "(10,001 values)", "The totals are in  report.json"]
+        if sentence not in words]
+    for sought, sentence in [(True, "may lie outside the box"),
+                             (False, "a greater tuned total than")]:
         report["settings"]["sought"] = sought
-        yield f"the page says: {said}", [] if said in words_of(report) else ["it does not"]
+        yield f"the page says: {sentence}", [] if sentence in words_of(report) else ["it does not"]
 
 
-def fields():
+def landscapes():
     """Reads totals, and thins them."""
-    flat = {"axes": ["K"], "values": [[1, 2, 3]], "totals": [5, None, 7]}
-    kinds = [flat, flat | {"totals": [[5], [None], [7]]}, flat | {"totals": [[5, None, 7]]}]
+    plain_list = {"axes": ["K"], "values": [[1, 2, 3]], "totals": [5, None, 7]}
+    spellings = [plain_list, plain_list | {"totals": [[5], [None], [7]]},
+                 plain_list | {"totals": [[5, None, 7]]}]
     yield compare("totals of one constant", 3 * [[[5, None, 7]]],
-                  [study_map.field_of(it).totals for it in kinds])
-    field = study_map.Field(["A", "B"], [[1, 2, 3], [4, 5]], [[1, 2], [3, None], [None, None]])
-    step, thin = study_map.thinned(field, 2)
-    yield compare("thinned", (2, [[3], [None]], [[1, 3], [4]]), (step, thin.totals, thin.values))
+                  [study_map.read_landscape(spelling).totals for spelling in spellings])
+    landscape = study_map.Landscape(["A", "B"], [[1, 2, 3], [4, 5]],
+                                    [[1, 2], [3, None], [None, None]])
+    step, thin = study_map.thinned(landscape, 2)
+    yield compare("thinned", (2, [[3], [None]], [[1, 3], [4]]), (step, thin.totals, thin.ranges))
     yield compare("places", [(1, 1), None],
-                  [field.at({"A": 2, "B": 5}), field.at({"A": 9, "B": 5})])
-    yield compare("shades", [0, 3, 6], [study_map.shade_of(it, 10, 80) for it in (10, 45, 80)])
+                  [landscape.place({"A": 2, "B": 5}), landscape.place({"A": 9, "B": 5})])
+    yield compare("shades", [0, 3, 6],
+                  [study_map.shade_of(total, 10, 80) for total in (10, 45, 80)])
 
 
 def numbers():
     """Spells numbers and texts."""
-    yield compare("escaped", "&lt;&amp;&quot;&#x27;\ufffd\n", study_page.text("<&\"'\udcff\r\n"))
+    yield compare("escaped", "&lt;&amp;&quot;&#x27;\ufffd\n", study_page.escaped("<&\"'\udcff\r\n"))
     yield compare("counts", ["–", "0", "9999", "10,000", "-20"],
-                  list(map(study_page.count, [None, 0, 9999, 10000, -20])))
+                  list(map(study_page.integer, [None, 0, 9999, 10000, -20])))
     yield compare("decimals", ["–", "–", "0.0", "-1.5", "12,345.7"],
                   list(map(study_page.decimal, [None, float("nan"), 0, -1.5, 12345.67])))
     # Of 3, 3, 1 and 0 points the variance is 2.25, and the error of the mean 0.75.
@@ -191,5 +199,5 @@ def numbers():
 
 def trials():
     """Makes pages of reports. Yields names, and what was wrong."""
-    for trial in (pages, alone, sentences, fields, numbers):
+    for trial in (pages, alone, sentences, landscapes, numbers):
         yield from trial()

@@ -36,10 +36,10 @@ PLAIN = {
     "no-weights.txt": "cwtune-landscape stone.red weighted.cert picture.svg",
     "other-template.txt": "cwtune-landscape step.red weighted.cert picture.svg",
 }
-# What runs the program before it writes anything.
-RUNNING = ["cwtune-warrior step.red --setting 3", "cwtune-vary ../warriors/dwarf.red step=4:5",
-           "cwtune-seek --jobs=2 step.red schedule.csv ../warriors/dwarf.red",
-           "cwtune-study step.red ../warriors/dwarf.red"]
+# Command lines that run the program before they write anything.
+RUN_PROGRAM = ["cwtune-warrior step.red --setting 3", "cwtune-vary ../warriors/dwarf.red step=4:5",
+               "cwtune-seek --jobs=2 step.red schedule.csv ../warriors/dwarf.red",
+               "cwtune-study step.red ../warriors/dwarf.red"]
 NO_PROGRAM = "no cwtune here or on the PATH: give --program FILE\n"
 COMMANDS = sorted(path.name for path in AUTHOR.glob("cwtune-*"))
 PICTURES = {
@@ -57,25 +57,25 @@ def draw(python, words):
     """Returns the words and numbers of a picture, a line for each."""
     with tempfile.TemporaryDirectory() as folder:
         png, svg = pathlib.Path(folder, "picture.png"), pathlib.Path(folder, "picture.svg")
-        tool, template, cert, *rest = words.split()
+        name, template, cert, *options = words.split()
         for picture in (png, svg):
-            status, out, err = run(tool, template, cert, str(picture), *rest, python=python)
+            status, out, err = run(name, template, cert, str(picture), *options, python=python)
             if status:
                 return out + err
         if not png.read_bytes().startswith(b"\x89PNG"):
             return "not a PNG file\n"
-        texts = re.findall(r"<text[^>]*>([^<]*)</text>", svg.read_text("utf-8"))
-        grey = svg.read_text("utf-8").count("fill: #cccccc")
-        images = svg.read_text("utf-8").count("<image ")
-        return "\n".join([f"{grey} grey, {images} images", *texts]) + "\n"
+        text = svg.read_text("utf-8")
+        grey, images = text.count("fill: #cccccc"), text.count("<image ")
+        labels = re.findall(r"<text[^>]*>([^<]*)</text>", text)
+        return "\n".join([f"{grey} grey, {images} images", *labels]) + "\n"
 
 
 def with_matplotlib():
     """Returns a Python that has matplotlib, or ends and names the package."""
     for python in (sys.executable, "/usr/bin/python3"):
         if pathlib.Path(python).exists():
-            done = subprocess.run([python, "-c", "import matplotlib"], capture_output=True)
-            if done.returncode == 0:
+            completed = subprocess.run([python, "-c", "import matplotlib"], capture_output=True)
+            if completed.returncode == 0:
                 return python
     raise Fault("no matplotlib; on Debian: apt-get install python3-matplotlib", 3)
 
@@ -91,10 +91,10 @@ def helps():
 def closed():
     """Closes the standard output of each command. Yields names, and what was wrong."""
     for name in COMMANDS:
-        done = subprocess.run(command(name, "--help"), stderr=subprocess.PIPE, text=True,
-                              preexec_fn=lambda: os.close(1))
+        completed = subprocess.run(command(name, "--help"), stderr=subprocess.PIPE, text=True,
+                                   preexec_fn=lambda: os.close(1))
         yield compare(f"{name} without a standard output", (3, "failed: no standard output\n"),
-                      (done.returncode, done.stderr))
+                      (completed.returncode, completed.stderr))
 
 
 def without_program():
@@ -102,17 +102,20 @@ def without_program():
     wrong."""
     with tempfile.TemporaryDirectory() as folder:
         shutil.copytree(AUTHOR, f"{folder}/author", ignore=shutil.ignore_patterns("tests"))
-        for words in RUNNING:
-            done = subprocess.run([sys.executable, *f"{folder}/author/{words}".split()], cwd=TUNING,
-                                  env={"PATH": folder}, capture_output=True, text=True)
+
+        def run_released(words):
+            return subprocess.run([sys.executable, *f"{folder}/author/{words}".split()],
+                                  cwd=TUNING, env={"PATH": folder}, capture_output=True, text=True)
+
+        for words in RUN_PROGRAM:
+            completed = run_released(words)
             yield compare(f"{words} without a program", (2, f"error: {NO_PROGRAM}"),
-                          (done.returncode, done.stderr))
-        done = subprocess.run([sys.executable, f"{folder}/author/cwtune-scores", "step.cert",
-                               "schedule.csv", "--template=step.red"], cwd=TUNING,
-                              env={"PATH": folder}, capture_output=True, text=True)
+                          (completed.returncode, completed.stderr))
+        completed = run_released("cwtune-scores step.cert schedule.csv --template=step.red")
         yield compare("cwtune-scores without a program", (
             0, "    STEP: 0 of 1, 1 not known", f"note: {NO_PROGRAM}"),
-            (done.returncode, done.stdout.splitlines()[-1], done.stderr.splitlines(True)[0]))
+            (completed.returncode, completed.stdout.splitlines()[-1],
+             completed.stderr.splitlines(True)[0]))
 
 
 def interrupt(job):
@@ -137,21 +140,22 @@ def writer_of(pipe, job):
 
 def signals():
     """Closes the pipe of a command, and interrupts commands. Yields names, and what was wrong."""
-    words = command("cwtune-scores", "step.cert", "schedule.csv")
-    closed, pipe = os.pipe()
-    os.close(closed)
-    done = subprocess.run(words, cwd=TUNING, stdout=pipe, stderr=subprocess.PIPE)
+    reading_end, pipe = os.pipe()
+    os.close(reading_end)
+    completed = subprocess.run(command("cwtune-scores", "step.cert", "schedule.csv"), cwd=TUNING,
+                               stdout=pipe, stderr=subprocess.PIPE)
     os.close(pipe)
-    yield compare("a closed pipe", (-signal.SIGPIPE, b""), (done.returncode, done.stderr))
+    yield compare("a closed pipe", (-signal.SIGPIPE, b""),
+                  (completed.returncode, completed.stderr))
     with tempfile.TemporaryDirectory() as folder:
         os.mkfifo(f"{folder}/pipe")
-        for tool in ["cwtune-scores pipe schedule.csv", "cwtune-landscape pipe step.cert x.svg"]:
-            job = subprocess.Popen(command(*tool.split()), cwd=folder, stderr=subprocess.PIPE)
+        for words in ["cwtune-scores pipe schedule.csv", "cwtune-landscape pipe step.cert x.svg"]:
+            job = subprocess.Popen(command(*words.split()), cwd=folder, stderr=subprocess.PIPE)
             writer = writer_of(f"{folder}/pipe", job)
             interrupt(job)
-            err = job.communicate()[1]
+            _, err = job.communicate()
             os.close(writer)
-            yield compare(f"Ctrl-C in {tool}", (-signal.SIGINT, b""), (job.returncode, err))
+            yield compare(f"Ctrl-C in {words}", (-signal.SIGINT, b""), (job.returncode, err))
 
 
 def stored(results):
@@ -161,32 +165,41 @@ def stored(results):
         yield compare(name, path.read_text("utf-8") if path.exists() else None, result)
 
 
+def prepare(program):
+    """Lets the commands find the program, and be interrupted."""
+    # They look on the PATH, if none is built here.
+    os.environ["PATH"] = f"{pathlib.Path(program).parent}:{os.environ['PATH']}"
+    # What runs in the background may be started with Ctrl-C ignored or held back.
+    signal.signal(signal.SIGINT, signal.default_int_handler)
+    signal.pthread_sigmask(signal.SIG_SETMASK, [])
+
+
+def store(results):
+    """Writes the results to expected/."""
+    EXPECTED.mkdir(exist_ok=True)
+    for name, result in results.items():
+        (EXPECTED / name).write_text(result, "utf-8")
+
+
 def main():
     parser = module_parser("author.tests.run", __doc__)
     parser.add_argument("--plain", action="store_true", help="leave out the pictures")
     parser.add_argument("--store", action="store_true", help="replace the stored results")
     add_built(parser)
-    asked = parser.parse_args()
-    program = program_of(asked.program)
-    # The commands find it there, if none is built here.
-    os.environ["PATH"] = f"{pathlib.Path(program).parent}:{os.environ['PATH']}"
-    # What runs in the background may be started with Ctrl-C ignored or held back.
-    signal.signal(signal.SIGINT, signal.default_int_handler)
-    signal.pthread_sigmask(signal.SIG_SETMASK, [])
-    python = sys.executable
+    args = parser.parse_args()
+    program, draws, python = program_of(args.program), not args.plain, sys.executable
+    prepare(program)
     results = {name: printed(*words.split()) for name, words in PLAIN.items()}
-    if not asked.plain:
+    if draws:
         python = with_matplotlib()
         results |= {name: draw(python, words) for name, words in PICTURES.items()}
-    if asked.store:
-        EXPECTED.mkdir(exist_ok=True)
-        for name, result in results.items():
-            (EXPECTED / name).write_text(result, "utf-8")
+    if args.store:
+        store(results)
     return tally([*stored(results), *helps(), *closed(), *without_program(),
-                  *refusals.trials(python, draws=not asked.plain), *signals(),
-                  *warriors.trials(program), *varying.trials(program), *origins.trials(program),
-                  *studying.trials(program), *spreading.trials(program),
-                  *merging.trials(program), *sharing.trials(program), *reporting.trials()])
+                  *refusals.trials(python, draws), *signals(), *warriors.trials(program),
+                  *varying.trials(program), *origins.trials(program), *studying.trials(program),
+                  *spreading.trials(program), *merging.trials(program), *sharing.trials(program),
+                  *reporting.trials()])
 
 
 if __name__ == "__main__":

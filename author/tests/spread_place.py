@@ -1,13 +1,15 @@
-"""A folder in which `cwtune-spread` is played, with templates, a schedule and opponents."""
-import os, signal, subprocess, time
+"""Makes the folder in which `cwtune-spread` is played: a template, a schedule and opponents."""
+import os, re, signal, subprocess, time
 
 from gate import inputs, play
 from gate.inputs import RULES
 
-from .commands import EXAMPLES, command, run
+from .commands import EXAMPLES, Result, command, run
 
-BENCHMARK = ["dwarf.red", "scanner.red", "core-clear.red"]
-DECOY = ["decoy.red", "schedule.csv", "CERT", *BENCHMARK]
+OPPONENTS = ["dwarf.red", "scanner.red", "core-clear.red"]
+# The words of tunings: of the decoy of examples/tuning/, of a template that a trial writes, and of
+# the one of `write_ranked`.
+DECOY = ["decoy.red", "schedule.csv", "CERT", *OPPONENTS]
 SMALL = [*RULES, "x.red", "both.csv", "CERT", "dat.red", "imp.red"]
 RANKED = [*RULES, "steps.red", "both.csv", "CERT", "dat.red", "imp.red"]
 SCHEDULE = b"opponent,position,first\n0,3670,c\n1,2085,o\n2,4621,c\n"
@@ -21,8 +23,13 @@ class SpreadPlace(play.Place):
         super().__init__(program, folder, files)
         self.write("decoy.red", (EXAMPLES / "tuning/decoy.red").read_bytes())
         self.write("schedule.csv", SCHEDULE)
-        for name in BENCHMARK:
+        for name in OPPONENTS:
             self.write(name, (EXAMPLES / "warriors" / name).read_bytes())
+
+    def write_program(self, name, script):
+        """Writes a stand-in for `cwtune`, of the commands of a bash script."""
+        self.write(name, f"#!/bin/bash\n{script}")
+        (self.folder / name).chmod(0o755)
 
     def words(self, words):
         return command("cwtune-spread", "--program", self.program, *words)
@@ -35,29 +42,27 @@ class SpreadPlace(play.Place):
             subprocess.run(["sh", str(EXAMPLES / "slurm.sh"), *words], cwd=self.folder, env=env)
 
     def spread(self, *words):
-        """Returns status, standard output and standard error, the usage lines left out."""
+        """Returns the result of `cwtune-spread`."""
         return run("cwtune-spread", "--program", self.program, *words, folder=self.folder)
 
     def tune(self, *words):
-        """Returns status, standard output and standard error of a tuning, which leaves CERT."""
-        came = self.run(["tune", *words], keep=True)
-        return came.status, came.out.decode(), came.err.decode()
+        """Returns the result of `cwtune tune`, which leaves CERT."""
+        end = self.run(["tune", *words], keep=True)
+        return Result(end.status, end.out.decode(), end.err.decode())
 
     def check(self, words):
         """Returns the status of a check of CERT."""
         return self.run(["check", *words]).status
 
-    def found(self, words, end):
-        """Returns how a tuning ended: status, standard error, and of the report all but the fights,
-        which depend on which part ends when; and whether CERT is accepted."""
-        status, out, err = end
-        report = [line for line in out.splitlines() if not line.startswith("fights ")]
-        return status, err, report, self.check(words)
+    def found(self, words, result):
+        """Returns what a tuning found: its result without the fights, which depend on which part
+        ends when, and the status of a check of CERT."""
+        return without_fights(result), self.check(words)
 
     def verdict(self, words):
         """Returns the status of a check of CERT, and its line."""
-        came = self.run(["check", *words])
-        return came.status, came.out.decode()
+        end = self.run(["check", *words])
+        return end.status, end.out.decode()
 
     def done(self, kind="parts"):
         """Returns how many parts are done, or how many shares."""
@@ -68,27 +73,27 @@ class SpreadPlace(play.Place):
         while self.done(kind) < pieces and job.poll() is None:
             time.sleep(0.002)
 
-    def kill_at(self, pieces, number, seconds, *words, kind="parts"):
+    def kill_at(self, pieces, signal_number, seconds, *words, kind="parts"):
         """Ends `cwtune-spread` by a signal, `seconds` after `pieces` parts or shares are done.
 
-        Returns what it said.
+        Returns its standard error.
         """
         job = subprocess.Popen(self.words(words), cwd=self.folder, stdout=subprocess.DEVNULL,
                                stderr=subprocess.PIPE)
         self.wait_for(pieces, job, kind)
         time.sleep(seconds)
-        job.send_signal(number)
+        job.send_signal(signal_number)
         return job.communicate()[1].decode()
 
     def unfinished(self):
         """Leaves CERT.parts as a kill leaves it, with some of 12 parts done and no CERT."""
         for _ in range(10):
             self.clear()
-            said = self.kill_at(2, signal.SIGKILL, 0, "--jobs=1", "--parts=12", *DECOY)
+            err = self.kill_at(2, signal.SIGKILL, 0, "--jobs=1", "--parts=12", *DECOY)
             if self.done():
                 break
         else:
-            raise ValueError(f"no kill left a part: {said}")
+            raise ValueError(f"no kill left a part: {err}")
         (self.folder / "CERT").unlink(missing_ok=True)
 
     def clear(self):
@@ -98,14 +103,25 @@ class SpreadPlace(play.Place):
             (self.folder / "CERT.parts").rmdir()
 
 
+def without_fights(result):
+    """Returns the result of a tuning in parts, with the lines of its report but `fights`: how many
+    fights are played depends on which part ends when."""
+    lines = [line for line in result.out.splitlines() if not line.startswith("fights ")]
+    return result.status, lines, result.err
+
+
+def is_how_to_go_on(err, kind, count):
+    """Returns whether standard error says after a kill what is done of `count` parts or shares."""
+    return re.fullmatch(rf"stopped: \d+ of {count} {kind} are done, and kept in CERT.{kind}: "
+                        r"repeat the command to run the others\n", err) is not None
+
+
 def write_ranked(place):
     """Writes a template of 12 settings: three total 4, START among them, two do not assemble, and
-    the others total 3. Also writes a stand-in for `cwtune` that notes what it is asked for, and the
-    range line of a part's template."""
+    the others total 3. Also writes a stand-in for `cwtune` that notes its words, and the range line
+    of a part's template."""
     place.write("steps.red", ";@tune K 0 11 1 5\nJMP K % 5\nDAT 8/(K-3), 7/(K-9)\n")
-    place.write("noting", f"""#!/bin/sh
-echo "$*" >> {place.folder}/words
+    place.write_program("noting", f"""echo "$*" >> {place.folder}/words
 for word; do case $word in [0-9]*.red) grep '^;@tune' $word >> {place.folder}/ranges;; esac; done
 exec {place.program} "$@"
 """)
-    (place.folder / "noting").chmod(0o755)

@@ -8,27 +8,40 @@ from gate.inputs import RULES
 from gate.play import shown
 from gate.tally import compare
 
-from .commands import SECONDS, played, run
-from .spread_place import BENCHMARK, DECOY, RANKED, SCHEDULE, SMALL, SpreadPlace, write_ranked
+from .commands import SECONDS, played, refused, run, usage_error
+from .spread_place import (DECOY, OPPONENTS, RANKED, SCHEDULE, SMALL, SpreadPlace, is_how_to_go_on,
+                           without_fights, write_ranked)
+
+WRONG_OPTIONS = [
+    *(usage_error(f"cwtune-spread {name}={number}", f"argument {name}: {number} is not 1 or more")
+      for name, number in [("--jobs", 0), ("--jobs", -1), ("--parts", 0), ("--parts", -3)]),
+    usage_error("cwtune-spread --all --cache=5",
+                "argument --cache: not allowed with argument --all"),
+    usage_error("cwtune-spread --merge=2 --parts=2",
+                "argument --merge: not allowed with argument --parts"),
+    usage_error("cwtune-spread --merge=2 --hosts=x",
+                "argument --merge: not allowed with argument --hosts"),
+    usage_error("cwtune-spread --shares=2", "argument --shares: needs --check or --check-only"),
+    usage_error("cwtune-spread --work=x", "argument --work: needs --check or --check-only"),
+]
 
 
 def after_kills(place):
     """Kills a tuning at ten moments, and compares what it makes with an unbroken one."""
     unbroken = place.found(DECOY, place.spread("--jobs=3", "--parts=12", *DECOY))
-    yield compare("an unbroken tuning is accepted", (0, 0), (unbroken[0], unbroken[-1]))
+    result, check_status = unbroken
+    yield compare("an unbroken tuning is accepted", (0, 0), (result[0], check_status))
     place.clear()
-    moments = random.Random(45)
-    for k in range(10):
-        number = moments.choice([signal.SIGKILL, signal.SIGINT, signal.SIGTERM])
-        jobs = f"--jobs={moments.randint(1, 4)}"
-        said = place.kill_at(k, number, moments.uniform(0, 0.05), jobs, "--parts=12", *DECOY)
-        if number != signal.SIGKILL and "CERT.parts" in said:
-            yield compare("a stop says how to go on", True, bool(re.fullmatch(
-                r"stopped: \d+ of 12 parts are done, and kept in CERT.parts: repeat the command to "
-                r"run the others\n", said)))
+    dice = random.Random(45)
+    for parts in range(10):
+        signal_number = dice.choice([signal.SIGKILL, signal.SIGINT, signal.SIGTERM])
+        jobs = f"--jobs={dice.randint(1, 4)}"
+        err = place.kill_at(parts, signal_number, dice.uniform(0, 0.05), jobs, "--parts=12", *DECOY)
+        if signal_number != signal.SIGKILL and "CERT.parts" in err:
+            yield compare("a stop says how to go on", True, is_how_to_go_on(err, "parts", 12))
         # An empty file is left if it comes while `tune` looks at the inputs.
-        whole = not place.read("CERT") or place.check(DECOY) == 0
-        yield compare("a kill leaves no half certificate", True, whole)
+        is_whole = not place.read("CERT") or place.check(DECOY) == 0
+        yield compare("a kill leaves no half certificate", True, is_whole)
     yield compare("ten kills change nothing", unbroken,
                   place.found(DECOY, place.spread("--jobs=2", "--parts=12", *DECOY)))
     yield compare("the parts are gone at the end", False, (place.folder / "CERT.parts").exists())
@@ -36,7 +49,7 @@ def after_kills(place):
 
 def other_inputs(place):
     """Gives a folder of parts other inputs than those that it was made of."""
-    turned = [*DECOY[:3], *reversed(BENCHMARK)]
+    reversed_opponents = [*DECOY[:3], *reversed(OPPONENTS)]
     place.unfinished()
     place.write("other.red", place.read("decoy.red").replace(b"PLACE 2000", b"PLACE 2500"))
     place.write("other.csv", SCHEDULE.replace(b"4621", b"4622"))
@@ -45,32 +58,33 @@ def other_inputs(place):
     for other, words in [
         ("template", ["other.red", *DECOY[1:]]),
         ("schedule", ["decoy.red", "other.csv", *DECOY[2:]]),
-        ("opponents", turned),
+        ("opponents", reversed_opponents),
         ("rules", ["--cycles=79999", *DECOY]),
         ("cache", ["--cache=1", *DECOY]),
         ("keep", ["--keep=2", *DECOY]),
         ("program", ["--program=./program", *DECOY]),
     ]:
-        said = (f"error: the parts in CERT.parts are of other inputs ({other}): give --anew to "
+        line = (f"error: the parts in CERT.parts are of other inputs ({other}): give --anew to "
                 "throw the parts away and begin again, or another CERT\n")
         before = place.done()
-        yield compare(f"parts of another {other} are refused", (2, "", said, before, None),
+        yield compare(f"parts of another {other} are refused", (2, "", line, before, None),
                       (*place.spread(*words), place.done(), place.read("CERT")))
-    yield compare("so is another number of parts", 2, place.spread("--parts=7", *DECOY)[0])
-    anew = place.spread("--anew", *turned)
+    yield compare("so is another number of parts", 2, place.spread("--parts=7", *DECOY).status)
+    status = place.spread("--anew", *reversed_opponents).status
     yield compare("--anew begins again", (0, False, 0),
-                  (anew[0], (place.folder / "CERT.parts").exists(), place.check(turned)))
+                  (status, (place.folder / "CERT.parts").exists(),
+                   place.check(reversed_opponents)))
 
 
 def damaged_parts(place):
     """Damages what parts have left."""
     place.clear()
-    whole = place.found(DECOY, place.spread("--jobs=1", "--parts=12", *DECOY))
+    unbroken = place.found(DECOY, place.spread("--jobs=1", "--parts=12", *DECOY))
     for name, kind in [("a certificate", "cert"), ("a result", "done")]:
         place.unfinished()
         path = min(place.folder.glob(f"CERT.parts/*.{kind}"))
         path.write_bytes(path.read_bytes()[:-9])
-        yield compare(f"{name} that was cut is made again", whole,
+        yield compare(f"{name} that was cut is made again", unbroken,
                       place.found(DECOY, place.spread("--jobs=4", *DECOY)))
     place.unfinished()
     (place.folder / "CERT.parts/t.red").write_bytes(b"MOV 0, 1\n")
@@ -85,29 +99,33 @@ def folders(place):
     place.unfinished()
     place.write("CERT.parts/notes.txt", b"mine\n")
     yield compare("a folder is kept for a file of somebody else", (0, b"mine\n"),
-                  (place.spread("--jobs=3", *DECOY)[0], place.read("CERT.parts/notes.txt")))
+                  (place.spread("--jobs=3", *DECOY).status, place.read("CERT.parts/notes.txt")))
     place.clear()
     (place.folder / "CERT.parts").mkdir()
     place.write("CERT.parts/precious.txt", b"mine\n")
-    said = "error: CERT.parts is not a folder of this cwtune-spread, and is not touched\n"
-    for words in [[], ["--anew"]]:
-        yield compare(f"a folder that it did not make {words}", (2, "", said, b"mine\n", 1),
-                      (*place.spread(*words, *DECOY), place.read("CERT.parts/precious.txt"),
+    line = "error: CERT.parts is not a folder of this cwtune-spread, and is not touched\n"
+    for options in [[], ["--anew"]]:
+        yield compare(f"a folder that it did not make {options}", (2, "", line, b"mine\n", 1),
+                      (*place.spread(*options, *DECOY), place.read("CERT.parts/precious.txt"),
                        len(list(place.folder.glob("CERT.parts/*")))))
     place.clear()
     place.write("CERT.parts", b"mine\n")
     yield compare("a file in its place", (3, b"mine\n"),
-                  (place.spread(*DECOY)[0], place.read("CERT.parts")))
+                  (place.spread(*DECOY).status, place.read("CERT.parts")))
     (place.folder / "CERT.parts").unlink()
+
+
+def two_at_once(place):
+    """Runs one `cwtune-spread` while another one has the folder."""
     job = subprocess.Popen(place.words(["--jobs=1", "--parts=12", *DECOY]), cwd=place.folder,
                            stdout=subprocess.DEVNULL)
     place.wait_for(1, job)
     job.send_signal(signal.SIGSTOP)
-    said = "error: another cwtune-spread is at work in CERT.parts\n"
-    yield compare("two at once", (2, "", said), place.spread(*DECOY))
+    yield compare("the second one is refused",
+                  (2, "", "error: another cwtune-spread is at work in CERT.parts\n"),
+                  place.spread(*DECOY))
     job.send_signal(signal.SIGCONT)
     yield compare("the first one ends as it does alone", 0, job.wait(SECONDS))
-    place.clear()
 
 
 def templates(place):
@@ -118,18 +136,20 @@ def templates(place):
         ("a CR in a comment", b"; old\r;@tune K 0 5 1 2\nMOV 0, 1\n"),
         *((f"byte {byte:x} after ;@tune", b";@tune%cK 0 5 1 2\nMOV 0, 1\n" % byte)
           for byte in (0x0B, 0x0C, 0x1C, 0x85, 0xA0)),
-        ("three ranges of 10000 values", b"".join(b";@tune %c 0 9999 1 0\n" % c for c in b"ABC")),
+        ("three ranges of 10000 values",
+         b"".join(b";@tune %c 0 9999 1 0\n" % name for name in b"ABC")),
         ("a bad range", b"NOP\n;@tune K 3 2 1 3\n"),
         ("no candidate", b";@tune K 0 5 1 2\nDAT 1/0\n"),
     ]:
         place.write("x.red", text)
-        status, out, err = place.tune(*SMALL)
+        expected = place.tune(*SMALL)
         place.clear()
-        came = place.spread("--jobs=2", *SMALL)
-        check = place.check(SMALL) if place.read("CERT") else None
-        left = (place.folder / "CERT.parts").exists()
-        yield compare(name, (status, out.splitlines()[:5], err, False, None if status else 0),
-                      (came[0], came[1].splitlines()[:5], came[2], left, check))
+        result = place.spread("--jobs=2", *SMALL)
+        yield compare(name, without_fights(expected), without_fights(result))
+        is_left = (place.folder / "CERT.parts").exists()
+        check_status = place.check(SMALL) if place.read("CERT") else None
+        yield compare(f"{name}: the certificate is accepted, if there is one",
+                      (None if expected.status else 0, False), (check_status, is_left))
         place.clear()
 
 
@@ -152,25 +172,13 @@ def faults(place):
         "--tasks=8001 none.red both.csv CERT dat.red",
     ]:
         rules = [rule for rule in RULES if rule[:7] != words[:7]]
-        tuned = place.tune(*rules, *words.split())
+        expected = place.tune(*rules, *words.split())
         place.clear()
-        came = place.spread(*rules, *words.split())
+        result = place.spread(*rules, *words.split())
         left = sorted(path.name for path in place.folder.glob("*CERT*"))
-        yield compare(f"tune {words}", (*tuned, []), (*came, left))
+        yield compare(f"tune {words}", (*expected, []), (*result, left))
         place.clear()
-    for words in ["--jobs=0", "--jobs=-1", "--parts=0", "--parts=-3"]:
-        name, number = words.split("=")
-        said = f"cwtune-spread: error: argument {name}: {number} is not 1 or more\n"
-        yield compare(words, (2, "", said), place.spread(words, *SMALL))
-    for words, said in [
-        ("--all --cache=5", "argument --cache: not allowed with argument --all"),
-        ("--merge=2 --parts=2", "argument --merge: not allowed with argument --parts"),
-        ("--merge=2 --hosts=x", "argument --merge: not allowed with argument --hosts"),
-        ("--shares=2", "argument --shares: needs --check or --check-only"),
-        ("--work=x", "argument --work: needs --check or --check-only"),
-    ]:
-        yield compare(words, (2, "", f"cwtune-spread: error: {said}\n"),
-                      place.spread(*words.split(), *SMALL))
+    yield from refused(WRONG_OPTIONS, lambda words: place.spread(*words[1:], *SMALL))
 
 
 def methods(place):
@@ -184,53 +192,53 @@ def methods(place):
     yield compare("--progress begins with a line", "0 of 32 parts, 0 of 126 settings, 0 fights\n",
                   err)
     place.clear()
-    path, name = os.path.split(place.program)
-    with mock.patch.dict(os.environ, {"PATH": f"{path}:{os.environ['PATH']}"}):
-        came = run("cwtune-spread", "--program", name, "--all", *DECOY, folder=place.folder)
-    yield compare("a program on the PATH", (0, cert), (came[0], place.read("CERT")))
+    folder, name = os.path.split(place.program)
+    with mock.patch.dict(os.environ, {"PATH": f"{folder}:{os.environ['PATH']}"}):
+        result = run("cwtune-spread", "--program", name, "--all", *DECOY, folder=place.folder)
+    yield compare("a program on the PATH", (0, cert), (result.status, place.read("CERT")))
     place.clear()
-    yield compare("--explain tells of START", 1, place.spread("--explain", *DECOY)[2].count(
+    yield compare("--explain tells of START", 1, place.spread("--explain", *DECOY).err.count(
         "  START, setting 94, total "))
     place.clear()
     place.write("x.red", ";@tune K 0 5 1 2\nDAT 1/0\n")
-    tuned = place.tune("--explain", *SMALL)
-    yield compare("--explain says why there is no candidate", (1, True, tuned[2]),
-                  ((came := place.spread("--explain", *SMALL))[0], "line 2" in came[2], came[2]))
+    expected = place.tune("--explain", *SMALL).err
+    status, _, err = place.spread("--explain", *SMALL)
+    yield compare("--explain says why there is no candidate", (1, True, expected),
+                  (status, "line 2" in err, err))
     place.clear()
 
 
 def liars(place):
     """Runs stand-ins for `cwtune` that cut a report or a row, or change a total."""
     place.write("x.red", inputs.FILES["imps.red"])
-    came = place.spread("--check", *SMALL)
+    status, out, err = place.spread("--check", *SMALL)
     yield compare("--check", (0, "accepted best 0 total 4", ""),
-                  (came[0], came[1].splitlines()[-1], came[2]))
+                  (status, out.splitlines()[-1], err))
     place.clear()
-    short = f"""{place.program} "$@"; status=$?
+    row_too_few = f"""{place.program} "$@"; status=$?
 for word in "$@"; do case $word in [0-9]*.cert) sed -i '$d' $word;; esac; done; exit $status
 """
-    total = f"""set -o pipefail; {place.program} "$@" | sed 's/^total 4/total 5/'\n"""
-    cut = f"""set -o pipefail
+    other_total = f"""set -o pipefail; {place.program} "$@" | sed 's/^total 4/total 5/'\n"""
+    cut_report = f"""set -o pipefail
 case $1 in tune) {place.program} "$@" | head -c -5;; *) {place.program} "$@";; esac\n"""
-    for name, text, words, end in [
-        ("reports that are cut", cut, ["--parts=2"], (
+    for name, text, words, expected in [
+        ("reports that are cut", cut_report, ["--parts=2"], (
             3, "", "failed: no result for parts 1, 2 of 2 (failed: its report is cut, or not a "
             "report)\n0 of 2 parts are done, and kept in CERT.parts: repeat the command to run the "
             "others\n")),
-        ("a row too few", short, ["--parts=1"],
+        ("a row too few", row_too_few, ["--parts=1"],
          (3, "", "failed: the certificate of part 1 has 3 rows, and the part has 4 settings\n")),
-        ("another total", total, ["--check", "--parts=1"], (1, "rejected row 1 BestRow\n",
+        ("another total", other_total, ["--check", "--parts=1"], (1, "rejected row 1 BestRow\n",
          "CERT is not written, and the parts stay\n")),
     ]:
-        place.write("liar", b"#!/bin/bash\n" + text.encode())
-        (place.folder / "liar").chmod(0o755)
-        came = place.spread("--program=./liar", *words, *SMALL)
-        yield compare(name, (*end, None), (*came, place.read("CERT")))
+        place.write_program("liar", text)
+        yield compare(name, (*expected, None), (
+            *place.spread("--program=./liar", *words, *SMALL), place.read("CERT")))
         place.clear()
-    place.write("liar", b"#!/bin/bash\n" + total.encode())
-    said = ("error: the part from setting 0 on is below the floor 5, but the greatest total found "
+    place.write_program("liar", other_total)
+    line = ("error: the part from setting 0 on is below the floor 5, but the greatest total found "
             "is 0: a greater one may be there\n")
-    yield compare("another total of START", (2, "", said, None), (
+    yield compare("another total of START", (2, "", line, None), (
         *place.spread("--program=./liar", *SMALL), place.read("CERT")))
     place.clear()
 
@@ -238,14 +246,13 @@ case $1 in tune) {place.program} "$@" | head -c -5;; *) {place.program} "$@";; e
 def floors(place):
     """Looks at the floors that parts get."""
     write_ranked(place)
-    tuned = place.tune(*RANKED)
+    tuned = place.found(RANKED, place.tune(*RANKED))
     place.clear()
-    came = place.found(RANKED, place.spread("--program=./noting", "--jobs=1", "--parts=4",
-                                            *RANKED))
-    yield compare("parts below their floors", place.found(RANKED, tuned), came)
-    asked = [line.split() for line in place.read("words").decode().splitlines()]
+    yield compare("parts below their floors", tuned, place.found(RANKED, place.spread(
+        "--program=./noting", "--jobs=1", "--parts=4", *RANKED)))
+    runs = [line.split() for line in place.read("words").decode().splitlines()]
     parts = [[word for word in words if word.startswith(("--part", "--floor"))]
-             for words in asked if words[0] == "tune"]
+             for words in runs if words[0] == "tune"]
     yield compare("START's part is first, and floors are the best total, or one more", [
         [], ["--part=2/4", "--floor=4"], ["--part=1/4", "--floor=4"], ["--part=3/4", "--floor=5"],
         ["--part=4/4", "--floor=5"]], parts[1:])
@@ -261,14 +268,14 @@ def rankings(place):
     for keep in [2, 3, 20]:
         option = f"--keep={keep}"
         tuned = place.tune(option, *RANKED)
-        ranks = [line for line in tuned[1].splitlines() if line.startswith("rank ")]
+        ranks = [line for line in tuned.out.splitlines() if line.startswith("rank ")]
         place.clear()
-        came = place.spread(option, "--jobs=2", "--parts=5", "--check", *RANKED)
+        _, out, err = place.spread(option, "--jobs=2", "--parts=5", "--check", *RANKED)
+        *report, check_line = out.splitlines()
         verdict = place.verdict([option, *RANKED])
-        found, checked = came[1].splitlines()[:-1], came[1].splitlines()[-1]
-        yield compare(f"--keep {keep}", (tuned[1].splitlines()[:5], ranks, ""),
-                      (found[:5], found[6:], came[2]))
-        yield compare(f"--keep {keep} --check", (0, [checked, *ranks]),
+        yield compare(f"--keep {keep}", (tuned.out.splitlines()[:5], ranks, ""),
+                      (report[:5], report[6:], err))
+        yield compare(f"--keep {keep} --check", (0, [check_line, *ranks]),
                       (verdict[0], verdict[1].splitlines()))
         yield compare(f"--check-only --keep {keep}", (*verdict, ""),
                       place.spread("--check-only", option, *RANKED))
@@ -300,45 +307,45 @@ def explained(place):
     place.write("x.red", inputs.FILES["imps.red"])
     place.write("near.csv", b"opponent,position,first\n0,3,c\n")
     words = [*RULES, "x.red", "near.csv", "CERT", "dat.red"]
-    tuned = place.run(["tune", *words], terminal=True, keep=True).err.decode()
-    yield compare("the line at fault is shown", True, "near.csv, line 2: 0,3,c" in tuned)
+    explanation = place.run(["tune", *words], terminal=True, keep=True).err.decode()
+    yield compare("the line at fault is shown", True, "near.csv, line 2: 0,3,c" in explanation)
     place.clear()
-    yield compare("the explanation is that of tune", tuned, screen_of(place, words))
+    yield compare("the explanation is that of tune", explanation, screen_of(place, words))
 
 
 def notes(place):
-    """Looks at what is said of what is ignored in a template."""
+    """Looks at the notes of what is ignored in a template."""
     place.write("x.red", ";@tune K 0 3 1 2\n ;@tune X 1 2 1 1\nMOV 0, 1\n")
-    tuned = place.tune("--explain", *SMALL)[2]
-    for words in [[], ["--check"], ["--check-only"]]:
-        err = place.spread("--explain", *words, *SMALL)[2]
-        notes = [line for line in err.splitlines(True) if not line.startswith("  START, ")]
-        yield compare(f"the notes of the template with {words}", tuned, "".join(notes))
-    yield compare("elsewhere there are none", "", place.spread(*SMALL)[2])
+    expected = place.tune("--explain", *SMALL).err
+    for options in [[], ["--check"], ["--check-only"]]:
+        err = place.spread("--explain", *options, *SMALL).err
+        lines = [line for line in err.splitlines(True) if not line.startswith("  START, ")]
+        yield compare(f"the notes of the template with {options}", expected, "".join(lines))
+    yield compare("elsewhere there are none", "", place.spread(*SMALL).err)
     place.write("x.red", place.read("x.red").replace(b"MOV 0, 1", b"DAT 1/0"))
-    yield compare("the notes and the fault", place.tune("--explain", *SMALL)[2],
-                  place.spread("--explain", *SMALL)[2])
+    yield compare("the notes and the fault", place.tune("--explain", *SMALL).err,
+                  place.spread("--explain", *SMALL).err)
 
 
 def total_of_start(place):
     """Returns the total of START by the certificate of the decoy."""
-    found = tuning_files.Certificate(place.folder / "CERT")
+    cert = tuning_files.Certificate(place.folder / "CERT")
     fights = tuning_files.read_schedule(place.folder / "schedule.csv")
-    return found.total_of(94, fights)
+    return cert.total_of(94, fights)
 
 
 def progress(place):
     """Looks at the line on a terminal."""
     lines = screen_of(place, ["--jobs=1", "--parts=12", *DECOY]).split("\r")
-    shown = re.compile(r"6 of 12 parts, 63 of 126 settings, \d+ fights, \d+:\d\d left, best \d+ "
-                       r"total \d+ DECOY.*\x1b\[K")
-    yield compare("a line of progress", True, any(shown.fullmatch(line) for line in lines))
-    told = (f"\x1b[K  START, setting 94, total {total_of_start(place)} DECOY=1 PLACE=4000 "
-            "STEP=3045\n")
-    yield compare("the line is cleared, and START is told", told, lines[-1])
+    half = re.compile(r"6 of 12 parts, 63 of 126 settings, \d+ fights, \d+:\d\d left, best \d+ "
+                      r"total \d+ DECOY.*\x1b\[K")
+    yield compare("a line of progress", True, any(half.fullmatch(line) for line in lines))
+    last_line = (f"\x1b[K  START, setting 94, total {total_of_start(place)} DECOY=1 PLACE=4000 "
+                 "STEP=3045\n")
+    yield compare("the line is cleared, and START is told", last_line, lines[-1])
 
 
 def trials(program):
     return played("cwtune-spread", lambda folder: SpreadPlace(program, folder), [
-        after_kills, other_inputs, damaged_parts, folders, templates, faults, methods, liars,
-        floors, rankings, explained, notes, progress])
+        after_kills, other_inputs, damaged_parts, folders, two_at_once, templates, faults, methods,
+        liars, floors, rankings, explained, notes, progress])

@@ -1,4 +1,4 @@
-"""A folder in which `cwtune-study` is played, with a template, a warrior and opponents."""
+"""Makes the folder in which `cwtune-study` is played: a template, a warrior and opponents."""
 import json, subprocess
 
 from gate import play
@@ -35,13 +35,14 @@ class StudyPlace(play.Place):
         return ["--program", self.program, *FEW, *words]
 
     def study(self, *words):
-        """Returns status, standard output and standard error, the usage lines left out."""
+        """Returns the result of `cwtune-study`."""
         return run("cwtune-study", *self.words(*words), folder=self.folder)
 
     def report(self, name):
         return json.loads(self.read(f"{name}.study/report.json"))
 
-    def asm(self, *words):
+    def load_file(self, *words):
+        """Returns the load file of a text."""
         return self.run(["asm", "--core=80", "--length=5", "--distance=5", *words]).out
 
     def begin(self, *words):

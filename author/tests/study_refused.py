@@ -3,47 +3,50 @@ import fcntl, os, time
 
 from gate.tally import compare
 
+from .commands import Refusal, refused, usage_error
 from .study_place import TEMPLATE, texts
 
-OTHER = ("error: t.study is of other inputs ({}): give --anew to throw it away and begin again, or "
-         "another --out\n")
 FOREIGN = "error: mine is not a folder of this cwtune-study, and is not touched\n"
-USAGE = "cwtune-study: error: "
-# Words, and the status and the line with which they end.
-REFUSALS = [
-    ("t.red", 2, f"{USAGE}OPPONENT is missing: files, or a folder with files *.red"),
-    ("STEP=1:2 K=1:2", 2, f"{USAGE}WARRIOR is missing: a template, or a warrior with words "
-     "NAME=LOW:HIGH:STEP"),
-    ("t.red empty", 2, "error: empty: no file *.red in this folder"),
-    ("t.red none.red", 3, "failed: none.red: No such file or directory"),
-    ("none.red all", 3, "failed: none.red: No such file or directory"),
-    ("t.red long.red", 1, "refused: long.red does not assemble: Asm line 0 Warrior TooLong"),
-    ("bad.red all", 1, "refused: START of bad.red does not assemble: Asm line 3 Value "
-     "DivisionByZero"),
-    ("range.red all", 1, "refused: range.red: line 1 is not a range line: ;@tune NAME LOW HIGH "
-     "STEP START, with START one of the values"),
-    ("w.red all", 1, "refused: w.red: no range line: give words NAME=LOW:HIGH:STEP too "
-     "(`cwtune-vary w.red` lists the names)"),
-    ("t.red all STEP=1:9:2", 1, "refused: t.red: it has range lines, so it is a template "
-     "already"),
-    ("w.red all STEP=1:9:3", 1, "refused: w.red, line 3: STEP is 5, which is none of its "
-     "values; the nearest are 4 and 7"),
-    ("w.red all STEP=1", 2, f"{USAGE}STEP=1 is not of the form NAME=LOW:HIGH:STEP, as "
-     "STEP=5:4000:10, without blanks"),
-    ("w.red all STEP=1:9 STEP=1:9", 2, f"{USAGE}STEP has two ranges"),
-    ("t.red " + "all " * 22, 2, f"{USAGE}66 opponents; at most 64"),
-    ("--rounds=4000 t.red all", 2, f"{USAGE}--rounds 4000 against 3 opponents: more than 10000 "
-     "fights"),
-    ("--fresh=4000 t.red all", 2, f"{USAGE}--fresh 4000 against 3 opponents: more than 10000 "
-     "fights"),
-    ("--fresh=0 t.red all", 2, f"{USAGE}argument --fresh: 0 is not 1 to 10000"),
-    ("--seed=4 t.red all", 2, f"{USAGE}--seed 4 is not 5 to 75, the positions that pMARS takes"),
-    ("--distance=41 t.red all", 2, f"{USAGE}--distance is more than half of --core"),
-    ("--out=none/x t.red all", 3, "failed: none/x: No such file or directory"),
-    ("--out=\udcff t.red all", 2, "error: the name of the folder is not UTF-8, which cwtune "
-     "wants"),
-    ("--out=t.red t.red all", 3, "failed: t.red: File exists"),
-    ("--program=none t.red all", 3, "failed: {folder}/none: No such file or directory"),
+WRONG_WORDS = [
+    usage_error("cwtune-study t.red", "OPPONENT is missing: files, or a folder with files *.red"),
+    usage_error("cwtune-study STEP=1:2 K=1:2",
+                "WARRIOR is missing: a template, or a warrior with words NAME=LOW:HIGH:STEP"),
+    usage_error("cwtune-study w.red all STEP=1",
+                "STEP=1 is not of the form NAME=LOW:HIGH:STEP, as STEP=5:4000:10, without blanks"),
+    usage_error("cwtune-study w.red all STEP=1:9 STEP=1:9", "STEP has two ranges"),
+    usage_error("cwtune-study t.red " + "all " * 22, "66 opponents; at most 64"),
+    usage_error("cwtune-study --rounds=4000 t.red all",
+                "--rounds 4000 against 3 opponents: more than 10000 fights"),
+    usage_error("cwtune-study --fresh=4000 t.red all",
+                "--fresh 4000 against 3 opponents: more than 10000 fights"),
+    usage_error("cwtune-study --fresh=0 t.red all", "argument --fresh: 0 is not 1 to 10000"),
+    usage_error("cwtune-study --seed=4 t.red all",
+                "--seed 4 is not 5 to 75, the positions that pMARS takes"),
+    usage_error("cwtune-study --distance=41 t.red all",
+                "--distance is more than half of --core"),
+]
+WRONG_WARRIORS = [
+    Refusal("cwtune-study w.red all", 1, "refused: w.red: no range line: give words "
+            "NAME=LOW:HIGH:STEP too (`cwtune-vary w.red` lists the names)"),
+    Refusal("cwtune-study t.red all STEP=1:9:2", 1,
+            "refused: t.red: it has range lines, so it is a template already"),
+    Refusal("cwtune-study w.red all STEP=1:9:3", 1, "refused: w.red, line 3: STEP is 5, which is "
+            "none of its values; the nearest are 4 and 7"),
+    Refusal("cwtune-study three-words.red all", 1, "refused: three-words.red: line 1 is not a "
+            "range line: ;@tune NAME LOW HIGH STEP START, with START one of the values"),
+    Refusal("cwtune-study no-start.red all", 1, "refused: START of no-start.red does not assemble: "
+            "Asm line 3 Value DivisionByZero"),
+    Refusal("cwtune-study t.red long.red", 1,
+            "refused: long.red does not assemble: Asm line 0 Warrior TooLong"),
+]
+WRONG_FILES = [
+    Refusal("cwtune-study t.red empty", 2, "error: empty: no file *.red in this folder"),
+    Refusal("cwtune-study t.red none.red", 3, "failed: none.red: No such file or directory"),
+    Refusal("cwtune-study none.red all", 3, "failed: none.red: No such file or directory"),
+    Refusal("cwtune-study --out=none/x t.red all", 3, "failed: none/x: No such file or directory"),
+    Refusal("cwtune-study --out=\udcff t.red all", 2,
+            "error: the name of the folder is not UTF-8, which cwtune wants"),
+    Refusal("cwtune-study --out=t.red t.red all", 3, "failed: t.red: File exists"),
 ]
 
 
@@ -58,15 +61,17 @@ def others(place):
         ("options", ["--fresh=11", "t.red", "all"]),
         ("options", ["--exact=4", "t.red", "all"]),
     ]:
-        yield compare(f"other {kind}", (2, "", OTHER.format(kind)), place.study(*words))
+        line = (f"error: t.study is of other inputs ({kind}): give --anew to throw it away and "
+                "begin again, or another --out\n")
+        yield compare(f"other {kind}", (2, "", line), place.study(*words))
     yield compare("they change nothing", before, texts(place, "t.study"))
-    yield compare("other jobs go on", 0, place.study("--jobs=2", "t.red", "all")[0])
+    yield compare("other jobs go on", 0, place.study("--jobs=2", "t.red", "all").status)
     with open(place.folder / "t.study/box.red", "a") as file:
         file.write("; more\n")
-    yield compare("a changed file", (2, "error: t.study/box.red is not as it was written: give "
-                  "--anew to begin again\n"), place.study("t.red", "all")[::2])
+    yield compare("a changed file", (2, "", "error: t.study/box.red is not as it was written: give "
+                  "--anew to begin again\n"), place.study("t.red", "all"))
     place.write("t.study/notes.txt", "mine\n")
-    yield compare("--anew begins again", 0, place.study("--anew", "t.red", "all/imp.red")[0])
+    yield compare("--anew begins again", 0, place.study("--anew", "t.red", "all/imp.red").status)
     yield compare("and leaves what others put there", (b"mine\n", ["imp.red"]), (
         place.read("t.study/notes.txt"), os.listdir(place.folder / "t.study/opponents")))
 
@@ -78,9 +83,9 @@ def foreign(place):
                        ("study.json", '{"by": "cwtune-study 1", "of": [], "stages": {}}')]:
         place.write(f"mine/{name}", text)
         before = texts(place, "mine")
-        for more in [[], ["--anew"]]:
-            yield compare(f"a folder of somebody else {more}", (2, "", FOREIGN, before), (
-                *place.study("--out=mine", *more, "t.red", "all"), texts(place, "mine")))
+        for options in [[], ["--anew"]]:
+            yield compare(f"a folder of somebody else {options}", (2, "", FOREIGN, before), (
+                *place.study("--out=mine", *options, "t.red", "all"), texts(place, "mine")))
     (place.folder / "t.study").mkdir()
     lock = os.open(place.folder / "t.study", os.O_RDONLY)
     fcntl.flock(lock, fcntl.LOCK_EX)
@@ -103,12 +108,12 @@ def foreign(place):
 def refusals(place):
     """Gives it what no study can be made of. No folder is made."""
     (place.folder / "empty").mkdir()
-    place.write("bad.red", ";@tune K 1 2 1 2\nMOV 0, 1\nDAT 1/(K-2)\n")
-    place.write("range.red", ";@tune K 1 2\n")
+    place.write("no-start.red", ";@tune K 1 2 1 2\nMOV 0, 1\nDAT 1/(K-2)\n")
+    place.write("three-words.red", ";@tune K 1 2\n")
     place.write("long.red", "DAT 0\n" * 6)
     before = sorted(os.listdir(place.folder))
-    for words, status, line in REFUSALS:
-        line = line.replace("{folder}", str(place.folder))
-        yield compare(f"cwtune-study {words}", (status, "", f"{line}\n"),
-                      place.study(*words.split()))
+    no_program = Refusal("cwtune-study --program=none t.red all", 3,
+                         f"failed: {place.folder}/none: No such file or directory")
+    yield from refused([*WRONG_WORDS, *WRONG_WARRIORS, *WRONG_FILES, no_program],
+                       lambda words: place.study(*words[1:]))
     yield compare("refusals make no folder", before, sorted(os.listdir(place.folder)))

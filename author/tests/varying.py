@@ -1,11 +1,13 @@
 """Plays `cwtune-vary` and `cwtune-seek` with the program."""
-import os, signal, subprocess, time
+import os, re, signal, subprocess, time
+from typing import NamedTuple
 
 from author.lib import grid
 from gate.play import Place
 from gate.tally import compare
 
-from .commands import EXAMPLES, SECONDS, TUNING, command, played, run
+from .commands import (EXAMPLES, SECONDS, TUNING, Refusal, command, played, refused, run,
+                       usage_error)
 
 TEXT = """;redcode-94
 ;name Two Numbers
@@ -26,42 +28,64 @@ late    EQU  7
 TEMPLATE = TEXT.replace("STEP EQU 5 ; of the bombs", "; of the bombs\n;@tune STEP 1 9 4 5")
 FAR = ";@tune far -30 10 10 -20"
 LARGE = ";@tune A 0 9999 1 2\n;@tune B 0 9999 1 2\nDAT A, B\n"
-WARRIORS = [str(EXAMPLES / "warriors" / f"{name}.red")
+OPPONENTS = [str(EXAMPLES / "warriors" / f"{name}.red")
             for name in ["dwarf", "imp-ring", "scanner", "replicator", "core-clear"]]
+SCHEDULE = str(TUNING / "schedule.csv")
+WRONG_RANGES = [
+    Refusal("cwtune-vary two.red both=1:9", 1, "refused: two.red, line 6: STEP+1 is not a plain "
+            "number, so both can have no range"),
+    Refusal("cwtune-vary two.red step=1:9", 1,
+            "refused: two.red: no line `step EQU number`; did you mean STEP?"),
+    *(Refusal(f"cwtune-vary two.red {name}=1:9", 1,
+              f"refused: two.red: no line `{name} EQU number`") for name in ["k", "late"]),
+    Refusal("cwtune-vary two.red STEP=1:9:3", 1, "refused: two.red, line 4: STEP is 5, which is "
+            "none of its values; the nearest are 4 and 7"),
+    Refusal("cwtune-vary two.red STEP=6:9:3", 1, "refused: two.red, line 4: STEP is 5, which is "
+            "none of its values; the nearest is 6"),
+    usage_error("cwtune-vary two.red STEP=1:9 STEP=2:5", "STEP has two ranges"),
+    *(usage_error(f"cwtune-vary two.red {word}", f"argument NAME=LOW:HIGH:STEP: {word}{fault}")
+      for word, fault in [
+          *((word, " is not of the form NAME=LOW:HIGH:STEP, as STEP=5:4000:10, without blanks")
+            for word in ["STEP=1", "STEP=a:b", "STEP"]),
+          ("STEP=9:1", ": 9 is above 1"), ("STEP=1:9:0", ": the step is 0"),
+          ("STEP=1:99999", ": values are -65535 to 65535")]),
+]
 
 
-def varied(place, *words, name="two.red"):
-    """Returns status, standard output and standard error of `cwtune-vary`."""
-    return run("cwtune-vary", "--program", place.program, name, *words, folder=place.folder)
+def vary(place, *words):
+    """Returns the result of `cwtune-vary`."""
+    return run("cwtune-vary", "--program", place.program, *words, folder=place.folder)
 
 
 def templates(place):
     """Makes templates of texts."""
-    text = TEXT.replace("i       FOR  2\nk       EQU  3\n        ROF\n", "")
+    block = "i       FOR  2\nk       EQU  3\n        ROF\n"
+    text, template = TEXT.replace(block, ""), TEMPLATE.replace(block, "")
     place.write("two.red", text)
-    made = TEMPLATE.replace("i       FOR  2\nk       EQU  3\n        ROF\n", "")
-    yield compare("one constant", (0, made, "note: 3 settings\n"), varied(place, "STEP=1:9:4"))
-    yield compare("two constants", (0, made.replace("far: equ (-20)", FAR), "note: 15 settings\n"),
-                  varied(place, "far=-30:10:10", "STEP=1:9:4"))
+    yield compare("one constant", (0, template, "note: 3 settings\n"),
+                  vary(place, "two.red", "STEP=1:9:4"))
+    yield compare("two constants",
+                  (0, template.replace("far: equ (-20)", FAR), "note: 15 settings\n"),
+                  vary(place, "two.red", "far=-30:10:10", "STEP=1:9:4"))
     place.write("lines.red", text.replace("\n", "\r\n").encode())
-    yield compare("CR LF", (0, made.replace("\n", "\r\n")),
+    yield compare("CR LF", (0, template.replace("\n", "\r\n")),
                   run_bytes(place, "lines.red", "STEP=1:9:4"))
+    status, _, err = vary(place, "two.red", "STEP=1:3000", "far=-999:0")
     yield compare("too many settings for tune", (0, "note: 3000000 settings, more than the 1000000 "
-                  "that `cwtune tune` takes\n"), (
-        (came := varied(place, "STEP=1:3000", "far=-999:0"))[0], came[2]))
+                  "that `cwtune tune` takes\n"), (status, err))
     place.write("two.red", TEXT)
     yield compare("the numbers of a text", (
-        0, "STEP=5: line 4, 3 uses\nfar=-20: line 5, 1 use\n", ""), varied(place))
+        0, "STEP=5: line 4, 3 uses\nfar=-20: line 5, 1 use\n", ""), vary(place, "two.red"))
     place.write("none.red", "MOV 0, 1\n")
     yield compare("a text without numbers", (0, "", "note: no line `NAME EQU number`\n"),
-                  varied(place, name="none.red"))
+                  vary(place, "none.red"))
 
 
-def run_bytes(place, name, *words):
+def run_bytes(place, *words):
     """Returns the status and the output of `cwtune-vary`, line ends as they are."""
-    done = subprocess.run(command("cwtune-vary", "--program", place.program, name, *words),
-                          cwd=place.folder, capture_output=True)
-    return done.returncode, done.stdout.decode()
+    completed = subprocess.run(command("cwtune-vary", "--program", place.program, *words),
+                               cwd=place.folder, capture_output=True)
+    return completed.returncode, completed.stdout.decode()
 
 
 def refusals(place):
@@ -70,149 +94,142 @@ def refusals(place):
     place.write("label.red", "K EQU 1\nMOV K, 1/K\nDAT 1/(K-1)\n")
     place.write("joined.red", "K EQU 1\nx1 EQU 5\ni FOR 1\nDAT x&i, K\nROF\n")
     place.write("ranges.red", ";@tune K 0 1 1 0\nMOV 0, 1\n")
-    for words, status, said in [
-        (["both=1:9"], 1, "refused: two.red, line 6: STEP+1 is not a plain number, so both can "
-         "have no range"),
-        (["step=1:9"], 1, "refused: two.red: no line `step EQU number`; did you mean STEP?"),
-        (["k=1:9"], 1, "refused: two.red: no line `k EQU number`"),
-        (["late=1:9"], 1, "refused: two.red: no line `late EQU number`"),
-        (["STEP=1:9:3"], 1, "refused: two.red, line 4: STEP is 5, which is none of its values; the "
-         "nearest are 4 and 7"),
-        (["STEP=6:9:3"], 1, "refused: two.red, line 4: STEP is 5, which is none of its values; the "
-         "nearest is 6"),
-        (["STEP=1:9", "STEP=2:5"], 2, "cwtune-vary: error: STEP has two ranges"),
-        *(([word], 2, f"cwtune-vary: error: argument NAME=LOW:HIGH:STEP: {word}{said}")
-          for word, said in [
-              *((word, " is not of the form NAME=LOW:HIGH:STEP, as STEP=5:4000:10, without blanks")
-                for word in ["STEP=1", "STEP=a:b", "STEP"]),
-              ("STEP=9:1", ": 9 is above 1"), ("STEP=1:9:0", ": the step is 0"),
-              ("STEP=1:99999", ": values are -65535 to 65535")]),
-    ]:
-        yield compare(f"cwtune-vary {' '.join(words)}", (status, "", f"{said}\n"),
-                      varied(place, *words))
-    said = "refused: label.red does not assemble: Asm line 3 Value DivisionByZero\n"
-    yield compare("a text that does not assemble", (1, "", said),
-                  varied(place, "K=1:2", name="label.red"))
+    yield from refused(WRONG_RANGES, lambda words: vary(place, *words[1:]))
+    yield compare("a text that does not assemble",
+                  (1, "", "refused: label.red does not assemble: Asm line 3 Value "
+                   "DivisionByZero\n"), vary(place, "label.red", "K=1:2"))
     yield compare("a template", (1, "", "refused: ranges.red: it has range lines, so it is a "
-                  "template already\n"), varied(place, name="ranges.red"))
-    yield compare("a missing file", 3, varied(place, name="none")[0])
+                  "template already\n"), vary(place, "ranges.red"))
+    yield compare("a missing file", 3, vary(place, "none").status)
 
 
-def sought(place, *words, template="stone.red"):
-    """Returns status, standard output and the lines of standard error of `cwtune-seek`."""
-    status, out, err = run("cwtune-seek", "--program", place.program, *words,
-                           str(TUNING / template), str(TUNING / "schedule.csv"), *WARRIORS,
-                           folder=place.folder)
-    return status, out, err.splitlines()
+def seek(place, *words, template=TUNING / "stone.red", opponents=OPPONENTS):
+    """Returns the result of `cwtune-seek`."""
+    return run("cwtune-seek", "--program", place.program, *words, str(template), SCHEDULE,
+               *opponents, folder=place.folder)
+
+
+class Found(NamedTuple):
+    """What the line `found` of `cwtune-seek` says."""
+
+    total: int
+    fights: int
+
+
+def found_by(result):
+    """Returns what a climb found."""
+    match = re.search(r"^found: total (\d+) of .*, (\d+) fights in", result.err, re.MULTILINE)
+    if not match:
+        raise ValueError(f"no line `found`: {result}")
+    return Found(int(match[1]), int(match[2]))
 
 
 def climbs(place):
-    """Climbs in the examples, and compares with what is known of them."""
-    status, out, lines = sought(place)
-    place.write("found.red", out)
-    found = grid.Grid(place.folder / "found.red")
-    whole = grid.Grid(TUNING / "stone.red")
-    yield compare("the template has what was found as START", (0, whole.values, True),
-                  (status, found.values, lines[-2].startswith("found: total ")))
+    """Climbs in the template of a stone, and compares with what tunings find there."""
+    result = seek(place)
+    total = found_by(result).total
+    place.write("found.red", result.out)
+    found, whole = grid.Grid(place.folder / "found.red"), grid.Grid(TUNING / "stone.red")
+    yield compare("only START differs in the template", (0, whole.ranges),
+                  (result.status, found.ranges))
     yield compare("what is said of the others", "note: no setting of a line through it has a "
-                  "greater total; one elsewhere, of all 273 settings, may", lines[-1])
-    total = int(lines[-2].split()[2].rstrip(","))
-    yield compare("START of the template has that total", total, total_of(place, "found.red"))
+                  "greater total; one elsewhere, of all 273 settings, may",
+                  result.err.splitlines()[-1])
+    yield compare("START of the template has that total", total,
+                  best_total(place, found.line_through(found.start_values, ())))
     yield compare("no tuning of a line through it has a better one", [total] * 2, [
-        total_of(place, "line.red", found.line_through(found.start_values, (k,)))
-        for k in range(2)])
-    yield compare("with two jobs the same is found", out, sought(place, "--jobs=2")[1])
-    again = sought(place, "--starts=2", "--seed=3")
-    yield compare("more starts find no less", (0, True), (
-        again[0], int(again[2][-2].split()[2].rstrip(",")) >= total))
-    boxed = sought(place, "--box=2")
-    place.write("box.red", boxed[1])
+        best_total(place, found.line_through(found.start_values, (constant,)))
+        for constant in range(2)])
+    yield compare("with two jobs the same is found", result.out, seek(place, "--jobs=2").out)
+    more_starts = seek(place, "--starts=2", "--seed=3")
+    yield compare("more starts find no less", (0, True),
+                  (more_starts.status, found_by(more_starts).total >= total))
+    boxed = seek(place, "--box=2")
+    place.write("box.red", boxed.out)
     box = grid.Grid(place.folder / "box.red")
     yield compare("a box is around it", (0, found.start_values, True), (
-        boxed[0], box.start_values, all(len(values) <= 5 for values in box.values)))
+        boxed.status, box.start_values, all(len(values) <= 5 for values in box.ranges)))
+
+
+def ended_climbs(place):
+    """Climbs until --fights N are reached."""
     place.write("large.red", LARGE)
-    large = sought(place, "--fights=1", "--box=9999", template=place.folder / "large.red")
+    status, out, err = seek(place, "--fights=1", "--box=9999", template=place.folder / "large.red")
     yield compare("a box of too many settings is not cut", (
         0, LARGE, "note: --box=9999 would leave 100000000 settings, more than the 1000000 that "
-        "`cwtune tune` takes, so the ranges are not cut"), (*large[:2], large[2][-1]))
-    few = sought(place, "--fights=1")
+        "`cwtune tune` takes, so the ranges are not cut"), (status, out, err.splitlines()[-1]))
+    status, _, err = seek(place, "--fights=1")
     yield compare("--fights ends it after a tuning", (
-        0, "found: total 12 of 30 STEP=3045 FIRST=3000, 10 fights in 1 tuning, ended after 10 "
-        "fights (--fights)", "note: it is START, so nothing was gained",
-        "note: it is the best setting that was seen, and more may be gained"),
-        (few[0], *few[2][-3:]))
+        0, ["found: total 12 of 30 STEP=3045 FIRST=3000, 10 fights in 1 tuning, ended after 10 "
+            "fights (--fights)", "note: it is START, so nothing was gained",
+            "note: it is the best setting that was seen, and more may be gained"]),
+        (status, err.splitlines()[-3:]))
 
 
 def kinds(place):
     """Tunes the templates of other kinds, and climbs in them."""
     for name, settings in [("paper", 2304), ("quick-scan", 1080), ("spiral", 1820)]:
-        files = [str(TUNING / f"{name}.red"), str(TUNING / "schedule.csv")]
-        tuned = dict(line.split(" ", 1) for line in
-                     place.run(["tune", *files, "CERT", *WARRIORS]).out.decode().splitlines())
-        status, _, err = run("cwtune-seek", "--program", place.program, *files, *WARRIORS,
-                             folder=place.folder)
-        words = next(line for line in err.splitlines() if line.startswith("found: ")).split()
-        greatest, fights = int(tuned["total"].split()[0]), int(tuned["fights"].split()[0])
-        yield compare(f"settings of {name}.red", str(settings), tuned["vectors"])
-        yield compare(f"a climb in {name}.red has a third of the fights, and no better setting", (
-            0, True, True), (status, int(words[2]) <= greatest,
-                             3 * int(words[words.index("fights") - 1]) <= fights))
+        template = TUNING / f"{name}.red"
+        tuned = place.run(["tune", str(template), SCHEDULE, "CERT", *OPPONENTS]).out.decode()
+        report = dict(line.split(" ", 1) for line in tuned.splitlines())
+        greatest, fights = int(report["total"].split()[0]), int(report["fights"].split()[0])
+        result = seek(place, template=template)
+        found = found_by(result)
+        yield compare(f"settings of {name}.red", str(settings), report["vectors"])
+        yield compare(f"a climb in {name}.red has a third of the fights, and no better setting",
+                      (0, True, True),
+                      (result.status, found.total <= greatest, 3 * found.fights <= fights))
 
 
-def total_of(place, name, text=None):
+def best_total(place, text):
     """Returns the best total of a template, which `cwtune tune` finds."""
-    if text is not None:
-        place.write(name, text)
-    start = grid.Grid(place.folder / name)
-    place.write(name, start.line_through(start.start_values, ()) if text is None else text)
-    came = place.run(["tune", name, str(TUNING / "schedule.csv"), "CERT", *WARRIORS])
-    return int(came.out.decode().split("total ")[1].split()[0])
+    place.write("line.red", text)
+    report = place.run(["tune", "line.red", SCHEDULE, "CERT", *OPPONENTS]).out.decode()
+    return int(report.split("total ")[1].split()[0])
 
 
 def refused_climbs(place):
     """Gives `cwtune-seek` what it refuses."""
     place.write("one.red", "MOV 0, 1\n")
-    place.write("none.red", ";@tune K 0 5 1 2\nDAT 1/0\n")
+    place.write("no-candidate.red", ";@tune K 0 5 1 2\nDAT 1/0\n")
     place.write("large.red", LARGE)
-    schedule = str(TUNING / "schedule.csv")
-    for words, end in [
+    for words, expected in [
         (["one.red"], (1, "", "refused: one.red: no range line, which begins `;@tune` at the left "
                        "margin (cwtune-vary makes a template of a text with EQU lines)\n")),
-        (["none.red"], (1, "", "start: does not assemble: K=2\n"
-                        "refused: no setting that was tried assembles; `cwtune asm --setting "
-                        "start` says why of START\n")),
+        (["no-candidate.red"], (1, "", "start: does not assemble: K=2\n"
+                                "refused: no setting that was tried assembles; `cwtune asm "
+                                "--setting start` says why of START\n")),
         (["--pairs", "large.red"], (2, "", "error: A,B: 100000000 settings, more than the 1000000 "
                                     "that `cwtune tune` takes\n")),
         (["none"], (3, "", "failed: none: No such file or directory\n")),
     ]:
-        yield compare(f"cwtune-seek {' '.join(words)}", end, run(
-            "cwtune-seek", "--program", place.program, *words, schedule, *WARRIORS,
-            folder=place.folder))
+        *options, template = words
+        yield compare(f"cwtune-seek {' '.join(words)}", expected,
+                      seek(place, *options, template=template))
     place.write("bad.red", ";@tune K 0 5 1 2\nMOV 1\n")
-    came = run("cwtune-seek", "--program", place.program, "bad.red", schedule, *WARRIORS,
-               folder=place.folder)
-    yield compare("a template that tune refuses", (1, ""), came[:2])
+    status, out, _ = seek(place, template="bad.red")
+    yield compare("a template that tune refuses", (1, ""), (status, out))
 
 
 def stopped_climbs(place):
     """Stops `cwtune-seek` while a stand-in for `cwtune` plays START."""
     place.write("slow", "#!/bin/sh\ntouch begun\nexec sleep 99\n")
     os.chmod(place.folder / "slow", 0o755)
-    words = command("cwtune-seek", "--program=./slow", str(TUNING / "step.red"),
-                    str(TUNING / "schedule.csv"), *WARRIORS)
-    for number in [signal.SIGINT, signal.SIGTERM]:
+    words = command("cwtune-seek", "--program=./slow", str(TUNING / "step.red"), SCHEDULE,
+                    *OPPONENTS)
+    for signal_number in [signal.SIGINT, signal.SIGTERM]:
         job = subprocess.Popen(words, cwd=place.folder, stdout=subprocess.PIPE,
                                stderr=subprocess.PIPE)
         while not (place.folder / "begun").exists() and job.poll() is None:
             time.sleep(0.01)
-        job.send_signal(number)
+        job.send_signal(signal_number)
         out, err = job.communicate(timeout=SECONDS)
         (place.folder / "begun").unlink()
-        yield compare(f"signal {number} before START was played", (
+        yield compare(f"signal {signal_number} before START was played", (
             -signal.SIGINT, b"", b"stopped: before START or another setting was played\n"),
             (job.returncode, out, err))
 
 
 def trials(program):
     return played("cwtune-vary and cwtune-seek", lambda folder: Place(program, folder, {}), [
-        templates, refusals, climbs, kinds, refused_climbs, stopped_climbs])
+        templates, refusals, climbs, ended_climbs, kinds, refused_climbs, stopped_climbs])

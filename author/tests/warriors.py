@@ -1,11 +1,11 @@
 """Plays `cwtune-warrior` and `cwtune-holdout` with the program."""
 from author.lib import tuning_files, warrior
-from author.lib.program import load_of
+from author.lib.program import assemble
 from gate.play import Place
 from gate.tally import compare
 
 from . import origins
-from .commands import TUNING, played, run
+from .commands import TUNING, Refusal, played, refused, run
 
 FIGHT = "opponent,position,first\n0,4000,c\n"
 # Templates with range lines at unusual places, and how many settings they have.
@@ -19,21 +19,39 @@ PLACES = {
     "no constant": (b"MOV 0, 1\n", 1),
 }
 # The name K is the last of 16 EQU names in turn, and as one itself it would be the 17th.
-CHAIN = b";@tune K 3 4 1 3\n" + b"".join(b"e%d EQU e%d\n" % (n, n + 1) for n in range(1, 16)) + (
-    b"e16 EQU K\nDAT e1\n")
+CHAIN = b"".join([b";@tune K 3 4 1 3\n",
+                  *(b"e%d EQU e%d\n" % (number, number + 1) for number in range(1, 16)),
+                  b"e16 EQU K\nDAT e1\n"])
+WRONG_WORDS = [Refusal(words, 2, line) for words, line in [
+    ("cwtune-warrior step.red",
+     "cwtune-warrior: error: CERT is missing: give it, or --setting W"),
+    ("cwtune-warrior step.red step.cert --setting 0",
+     "cwtune-warrior: error: give CERT or --setting, and not both"),
+    ("cwtune-warrior stone.red step.cert",
+     "error: the certificate is of 21 settings, and the template has 273"),
+    ("cwtune-warrior step.red --setting 21", "error: the template has 21 settings, from 0"),
+    *((f"cwtune-warrior step.red --setting {word}", "cwtune-warrior: error: argument --setting: "
+       f"{word} is neither an index from 0 nor `start`") for word in ["x", "-1"]),
+]]
 
 
-def other_settings(place, text, count):
-    """Returns the settings of a template of which `text_of` makes another warrior."""
-    path, made = place.folder / "t.red", place.folder / "made.red"
+def warrior_of(place, *words, folder=TUNING):
+    """Returns the result of `cwtune-warrior`."""
+    return run("cwtune-warrior", "--program", place.program, *words, folder=folder)
+
+
+def wrong_settings(place, text, count):
+    """Returns which settings of a template `text_of` makes another warrior of, and whether it has
+    another number of settings."""
+    path, setting_path = place.folder / "t.red", place.folder / "setting.red"
     path.write_bytes(text)
     template, wrong = tuning_files.Template(path), []
     for setting in range(len(template.settings)):
-        made.write_bytes(warrior.text_of(text, template, setting))
-        wanted = load_of(place.program, "--setting", str(setting), str(path))
-        came = load_of(place.program, str(made))
-        if came != wanted or not wanted[0]:
-            wrong.append(f"setting {setting}: expected {wanted}, came {came}")
+        setting_path.write_bytes(warrior.text_of(text, template, setting))
+        expected = assemble(place.program, "--setting", str(setting), str(path))
+        result = assemble(place.program, str(setting_path))
+        if result != expected or not expected[0]:
+            wrong.append(f"setting {setting}: expected {expected}, came {result}")
     return wrong + [f"{len(template.settings)} settings"] * (len(template.settings) != count)
 
 
@@ -41,54 +59,43 @@ def warriors(place):
     """Makes the text of every setting of the examples, and of those of `PLACES`."""
     for name, count in [("step", 21), ("decoy", 126), ("stone", 273)]:
         text = (TUNING / f"{name}.red").read_bytes()
-        yield f"warriors of {name}", other_settings(place, text, count)
+        yield f"warriors of {name}", wrong_settings(place, text, count)
     for name, (text, count) in PLACES.items():
-        yield f"ranges: {name}", other_settings(place, text, count)
-    came = run("cwtune-warrior", "--program", place.program, "step.red", "step.cert")
-    found = tuning_files.Certificate(TUNING / "step.cert")
-    start = found.total_of(tuning_files.Template(TUNING / "step.red").start, found.fights(None))
-    line = (f";strategy cwtune: setting {found.best} of 21, total {found.total}; "
+        yield f"ranges: {name}", wrong_settings(place, text, count)
+    status, out, err = warrior_of(place, "step.red", "step.cert")
+    cert = tuning_files.Certificate(TUNING / "step.cert")
+    start = cert.total_of(tuning_files.Template(TUNING / "step.red").start, cert.fights(None))
+    line = (f";strategy cwtune: setting {cert.best} of 21, total {cert.total}; "
             f"total of START {start}\n")
-    yield "the best setting of a certificate", [] if (
-        came[0] == 0 and came[2] == origins.note("step.cert.inputs is not there")
-        and line in came[1]) else [repr(came)]
-    for name, text, said in [
+    yield compare("the best setting of a certificate",
+                  (0, True, origins.note("step.cert.inputs is not there")),
+                  (status, line in out, err))
+
+
+def refusals(place):
+    """Gives `cwtune-warrior` what it refuses."""
+    for name, text, begin in [
         ("chain.red", CHAIN, "refused: with the values as EQU lines the text does not assemble: "
          "Asm line "),
         ("refused.red", b"DAT 1/0\n", "refused: setting 0 does not assemble: Asm line 1 "),
     ]:
         place.write(name, text)
-        came = run("cwtune-warrior", "--program", place.program, name, "--setting", "0",
-                   folder=place.folder)
-        yield f"{name} is refused", [] if (came[:2] == (1, "") and came[2].startswith(said)
-                                           ) else [repr(came)]
-    for words, said in [
-        (["step.red"], "CERT is missing: give it, or --setting W"),
-        (["step.red", "step.cert", "--setting", "0"], "give CERT or --setting, and not both"),
-        (["stone.red", "step.cert"],
-         "the certificate is of 21 settings, and the template has 273"),
-        (["step.red", "--setting", "21"], "the template has 21 settings, from 0"),
-        *((["step.red", "--setting", word],
-           f"argument --setting: {word} is neither an index from 0 nor `start`")
-          for word in ["x", "-1"]),
-    ]:
-        came = run("cwtune-warrior", "--program", place.program, *words)
-        yield f"cwtune-warrior {' '.join(words)}", [] if (
-            came[:2] == (2, "") and came[2].endswith(f"error: {said}\n")) else [repr(came)]
+        status, out, err = warrior_of(place, name, "--setting", "0", folder=place.folder)
+        yield compare(f"{name} is refused", (1, "", begin), (status, out, err[:len(begin)]))
+    yield from refused(WRONG_WORDS, lambda words: warrior_of(place, *words[1:]))
 
 
-def foreign(place):
+def pmars_notes(place):
     """Makes texts with lines that pMARS does not take."""
-    for name, text, said in [
+    for name, text, note in [
         ("nop.red", b"DAT 0\nx: nop\n", "note: pMARS refuses line 3: NOP without an operand\n"),
         ("dat.red", b"DAT ; nothing\n", "note: pMARS refuses line 2: DAT without an operand\n"),
         ("wide.red", b"DAT 0\nDAT 1" + b" " * 251 + b"\n",
          "note: pMARS cuts line 3 at 255 bytes\n"),
     ]:
         place.write(name, text)
-        came = run("cwtune-warrior", "--program", place.program, name, "--setting", "0",
-                   folder=place.folder)
-        yield compare(name, (0, said), (came[0], came[2]))
+        status, _, err = warrior_of(place, name, "--setting", "0", folder=place.folder)
+        yield compare(name, (0, note), (status, err))
 
 
 def gains(place):
@@ -111,21 +118,25 @@ def gains(place):
     ]:
         place.run(["tune", "--all", "t.red", schedule, "cert", *opponents], keep=True)
         words = ["--schedule", schedule, "--rounds", "20", "t.red", "cert", *opponents]
-        came = run("cwtune-holdout", "--program", place.program, *words, folder=place.folder)
-        yield compare(f"a gain by {schedule}", (0, expected, ""), came)
+        yield compare(f"a gain by {schedule}", (0, expected, ""), holdout(place, *words))
+
+
+def holdout(place, *words):
+    """Returns the result of `cwtune-holdout`."""
+    return run("cwtune-holdout", "--program", place.program, *words, folder=place.folder)
 
 
 def faults(place):
     """Runs commands with stand-ins for `cwtune` that note something, and that are killed."""
     words = ["cwtune-warrior", str(TUNING / "step.red"), "--setting=3"]
-    for name, text, end in [
+    for name, text, expected in [
         ("notes", "echo '  a note' >&2; echo 'error: a fault' >&2; exit 2",
          (2, "", "error: a fault\n  a note\n")),
         ("dies", "kill -9 $$", (3, "", "failed: ./dies ended with status -9\n")),
     ]:
         place.write(name, f"#!/bin/sh\n{text}\n")
         (place.folder / name).chmod(0o755)
-        yield compare(f"a program that {name}", end,
+        yield compare(f"a program that {name}", expected,
                       run(*words, f"--program=./{name}", folder=place.folder))
 
 
@@ -135,20 +146,20 @@ def holdouts(place):
     place.write("s.csv", FIGHT)
     place.write("dat.red", "DAT 0\n")
     place.run(["tune", "--all", "t.red", "s.csv", "cert", "dat.red"], keep=True)
-    words = ["--program", place.program, "--rounds", "20", "t.red", "cert", "dat.red"]
-    expected = "".join(f"setting {v}, rank {v + 1}: tuning 3 of 3 (100.0%), fresh 60 of 60 "
-                       f"(100.0% +- 0.0) K={v + 1}\n" for v in (0, 1))
+    words = ["--rounds", "20", "t.red", "cert"]
+    lines = "".join(f"setting {setting}, rank {setting + 1}: tuning 3 of 3 (100.0%), fresh 60 of "
+                    f"60 (100.0% +- 0.0) K={setting + 1}\n" for setting in (0, 1))
     yield compare("cwtune-holdout", (
-        0, f"{expected}setting 0 is START: the tuning found nothing better\n", ""),
-        run("cwtune-holdout", *words, folder=place.folder))
-    came = run("cwtune-holdout", "--against", "dat.red", *words, folder=place.folder)
+        0, f"{lines}setting 0 is START: the tuning found nothing better\n", ""),
+        holdout(place, *words, "dat.red"))
     # Of two warriors that die at once the one that moves second wins: ten of twenty fights.
     yield compare("cwtune-holdout --against a warrior", (
-        0, f"{expected}dat.red: fresh 30 of 60 (50.0% +- 11.5)\n"
-        "over dat.red, setting 0: +50.0% +- 11.5, a gain\n", ""), came)
-    came = run("cwtune-holdout", *words[:-1], "none.red", folder=place.folder)
-    yield "cwtune-holdout with no opponent", [] if (
-        came[:2] == (3, "") and came[2].startswith("failed: none.red: ")) else [repr(came)]
+        0, f"{lines}dat.red: fresh 30 of 60 (50.0% +- 11.5)\n"
+        "over dat.red, setting 0: +50.0% +- 11.5, a gain\n", ""),
+        holdout(place, "--against", "dat.red", *words, "dat.red"))
+    status, out, err = holdout(place, *words, "none.red")
+    yield compare("cwtune-holdout with no opponent", (3, "", "failed: none.red"),
+                  (status, out, err.rpartition(": ")[0]))
 
 
 def ranks(place):
@@ -157,9 +168,8 @@ def ranks(place):
     for name, text in [("t.red", ";@tune K 0 2 1 1\nJMP 1-K\n"), ("imp.red", "MOV 0, 1\n"),
                        ("s.csv", FIGHT + "0,4100,c\n0,4200,o\n")]:
         place.write(name, text)
-    words = ["--program", place.program, "--rounds", "20", "--schedule", "s.csv", "t.red", "cert",
-             "imp.red"]
-    for options, ranked, said in [
+    words = ["--rounds", "20", "--schedule", "s.csv", "t.red", "cert", "imp.red"]
+    for options, names, last_line in [
         ([], ["setting 1, rank 1", "setting 0"],
          "1 setting was dropped, so only the first of the ranking is exact; cwtune tune --keep 5 "
          "makes the first 5 exact"),
@@ -167,17 +177,19 @@ def ranks(place):
          "setting 1 is START: the tuning found nothing better"),
     ]:
         place.run(["tune", *options, "t.red", "s.csv", "cert", "imp.red"], keep=True)
-        status, out, _ = run("cwtune-holdout", *words, folder=place.folder)
+        status, out, _ = holdout(place, *words)
         lines = out.splitlines()
-        yield compare(f"ranks in a certificate of tune {options}", (0, ranked, said), (
+        yield compare(f"ranks in a certificate of tune {options}", (0, names, last_line), (
             status, [line.partition(":")[0] for line in lines if ": tuning " in line], lines[-1]))
-    place.write("cert", "cwcert,1,3\nnone,-,9\n" + "".join(f"cap,{v},0:0\n" for v in range(3)))
-    for words in [["cwtune-holdout", *words], ["cwtune-warrior", "t.red", "cert"]]:
-        yield compare(f"{words[0]} of a certificate without a best setting", (
-            1, "", "refused: cert: it names no best setting, since none reaches the floor 9\n"),
-            run(*words, folder=place.folder))
+    place.write("cert", "cwcert,1,3\nnone,-,9\n" + "".join(
+        f"cap,{setting},0:0\n" for setting in range(3)))
+    fault = (1, "", "refused: cert: it names no best setting, since none reaches the floor 9\n")
+    yield compare("cwtune-holdout of a certificate without a best setting", fault,
+                  holdout(place, *words))
+    yield compare("cwtune-warrior of a certificate without a best setting", fault,
+                  warrior_of(place, "t.red", "cert", folder=place.folder))
 
 
 def trials(program):
     return played("cwtune-warrior and cwtune-holdout", lambda folder: Place(program, folder, {}), [
-        warriors, foreign, faults, holdouts, gains, ranks])
+        warriors, refusals, pmars_notes, faults, holdouts, gains, ranks])
