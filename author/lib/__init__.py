@@ -1,4 +1,4 @@
-"""Has what the commands for authors are made of: a module for each, and what they share.
+"""Makes up the commands for authors: a module for each, and what they share.
 
 The modules of commands are files, holdout, landscape, scores, seek, series, spread, study, vary and
 warrior. Several commands use
