@@ -1,4 +1,4 @@
-"""Makes up the commands for authors: a module for each, and what they share.
+"""Holds the commands for authors: a module for each, and the modules that they share.
 
 The modules of commands are files, holdout, landscape, scores, seek, series, spread, study, vary and
 warrior. Several commands use
@@ -11,7 +11,7 @@ warrior. Several commands use
 - cert_inputs: which inputs a certificate is for, by CERT.inputs;
 - own_folder: the folder in which a spread or a study keeps its work;
 - mean_error: the standard error of a mean;
-- series, holdout, landscape, seek and vary, by `cwtune-study`, which runs what they do.
+- series, holdout, landscape, seek and vary: commands of which `cwtune-study` imports functions.
 
 A spread has its options in spread_words. spread_parts and spread_shares say what its jobs are, in a
 folder as spread_folder makes it; spread_jobs runs them, spread_progress shows how far they are, and
@@ -22,12 +22,11 @@ the heats, study_result collects the numbers of report.json, and study_report ma
 these, with the pictures of study_charts and study_map, the pieces of study_page and the style sheet
 of study_style.
 
-In all of them a name means one thing:
+Where nothing else is said, a name means this:
 
 - `setting`: the index of a setting; `values`: its values, one for each constant;
 - `ranges`: the values that each constant may have; `constant`: the index of one;
 - `cert`: a certificate, or its path in `args`, which are the words of a command once parsed;
 - `completed`: a run of a program that has ended;
-- `number`: that of a part, a share or a heat, counted from 1; `piece`: what came of a part or a
-  share.
+- `number`: which part, share or heat, counted from 1; `piece`: a part or a share.
 """

@@ -106,8 +106,8 @@ def print_note(why_unused):
 
 
 def refuse_other_tuning(args, cert, part, method):
-    """Refuses `cert` if its CERT.inputs says that it is of another part or of another tuning, or is
-    not that of `cert`. Without a CERT.inputs nothing is known."""
+    """Refuses `cert` if its CERT.inputs names another part, tuning or certificate, or is malformed.
+    Without a CERT.inputs `cert` passes."""
     if not os.path.exists(name_of(cert)):
         return
     inputs = read(cert)

@@ -78,8 +78,8 @@ def say(word, message, status):
 
 
 def status_of(returncode):
-    """Returns the status of a command whose `cwtune` ended with `returncode`: 1 and 2 stay, all
-    else is 3."""
+    """Returns the status of a command whose `cwtune` has no result: its `returncode` if that is 1
+    or 2, else 3, since it then was killed, or ended with 0 where it had to refuse something."""
     return returncode if returncode in (1, 2) else 3
 
 
@@ -91,7 +91,7 @@ def end_as(returncode, stderr=b""):
 
 def fault_of(completed):
     """Returns the fault of a run of `cwtune` without its first word, which the status says, and
-    then the notes that came before it. One that was killed says nothing."""
+    then the notes that came before it. If it wrote nothing, the fault names its status."""
     status = status_of(completed.returncode)
     stderr = "\n" + completed.stderr.decode(errors="surrogateescape").strip("\n")
     notes, _, fault = stderr.partition(f"\n{STATUS_WORDS[status]}: ")

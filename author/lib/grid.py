@@ -52,8 +52,8 @@ class Grid:
         return b"\n".join(lines)
 
     def line_through(self, values, free):
-        """Returns the template in which the constants with the indices `free` have their whole
-        ranges, and each other one the value that a setting has. That setting is its START."""
+        """Returns the template in which the constants with the indices `free` keep their ranges,
+        and each other one has its value of `values` alone. START is `values`."""
         ranges = [whole if index in free else range(value, value + 1)
                   for index, (whole, value) in enumerate(zip(self.ranges, values))]
         return self.text(ranges, values)

@@ -92,7 +92,7 @@ class FreshFights:
 
 
 def opponent_weights_of(args, fights):
-    """Returns how much each opponent counts: by its fights' weights; without a schedule alike."""
+    """Returns for each opponent the sum of its fights' weights, or 1 without a schedule."""
     if not args.schedule:
         return [1] * len(args.opponents)
     if any(fight.opponent >= len(args.opponents) for fight in fights):

@@ -12,9 +12,9 @@ from .writing import naming, whole_file
 class OwnFolder:
     """A folder of the command `COMMAND`, locked until the command ends.
 
-    `MARK` is the name of its mark. `THROWN` says what --anew throws away, and `INSTEAD` what to
-    name otherwise, so that other inputs get a folder of their own. `given_path` is its path as the
-    user or the command gives it, and `path` the whole one.
+    `MARK` is the name of its mark. `THROWN` and `INSTEAD` are words of the fault for other inputs:
+    what --anew throws away, and what to name otherwise to get a new folder. `given_path` is its
+    path as the user or the command gives it, and `path` the whole one.
     """
 
     COMMAND = MARK = THROWN = INSTEAD = ""

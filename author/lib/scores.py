@@ -57,7 +57,7 @@ def print_first(cert, fights, template, wanted):
 
 
 class Warriors:
-    """Which settings make one warrior: by their rows, and else by what they assemble to."""
+    """Says whether settings make equal warriors: by their `same` rows, else by their load files."""
 
     def __init__(self, cert, args):
         self.cert, self.load_files = cert, {}
@@ -99,8 +99,7 @@ def idle_text(alike):
 
 
 def print_idle(template, warriors):
-    """Prints for each constant for how many settings of the others its value makes no difference to
-    the warrior."""
+    """Prints for each constant in how many choices of the others its values make one warrior."""
     print("for how many choices of the other constants all values of one make the same warrior")
     for constant, name in enumerate(template.names):
         groups = {}

@@ -41,8 +41,8 @@ class BestOfLine(NamedTuple):
 class Tunings:
     """The tunings of lines and planes of a grid, none of them twice, and their fights.
 
-    A line is known by the values of one of its settings, and by the indices `free` of the constants
-    in which its settings differ.
+    A line here is also a plane, or with `free` empty one setting. It is given by the values of a
+    setting on it, and by the indices `free` of the constants in which its settings differ.
     """
 
     def __init__(self, args, grid, folder):

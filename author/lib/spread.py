@@ -88,8 +88,8 @@ def count_settings(args):
 
 
 def rejection_by_form(args, cert, notes):
-    """Returns the line of a certificate that is rejected for its form or for its best row, else
-    nothing. Ends as `check` ends if it refuses an input. The notes were shown before.
+    """Returns what `check` prints of a certificate that it rejects for its form or its best row,
+    else an empty text. Ends as `check` ends if it refuses an input. The notes were shown before.
 
     The first of 4294967295 shares has no setting, so nothing else is looked at.
     """
@@ -177,7 +177,7 @@ def refuse_missing(folder, progress, faults):
 
 
 def refuse_floors(parts):
-    """Refuses parts of a cluster whose floors were too great to show which setting is the best."""
+    """Refuses parts with floors too great to show the best setting: a cluster's, or a liar's."""
     best = best_of(parts)
     # A floor of 0 hides nothing. Without a best setting any other may hide one.
     greatest, best_setting = (best.total(), index_of(best)) if best else (-1, 0)

@@ -37,8 +37,8 @@ class Folder(OwnFolder):
     """A folder that `cwtune-spread` made.
 
     Its subclasses say how a piece is called (`PIECE`), which files of the folder are its own
-    (`OWN_FILES`) and which of these a kill may leave (`UNFINISHED_FILES`), and of which kinds are
-    the files that a run of a piece reads alone (`SENT_KINDS`) and writes (`RETURNED_KINDS`).
+    (`OWN_FILES`) and which of these a kill may leave (`UNFINISHED_FILES`), and the kinds of files
+    that a run of a piece reads beside the copies (`SENT_KINDS`) and writes (`RETURNED_KINDS`).
     """
 
     COMMAND, MARK = "cwtune-spread", "spread.json"
@@ -48,7 +48,7 @@ class Folder(OwnFolder):
         """Opens the folder, and makes it if it is new.
 
         `copies` are the files of which its pieces are made, and `options` what else they depend on,
-        by kind. A folder that goes on keeps its own counts.
+        by kind. A folder that is not new keeps the counts of its mark.
         """
         super().__init__(given_path)
         self.copies, self.input_options, self.pid = copies, options, os.getpid()

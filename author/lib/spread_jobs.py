@@ -1,7 +1,7 @@
 """Runs jobs, here or on other hosts: the pieces of `cwtune-spread`, and the heats of a study.
 
-A folder says what the job of each number is: `prepare` writes what the job reads, `words` is what
-it runs in the folder's `path`, and `file` where each kind of output goes.
+A folder says what each job is, by the number of a piece or the player of a heat: `prepare` writes
+what it reads, `words` is what it runs in `path`, and `file` where each kind of output goes.
 """
 import contextlib, ctypes, pathlib, shutil, signal, subprocess
 
@@ -19,7 +19,7 @@ def end_with_parent():
 
 
 class LocalJobs:
-    """Jobs that run on this host, at most `jobs` side by side. All of them end."""
+    """Jobs that run on this host, at most `jobs` side by side. Each ends, so `fault` stays None."""
 
     fault = None
 
@@ -58,8 +58,8 @@ class LocalJobs:
 
 
 class HostJobs:
-    """Jobs that GNU parallel runs on other hosts, over ssh and rsync. Those that have not ended
-    when it ends are still in `waiting`, and `fault` is why."""
+    """Jobs that GNU parallel runs on other hosts, over ssh and rsync. Those without a status once
+    it has ended stay in `waiting`; `fault` is why."""
 
     fault = None
 

@@ -47,8 +47,8 @@ class Part(NamedTuple):
         return int(self.report["total"].split()[0])
 
     def ranked(self):
-        """Returns total and constants of each setting that its report ranks, or else of the best
-        one, by the setting's index within the whole template."""
+        """Returns a dict from settings, counted in the whole template, to total and constants: of
+        all that the report ranks, or of the best one if it ranks none."""
         if not self.has_best():
             return {}
         best = self.report["best"], self.report["total"].split()[0], self.report["constants"]

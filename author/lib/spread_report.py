@@ -19,7 +19,7 @@ def index_of(part):
 
 
 def summed(parts, name, index):
-    """Returns the sum of a number of the reports: the one at `index` in the line `name`."""
+    """Returns the sum over all reports of the number at `index` in their line `name`."""
     return sum(int(part.report[name].split()[index]) for part in parts if part.report)
 
 

@@ -19,8 +19,8 @@ OF_ALL = {"Malformed", "Version", "RowCount", "BestRow"}
 
 
 def is_verdict(text, status, number, share_count, keep=1):
-    """Returns whether a check of share `number` may print this text and end with this status. If it
-    accepts the first `keep` of the ranking, it prints them."""
+    """Returns whether a check of share `number` may print this text and end with this status. With
+    `keep` above 1 a check that accepts also prints 1 to `keep` lines `rank`."""
     if accepted := ACCEPTED.fullmatch(text):
         ranks = accepted["ranks"].count("\n")
         return (status == 0 and accepted.group(1, 2) == (str(number), str(share_count))

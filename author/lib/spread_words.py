@@ -71,7 +71,7 @@ def add_check(parser):
 
 
 def refuse_idle(parser, args):
-    """Refuses options that would do nothing beside the others."""
+    """Refuses some options that would do nothing beside the others."""
     pairs = [("--merge", name) for name in ["parts", "hosts"] if args.merge]
     pairs += [("--check-only", name) for name in ["parts", "all"] if args.check_only]
     for option, name in pairs:

@@ -28,7 +28,7 @@ FIGHTS = number_from(1, MOST_FIGHTS)
 
 
 class Study:
-    """A study: its words, its inputs, and its folder, in which each stage is a method."""
+    """A study: its words, inputs and folder. Each stage but the heats is a method."""
 
     def __init__(self, args, inputs):
         self.args, self.inputs = args, inputs
@@ -124,7 +124,7 @@ class Study:
         self.folder.run(words, "winner.red")
 
     def write_report(self, *results):
-        """Writes the report of the results of all stages, which are those of `report_of`."""
+        """Writes report.json and report.html from `results`, the other arguments of `report_of`."""
         report = report_of(self, *results)
         self.folder.write("report.json", (json.dumps(report, indent=1) + "\n").encode())
         self.folder.write("report.html", study_report.html_of(report).encode(errors="replace"))

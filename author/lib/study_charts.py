@@ -121,7 +121,7 @@ def draw_bars(start_opponents, winner_opponents):
 
 def draw_axes(x_scale, y_scale, name, values):
     """Yields the lines and labels of two axes. `name` is that of the constant, whose values go from
-    left to right; a few have each a tick, of many some round ones."""
+    left to right; at most MOST_TICKS have a tick each, of more only round ones."""
     for tick in y_scale.ticks():
         y = y_scale.coordinate(tick)
         yield path(f"M{LEFT} {y}H{RIGHT}", "rule")
@@ -196,8 +196,8 @@ def legend_of_line(with_start):
 
 
 def draw_effect(number, effect, y_scale, winner_value):
-    """Draws the mean totals of a constant's values with their errors. `number` is that of the
-    picture."""
+    """Draws the mean totals of a constant's values with their errors. `number`, from 0,
+    makes its id."""
     name, values, means, errors = (effect[key] for key in ("name", "values", "means", "errors"))
     x_scale = x_scale_of(values)
     points = points_of(x_scale, y_scale, values, means)

@@ -93,7 +93,7 @@ class Folder(OwnFolder):
             if not (self.path / file).is_file() or digest_of(self.path / file) != digest:
                 raise Fault(f"{self.given_path}/{file} is not as it was written: give --anew to "
                             "begin again", 2)
-        # As it is read from the mark, so that a kill changes nothing.
+        # Through JSON, as a repeated command reads it: lists for tuples, texts for keys.
         return json.loads(json.dumps(self.mark["stages"][name]["result"]))
 
     def commands(self):
@@ -109,7 +109,7 @@ class Folder(OwnFolder):
             errors="surrogateescape"))
 
     def log_command(self, words, output_name, seconds, messages=()):
-        """Adds a command to the log, without its program if that is where it is looked for.
+        """Adds a command to the log. The default program is logged as `cwtune`, without --program.
         `messages` are the lines that it wrote on standard error."""
         if self.program == DEFAULT:
             words = ["cwtune" if word == self.program else word for word in words

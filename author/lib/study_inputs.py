@@ -14,8 +14,8 @@ OPTIONS = ["rounds", "seed", "exact", "box", "fresh"]
 
 
 class Inputs(NamedTuple):
-    """The text of the warrior, the template that is made of it, or the same text, and the name and
-    the text of each opponent."""
+    """The text of WARRIOR; the template made of it, or the same text if it is one; and name and
+    text of each opponent."""
 
     warrior: bytes
     template: bytes

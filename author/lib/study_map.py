@@ -14,10 +14,10 @@ SHADES = 7
 MOST_SQUARES = 10000
 # The y at which a map begins.
 TOP = 8
-# A square that is lower shows no number, and a mark around a smaller one is this large.
+# The least height of a square that shows its number, and the least size of a mark.
 LEAST_HEIGHT = 16
 LEAST_MARK = 9
-# The shades on which a number is written in the colour for dark shades.
+# The first of the shades on which a number has the style `high`.
 FIRST_DARK = 4
 
 

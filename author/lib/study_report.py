@@ -10,8 +10,8 @@ from .study_page import (DASH, decimal, escaped, folded, fresh_percent, integer,
 WINNER_FILE = "winner.red"
 START, WINNER = '<span class="start">START</span>', '<span class="winner">winner</span>'
 OUTCOMES = "wins", "ties", "losses"
-# A table of more cells is left out, of more values only the ends are shown, and more commands are
-# folded.
+# With more totals, or more means, there is no table; of more values only the ends are shown; more
+# commands are folded.
 MOST_CELLS = 2500
 MOST_VALUES = 24
 MOST_COMMANDS = 12

@@ -19,7 +19,7 @@ class Box:
         self.cert = Certificate(str(folder / "best.cert"))
         self.fights = read_schedule(folder / "schedule.csv")
         self.ranking = self.cert.ranked(self.fights)
-        # Of each setting, not a number for one that does not assemble.
+        # By setting, NaN for one that does not assemble.
         self.totals = landscape.Totals(self.template, self.cert, self.fights).totals
 
     def values(self, setting):

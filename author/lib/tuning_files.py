@@ -166,8 +166,8 @@ class Certificate(Rows):
                 and self.ranked(fights).full[0][1] == self.best)
 
     def fights(self, schedule):
-        """Returns the fights of a schedule, which is a path. Without one each weight is 1, and the
-        fights are those of the best setting."""
+        """Returns the fights of the file `schedule`. Without it returns as many as the best setting
+        played, of weight 1, with opponent and position unknown (0)."""
         if schedule:
             fights = read_schedule(schedule)
         elif self.version == 2:

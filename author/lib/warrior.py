@@ -16,7 +16,7 @@ from .grid import is_range_line
 from .program import load_file_of, refuse_other_warrior, rules_of
 from .words import FILE_HELP, add_program, add_rules, add_words, command_parser
 
-# How the line begins after which the new lines come.
+# The new lines come after the first line that begins so.
 REDCODE_LINE = b";redcode"
 # pMARS 0.9.2 reads no longer lines.
 MOST_LINE_BYTES = 255

@@ -17,7 +17,8 @@ def naming(path):
 def whole_file(path, mode="w"):
     """Opens a new file beside `path`, which replaces `path` once all is written to it.
 
-    After a fault `path` is as it was. A device or a pipe is opened itself.
+    After a fault `path` is as it was. Any OSError of the block becomes a fault that names `path`.
+    A device or a pipe is opened itself.
     """
     target = pathlib.Path(os.path.realpath(path))
     with naming(path):

@@ -54,7 +54,7 @@ def printed(*words, **options):
 
 
 def refused(refusals, run_words):
-    """Yields for each of the refusals how its words end. `run_words` runs a list of words."""
+    """Yields the words of each refusal, and what was wrong. `run_words` runs a list of words."""
     for words, status, line in refusals:
         yield compare(words, (status, "", f"{line}\n"), run_words(words.split()))
 

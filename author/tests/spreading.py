@@ -39,7 +39,7 @@ def after_kills(place):
         err = place.kill_at(parts, signal_number, dice.uniform(0, 0.05), jobs, "--parts=12", *DECOY)
         if signal_number != signal.SIGKILL and "CERT.parts" in err:
             yield compare("a stop says how to go on", True, is_how_to_go_on(err, "parts", 12))
-        # An empty file is left if it comes while `tune` looks at the inputs.
+        # A kill while `tune` looks at the inputs leaves an empty CERT.
         is_whole = not place.read("CERT") or place.check(DECOY) == 0
         yield compare("a kill leaves no half certificate", True, is_whole)
     yield compare("ten kills change nothing", unbroken,

@@ -18,7 +18,7 @@ PLACES = {
     "a negative value": (b";@tune K -2 2 1 0\nMOV #-K, 7-K*K\n", 5),
     "no constant": (b"MOV 0, 1\n", 1),
 }
-# The name K is the last of 16 EQU names in turn, and as one itself it would be the 17th.
+# A chain of 16 EQU names, e1 to e16, that ends at K. As an EQU name K would be the 17th.
 CHAIN = b"".join([b";@tune K 3 4 1 3\n",
                   *(b"e%d EQU e%d\n" % (number, number + 1) for number in range(1, 16)),
                   b"e16 EQU K\nDAT e1\n"])
