@@ -20,7 +20,7 @@ class OwnFolder:
     COMMAND = MARK = THROWN = INSTEAD = ""
 
     def __init__(self, given_path):
-        self.given_path, self.path = given_path, pathlib.Path(given_path).resolve()
+        self.given_path, self.path = given_path, pathlib.Path(os.path.realpath(given_path))
         with naming(given_path):
             self.path.mkdir(exist_ok=True)
         self.lock = os.open(self.path, os.O_RDONLY)
