@@ -23,7 +23,7 @@ import contextlib, os, shutil, sys, time
 
 from . import cert_inputs, spread_parts, spread_shares, tuning_files
 from .endings import Fault, end_as, end_by_kill_as_by_interrupt
-from .program import EXPLAIN, rules_of, run_program
+from .program import EXPLAIN, reading_output, rules_of, run_program
 from .spread_folder import Folder
 from .spread_jobs import HostJobs, LocalJobs
 from .spread_parts import Part
@@ -84,7 +84,8 @@ def count_settings(args):
         end_as(completed.returncode, completed.stderr)
     sys.stderr.buffer.write(completed.stderr)
     sys.stderr.flush()
-    return int(completed.stdout.split()[1]), completed.stderr
+    with reading_output(args.program, "settings"):
+        return int(completed.stdout.split()[1]), completed.stderr
 
 
 def rejection_by_form(args, cert, notes):
