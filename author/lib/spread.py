@@ -50,7 +50,7 @@ def refuse_faults(args):
     """
     completed = tune_part(args, f"1/{MOST_PIECES}")
     if NO_SUCH_PART not in completed.stderr:
-        end_as(completed.returncode, completed.stderr)
+        end_as(args.program, completed.returncode, completed.stderr)
 
 
 def explain_words(args):
@@ -81,7 +81,7 @@ def count_settings(args):
     the template, which this shows."""
     completed = run_program(args.program, "settings", *explain_words(args), "--", args.template)
     if completed.returncode != 0:
-        end_as(completed.returncode, completed.stderr)
+        end_as(args.program, completed.returncode, completed.stderr)
     sys.stderr.buffer.write(completed.stderr)
     sys.stderr.flush()
     with reading_output(args.program, "settings"):
@@ -100,7 +100,7 @@ def rejection_by_form(args, cert, notes):
                             *args.opponent)
     new_stderr = completed.stderr.removeprefix(notes)
     if completed.returncode != 0 and not completed.stdout:
-        end_as(completed.returncode, new_stderr)
+        end_as(args.program, completed.returncode, new_stderr)
     sys.stderr.buffer.write(new_stderr)
     return completed.stdout.decode() if completed.returncode else ""
 
@@ -204,7 +204,7 @@ def end_without_candidate(args, folder, notes):
     """Ends as `tune` ends if no setting assembles. The notes were shown before."""
     folder.clean_up()
     completed = tune_part(args, f"1/{folder.piece_count}")
-    end_as(completed.returncode, completed.stderr.removeprefix(notes))
+    end_as(args.program, completed.returncode, completed.stderr.removeprefix(notes))
 
 
 def finish(args, folder, progress, notes):

@@ -11,7 +11,7 @@ import contextlib, json, os, pathlib, re, shlex, subprocess, sys, time
 
 from . import spread_parts, spread_shares
 from .cert_inputs import digest_of
-from .endings import Fault, end_as
+from .endings import Fault, ended_with, status_of
 from .own_folder import OwnFolder
 from .program import DEFAULT
 from .spread_jobs import end_with_parent
@@ -128,8 +128,10 @@ class Folder(OwnFolder):
             argv = [sys.executable, str(AUTHOR / words[0]), *words[1:]]
         with whole_file(self.path / output_name, "wb") as file:
             status, messages = run_in(self.path, argv, file, logs_messages)
+            if status < 0:
+                raise ended_with(words[0], status)
             if status:
-                end_as(status)
+                sys.exit(status_of(status))
         self.log_command(words, output_name, time.monotonic() - began_at, messages)
         return messages
 

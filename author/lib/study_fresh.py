@@ -66,7 +66,7 @@ class Heat:
     def refuse_failed(self, player, status):
         """Ends as the run of a player did if it has no result. Else removes what it printed."""
         if status:
-            end_as(status, self.file(player, "fault").read_bytes())
+            end_as(self.study.args.program, status, self.file(player, "fault").read_bytes())
         for kind in ["report", "fault"]:
             self.file(player, kind).unlink()
 
