@@ -27,12 +27,14 @@ def open_streams():
     """Opens the standard streams that are closed, so that no other file takes their numbers.
 
     A write to a closed standard output is then a fault; to a closed standard error, it is lost.
+    Standard output takes the name of any file, whatever bytes it has.
     """
     while (descriptor := os.open(os.devnull, os.O_RDWR)) < 3:
         pass
     os.close(descriptor)
     if sys.stdout is None:
         sys.stdout = io.TextIOWrapper(ClosedStream(), write_through=True)
+    sys.stdout.reconfigure(errors="surrogateescape")
     if sys.stderr is None:
         sys.stderr = open(os.devnull, "w")
 
