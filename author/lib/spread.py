@@ -245,8 +245,9 @@ def write_inputs(args):
     if not os.path.isfile(args.cert):
         return
     name, files = cert_inputs.name_of(args.cert), [args.template, args.schedule, *args.opponent]
-    version = run_program(args.program, "--version").stdout.decode().removeprefix("cwtune ").strip()
     try:
+        printed = run_program(args.program, "--version").stdout.decode()
+        version = printed.removeprefix("cwtune ").strip()
         text = cert_inputs.text_of(version, rules_of(args), method_of(args), args.cert, files)
         with whole_file(name, "wb") as file:
             file.write(os.fsencode(text))
