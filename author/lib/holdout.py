@@ -17,7 +17,7 @@ import math, pathlib, random, tempfile
 from typing import NamedTuple
 
 from . import cert_inputs, tuning_files
-from .endings import Fault, fault_of
+from .endings import Fault, end_by_kill_as_by_interrupt, fault_of
 from .mean_error import error_of_mean
 from .program import EXPLAIN, rules_of, run_program
 from .series import refuse_distance, refuse_fights
@@ -213,6 +213,7 @@ def read_words():
 
 
 def main():
+    end_by_kill_as_by_interrupt()
     args, why_unused = read_words()
     holdout = Holdout(args)
     holdout.print_first()

@@ -139,17 +139,17 @@ class Folder(OwnFolder):
 def run_in(folder, argv, output, returns_messages):
     """Runs a command. Returns its status, and with `returns_messages` the lines that it wrote on
     standard error, which are passed on."""
-    job = subprocess.Popen(argv, cwd=folder, stdin=subprocess.DEVNULL, stdout=output,
-                           stderr=subprocess.PIPE if returns_messages else None,
-                           preexec_fn=end_with_parent)
     messages = []
-    try:
-        for line in job.stderr or ():
-            sys.stderr.buffer.write(line)
-            sys.stderr.flush()
-            messages.append(line.decode(errors="surrogateescape").rstrip("\n"))
-        return job.wait(), messages
-    finally:
-        if job.poll() is None:
-            job.terminate()
-            job.wait()
+    with subprocess.Popen(argv, cwd=folder, stdin=subprocess.DEVNULL, stdout=output,
+                          stderr=subprocess.PIPE if returns_messages else None,
+                          preexec_fn=end_with_parent) as job:
+        try:
+            for line in job.stderr or ():
+                sys.stderr.buffer.write(line)
+                sys.stderr.flush()
+                messages.append(line.decode(errors="surrogateescape").rstrip("\n"))
+            return job.wait(), messages
+        finally:
+            if job.poll() is None:
+                job.terminate()
+                job.wait()
