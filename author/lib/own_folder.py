@@ -23,11 +23,11 @@ class OwnFolder:
         self.given_path, self.path = given_path, pathlib.Path(os.path.realpath(given_path))
         with naming(given_path):
             self.path.mkdir(exist_ok=True)
-        self.lock = os.open(self.path, os.O_RDONLY)
-        try:
-            fcntl.flock(self.lock, fcntl.LOCK_EX | fcntl.LOCK_NB)
-        except BlockingIOError:
-            raise Fault(f"another {self.COMMAND} is at work in {given_path}", 2) from None
+            self.lock = os.open(self.path, os.O_RDONLY)
+            try:
+                fcntl.flock(self.lock, fcntl.LOCK_EX | fcntl.LOCK_NB)
+            except BlockingIOError:
+                raise Fault(f"another {self.COMMAND} is at work in {given_path}", 2) from None
 
     def maker(self):
         """Returns the command with the version of its folders."""

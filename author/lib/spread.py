@@ -234,7 +234,7 @@ def finish(args, folder, progress, notes):
 
 def write_cert(args, whole):
     """Copies the certificate of the whole template to CERT, and writes CERT.inputs."""
-    with whole_file(args.cert) as file, whole.open() as source:
+    with whole.open() as source, whole_file(args.cert) as file:
         shutil.copyfileobj(source, file)
     write_inputs(args)
 

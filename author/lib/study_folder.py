@@ -15,7 +15,7 @@ from .endings import Fault, ended_with, status_of
 from .own_folder import OwnFolder
 from .program import DEFAULT
 from .spread_jobs import end_with_parent
-from .writing import whole_file
+from .writing import naming, whole_file
 
 AUTHOR = pathlib.Path(__file__).resolve().parents[1]
 FILES = ("template.red warrior.red start.red schedule.csv box.red best.cert best.cert.inputs "
@@ -145,8 +145,9 @@ def run_in(folder, argv, output, returns_messages):
                           preexec_fn=end_with_parent) as job:
         try:
             for line in job.stderr or ():
-                sys.stderr.buffer.write(line)
-                sys.stderr.flush()
+                with naming("standard error"):
+                    sys.stderr.buffer.write(line)
+                    sys.stderr.flush()
                 messages.append(line.decode(errors="surrogateescape").rstrip("\n"))
             return job.wait(), messages
         finally:
