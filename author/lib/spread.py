@@ -194,7 +194,7 @@ def refuse_ranking(args, cert):
     """Refuses parts of a cluster that do not show the first of the ranking."""
     if args.merge and args.keep > 1:
         fights = tuning_files.read_schedule(args.schedule)
-        _, dropped, exact = tuning_files.Certificate(str(cert)).ranked(fights)
+        _, dropped, exact = tuning_files.Certificate(cert).ranked(fights)
         if dropped and exact < args.keep:
             raise Fault(f"the parts show the first {exact} of the ranking, and not {args.keep}: "
                         f"were they tuned with --keep {args.keep}?", 2)
@@ -261,7 +261,7 @@ def print_start(args, whole):
     is the certificate."""
     if not explain_words(args):
         return
-    cert, template = tuning_files.Certificate(str(whole)), tuning_files.Template(args.template)
+    cert, template = tuning_files.Certificate(whole), tuning_files.Template(args.template)
     total = cert.total_of(template.start, tuning_files.read_schedule(args.schedule))
     if total is not None:
         print(f"  START, setting {template.start}, total {total} "

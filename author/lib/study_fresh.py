@@ -72,7 +72,7 @@ class Heat:
 
     def points(self, player):
         """Returns the points of a player, which are in its certificate."""
-        points = Certificate(str(self.file(player, "cert"))).points(0)
+        points = Certificate(self.file(player, "cert")).points(0)
         digits = "".join(str(points[index]) for index in range(len(points)))
         return [digits[first:first + self.fights] for first in range(0, len(digits), self.fights)]
 

@@ -178,7 +178,7 @@ class Certificate(Rows):
         if not self.is_of(fights):
             complaint = (f" is not a certificate of the schedule {schedule}" if schedule
                          else ": its rows are not those of its best setting and total")
-            raise Fault(self.path + complaint, 2)
+            raise Fault(f"{self.path}{complaint}", 2)
         return fights
 
     def total_of(self, setting, fights):
