@@ -271,6 +271,8 @@ def print_start(args, whole):
 def tune(args, setting_count, notes):
     """Tunes the template in parts, or puts together what the jobs of a cluster wrote. Returns the
     status."""
+    if args.merge and args.merge > setting_count:
+        raise Fault(f"--merge {args.merge}: the template has fewer than {args.merge} settings", 2)
     folder = (spread_parts.ClusterParts(args, setting_count) if args.merge
               else spread_parts.Parts(args, setting_count, tune_options(args)))
     progress = PartsProgress(folder, args.progress)
