@@ -76,7 +76,8 @@ class Tunings:
         if completed.returncode == 1 and completed.stderr.endswith(NO_CANDIDATE.encode()):
             return None
         if completed.returncode != 0:
-            end_as(completed.args[0], completed.returncode, completed.stderr)
+            end_as(self.args.program if self.args.jobs == 1 else "cwtune-spread",
+                   completed.returncode, completed.stderr)
         with reading_output(self.args.program, "tune"):
             report = dict(line.split(" ", 1) for line in completed.stdout.decode().splitlines())
             total, _, self.greatest = report["total"].split()
