@@ -26,7 +26,8 @@ class CertInputs:
     def __init__(self, text):
         lines = [line.split(" ", 1) for line in lines_of(text)]
         fields = dict(lines)
-        self.rules = Rules(*map(int, fields["rules"].split()))
+        # Unlike the class, `_make` wants all five.
+        self.rules = Rules._make(map(int, fields["rules"].split()))
         self.part, self.method = fields["part"], fields["method"]
         self.cert, self.folder = fields["cert"], fields["folder"]
         self.files = {kind: [tuning_file_of(field) for word, field in lines if word == kind]

@@ -27,12 +27,14 @@ def open_streams():
     """Opens the standard streams that are closed, so that no other file takes their numbers.
 
     A write to a closed standard output is then a fault; to a closed standard error, it is lost.
+    Standard output takes the name of any file, whatever bytes it has.
     """
     while (descriptor := os.open(os.devnull, os.O_RDWR)) < 3:
         pass
     os.close(descriptor)
     if sys.stdout is None:
         sys.stdout = io.TextIOWrapper(ClosedStream(), write_through=True)
+    sys.stdout.reconfigure(errors="surrogateescape")
     if sys.stderr is None:
         sys.stderr = open(os.devnull, "w")
 
@@ -83,9 +85,17 @@ def status_of(returncode):
     return returncode if returncode in (1, 2) else 3
 
 
-def end_as(returncode, stderr=b""):
-    """Ends as a run of `cwtune` did: with what it wrote on standard error, and with its status."""
+def ended_with(program, returncode):
+    """Returns the fault of a run of a program of which no more is known than its status."""
+    return Fault(f"{program} ended with status {returncode}", status_of(returncode))
+
+
+def end_as(program, returncode, stderr):
+    """Ends as a run of `cwtune` did: with what it wrote on standard error, and with its status. If
+    it wrote nothing, or was killed, the fault names its status."""
     sys.stderr.buffer.write(stderr)
+    if returncode < 0 or not stderr:
+        raise ended_with(program, returncode)
     sys.exit(status_of(returncode))
 
 
@@ -95,8 +105,9 @@ def fault_of(completed):
     status = status_of(completed.returncode)
     stderr = "\n" + completed.stderr.decode(errors="surrogateescape").strip("\n")
     notes, _, fault = stderr.partition(f"\n{STATUS_WORDS[status]}: ")
-    ended = f"{completed.args[0]} ended with status {completed.returncode}"
-    return Fault((fault + notes).strip() or ended, status)
+    message = (fault + notes).strip()
+    return (Fault(message, status) if message
+            else ended_with(completed.args[0], completed.returncode))
 
 
 def end_by(signal_number):

@@ -17,7 +17,7 @@ import math, pathlib, random, tempfile
 from typing import NamedTuple
 
 from . import cert_inputs, tuning_files
-from .endings import Fault, fault_of
+from .endings import Fault, end_by_kill_as_by_interrupt, fault_of
 from .mean_error import error_of_mean
 from .program import EXPLAIN, rules_of, run_program
 from .series import refuse_distance, refuse_fights
@@ -84,7 +84,8 @@ class FreshFights:
             template, schedule, cert = files
             template.write_bytes(b";@tune ONE 0 0 1 0\n" + load_file)
             schedule.write_text(self.schedule())
-            output_of(args.program, "tune", *EXPLAIN, *rules, *files, *args.opponents)
+            output_of(args.program, "tune", *EXPLAIN, *rules, "--", *files,
+                      *args.opponents)
             points = tuning_files.Certificate(cert).points(0)
         rounds = args.rounds
         return FreshPoints([[points[opponent * rounds + index] for index in range(rounds)]
@@ -131,7 +132,7 @@ class Holdout:
     def fresh_points(self, setting):
         """Returns what a setting makes in the fresh fights, which it plays once."""
         if setting not in self.points:
-            self.points[setting] = self.fresh_fights.play("--setting", str(setting),
+            self.points[setting] = self.fresh_fights.play(f"--setting={setting}", "--",
                                                           self.args.template)
         return self.points[setting]
 
@@ -213,6 +214,7 @@ def read_words():
 
 
 def main():
+    end_by_kill_as_by_interrupt()
     args, why_unused = read_words()
     holdout = Holdout(args)
     holdout.print_first()

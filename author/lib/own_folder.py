@@ -20,14 +20,14 @@ class OwnFolder:
     COMMAND = MARK = THROWN = INSTEAD = ""
 
     def __init__(self, given_path):
-        self.given_path, self.path = given_path, pathlib.Path(given_path).resolve()
+        self.given_path, self.path = given_path, pathlib.Path(os.path.realpath(given_path))
         with naming(given_path):
             self.path.mkdir(exist_ok=True)
-        self.lock = os.open(self.path, os.O_RDONLY)
-        try:
-            fcntl.flock(self.lock, fcntl.LOCK_EX | fcntl.LOCK_NB)
-        except BlockingIOError:
-            raise Fault(f"another {self.COMMAND} is at work in {given_path}", 2) from None
+            self.lock = os.open(self.path, os.O_RDONLY)
+            try:
+                fcntl.flock(self.lock, fcntl.LOCK_EX | fcntl.LOCK_NB)
+            except BlockingIOError:
+                raise Fault(f"another {self.COMMAND} is at work in {given_path}", 2) from None
 
     def maker(self):
         """Returns the command with the version of its folders."""

@@ -69,11 +69,11 @@ class Warriors:
 
     def read_load_files(self, args):
         """Assembles each setting whose row does not name another one with an equal warrior."""
-        words = [*rules_of(args).words(), "--setting"]
+        rules = rules_of(args).words()
         settings = [setting for setting, row in enumerate(self.cert.rows) if row[0] == "cap"]
 
         def load_file(setting):
-            return assemble(args.program, *words, str(setting), args.template)[0]
+            return assemble(args.program, *rules, f"--setting={setting}", "--", args.template)[0]
 
         with concurrent.futures.ThreadPoolExecutor(os.cpu_count()) as pool:
             self.load_files = dict(zip(settings, pool.map(load_file, settings)))

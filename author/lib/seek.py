@@ -16,7 +16,7 @@ from typing import NamedTuple
 
 from .endings import Fault, end_as, end_by_kill_as_by_interrupt
 from .grid import Grid
-from .program import NO_CANDIDATE, rules_of, run_program
+from .program import NO_CANDIDATE, reading_output, rules_of, run_program
 from .tuning_files import MOST_SETTINGS
 from .words import add_program, add_rules, add_words, command_parser, counted, number_from
 
@@ -76,11 +76,13 @@ class Tunings:
         if completed.returncode == 1 and completed.stderr.endswith(NO_CANDIDATE.encode()):
             return None
         if completed.returncode != 0:
-            end_as(completed.returncode, completed.stderr)
-        report = dict(line.split(" ", 1) for line in completed.stdout.decode().splitlines())
-        total, _, self.greatest = report["total"].split()
-        return BestOfLine(int(total), self.grid.values_of(report["constants"]),
-                          int(report["fights"].split()[0]))
+            end_as(self.args.program if self.args.jobs == 1 else "cwtune-spread",
+                   completed.returncode, completed.stderr)
+        with reading_output(self.args.program, "tune"):
+            report = dict(line.split(" ", 1) for line in completed.stdout.decode().splitlines())
+            total, _, self.greatest = report["total"].split()
+            return BestOfLine(int(total), self.grid.values_of(report["constants"]),
+                              int(report["fights"].split()[0]))
 
     def run(self):
         """Runs `cwtune tune`, or `cwtune-spread` if there are several jobs."""

@@ -23,7 +23,7 @@ import contextlib, os, shutil, sys, time
 
 from . import cert_inputs, spread_parts, spread_shares, tuning_files
 from .endings import Fault, end_as, end_by_kill_as_by_interrupt
-from .program import EXPLAIN, rules_of, run_program
+from .program import EXPLAIN, reading_output, rules_of, run_program
 from .spread_folder import Folder
 from .spread_jobs import HostJobs, LocalJobs
 from .spread_parts import Part
@@ -50,7 +50,7 @@ def refuse_faults(args):
     """
     completed = tune_part(args, f"1/{MOST_PIECES}")
     if NO_SUCH_PART not in completed.stderr:
-        end_as(completed.returncode, completed.stderr)
+        end_as(args.program, completed.returncode, completed.stderr)
 
 
 def explain_words(args):
@@ -81,10 +81,11 @@ def count_settings(args):
     the template, which this shows."""
     completed = run_program(args.program, "settings", *explain_words(args), "--", args.template)
     if completed.returncode != 0:
-        end_as(completed.returncode, completed.stderr)
+        end_as(args.program, completed.returncode, completed.stderr)
     sys.stderr.buffer.write(completed.stderr)
     sys.stderr.flush()
-    return int(completed.stdout.split()[1]), completed.stderr
+    with reading_output(args.program, "settings"):
+        return int(completed.stdout.split()[1]), completed.stderr
 
 
 def rejection_by_form(args, cert, notes):
@@ -99,7 +100,7 @@ def rejection_by_form(args, cert, notes):
                             *args.opponent)
     new_stderr = completed.stderr.removeprefix(notes)
     if completed.returncode != 0 and not completed.stdout:
-        end_as(completed.returncode, new_stderr)
+        end_as(args.program, completed.returncode, new_stderr)
     sys.stderr.buffer.write(new_stderr)
     return completed.stdout.decode() if completed.returncode else ""
 
@@ -193,7 +194,7 @@ def refuse_ranking(args, cert):
     """Refuses parts of a cluster that do not show the first of the ranking."""
     if args.merge and args.keep > 1:
         fights = tuning_files.read_schedule(args.schedule)
-        _, dropped, exact = tuning_files.Certificate(str(cert)).ranked(fights)
+        _, dropped, exact = tuning_files.Certificate(cert).ranked(fights)
         if dropped and exact < args.keep:
             raise Fault(f"the parts show the first {exact} of the ranking, and not {args.keep}: "
                         f"were they tuned with --keep {args.keep}?", 2)
@@ -203,7 +204,7 @@ def end_without_candidate(args, folder, notes):
     """Ends as `tune` ends if no setting assembles. The notes were shown before."""
     folder.clean_up()
     completed = tune_part(args, f"1/{folder.piece_count}")
-    end_as(completed.returncode, completed.stderr.removeprefix(notes))
+    end_as(args.program, completed.returncode, completed.stderr.removeprefix(notes))
 
 
 def finish(args, folder, progress, notes):
@@ -233,7 +234,7 @@ def finish(args, folder, progress, notes):
 
 def write_cert(args, whole):
     """Copies the certificate of the whole template to CERT, and writes CERT.inputs."""
-    with whole_file(args.cert) as file, whole.open() as source:
+    with whole.open() as source, whole_file(args.cert) as file:
         shutil.copyfileobj(source, file)
     write_inputs(args)
 
@@ -244,8 +245,9 @@ def write_inputs(args):
     if not os.path.isfile(args.cert):
         return
     name, files = cert_inputs.name_of(args.cert), [args.template, args.schedule, *args.opponent]
-    version = run_program(args.program, "--version").stdout.decode().removeprefix("cwtune ").strip()
     try:
+        printed = run_program(args.program, "--version").stdout.decode()
+        version = printed.removeprefix("cwtune ").strip()
         text = cert_inputs.text_of(version, rules_of(args), method_of(args), args.cert, files)
         with whole_file(name, "wb") as file:
             file.write(os.fsencode(text))
@@ -259,7 +261,7 @@ def print_start(args, whole):
     is the certificate."""
     if not explain_words(args):
         return
-    cert, template = tuning_files.Certificate(str(whole)), tuning_files.Template(args.template)
+    cert, template = tuning_files.Certificate(whole), tuning_files.Template(args.template)
     total = cert.total_of(template.start, tuning_files.read_schedule(args.schedule))
     if total is not None:
         print(f"  START, setting {template.start}, total {total} "
@@ -269,6 +271,8 @@ def print_start(args, whole):
 def tune(args, setting_count, notes):
     """Tunes the template in parts, or puts together what the jobs of a cluster wrote. Returns the
     status."""
+    if args.merge and args.merge > setting_count:
+        raise Fault(f"--merge {args.merge}: the template has fewer than {args.merge} settings", 2)
     folder = (spread_parts.ClusterParts(args, setting_count) if args.merge
               else spread_parts.Parts(args, setting_count, tune_options(args)))
     progress = PartsProgress(folder, args.progress)

@@ -3,7 +3,7 @@
 A folder says what each job is, by the number of a piece or the player of a heat: `prepare` writes
 what it reads, `words` is what it runs in `path`, and `file` where each kind of output goes.
 """
-import contextlib, ctypes, pathlib, shutil, signal, subprocess
+import contextlib, ctypes, os, shutil, signal, subprocess
 
 from .endings import Fault
 
@@ -81,7 +81,7 @@ class HostJobs:
         folder, piece = self.folder, f"{{}}.{self.folder.pid}"
         job = JOB.format(words=" ".join(folder.words("{}")), piece=piece,
                          after=folder.SHELL_AFTER.format(piece=piece))
-        hosts = str(pathlib.Path(args.hosts).resolve(strict=True))
+        hosts = os.path.realpath(args.hosts, strict=True)
         options = [("--jobs", str(args.jobs)), ("--retries", "3"), ("--sshloginfile", hosts),
                    ("--workdir", str(folder.path)), ("--cleanup",),
                    *(("--basefile", copy.name) for copy in folder.copies),

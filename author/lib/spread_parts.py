@@ -10,7 +10,7 @@ The floor of a part is the best of the totals that are known when it begins, wit
 best of them, or one more if the setting with this total comes before the part. If none of its
 settings reaches its floor, its report and its certificate say so.
 """
-import contextlib, pathlib, re, subprocess
+import contextlib, os, pathlib, re, subprocess
 from typing import NamedTuple
 
 from .cert_inputs import sha256_of
@@ -116,7 +116,9 @@ class ClusterParts:
         return part_of(number, self.piece_count, self.setting_count, report)
 
     def whole(self):
-        return pathlib.Path(f"{self.given_path}.whole")
+        """Returns where the certificate of the whole template is put together: a file that only
+        this run has."""
+        return pathlib.Path(f"{self.given_path}.whole.{os.getpid()}.new")
 
     def clean_up(self):
         """Leaves the files of the jobs where they are."""

@@ -1,7 +1,7 @@
 """Adds the options of `cwtune-spread` to its parser, and refuses those that do not fit together."""
 import os
 
-from .tuning_files import MOST_KEPT
+from .tuning_files import MOST_KEPT, MOST_SETTINGS
 from .words import add_program, add_rules, add_words, number_from
 
 # The most parts and the most shares that the program takes.
@@ -40,9 +40,9 @@ def add_jobs(parser):
                        "ssh (--sshloginfile of GNU parallel; `:` is this one)")
     group.add_argument("--anew", action="store_true",
                        help="throw away what is done, and begin again")
-    group.add_argument("--merge", type=number_from(1), metavar="K", help="run nothing, and put "
-                       "together what K jobs of a cluster wrote: CERT.1 .. CERT.K, or with "
-                       "--check-only CERT.1.check .. CERT.K.check")
+    group.add_argument("--merge", type=number_from(1, MOST_SETTINGS), metavar="K",
+                       help="run nothing, and put together what K jobs of a cluster wrote: CERT.1 "
+                       ".. CERT.K, or with --check-only CERT.1.check .. CERT.K.check")
 
 
 def add_search(parser):
@@ -74,6 +74,8 @@ def refuse_idle(parser, args):
     """Refuses some options that would do nothing beside the others."""
     pairs = [("--merge", name) for name in ["parts", "hosts"] if args.merge]
     pairs += [("--check-only", name) for name in ["parts", "all"] if args.check_only]
+    pairs += [("--check-only --merge", name) for name in ["shares", "work"]
+              if args.check_only and args.merge]
     for option, name in pairs:
         if getattr(args, name):
             parser.error(f"argument {option}: not allowed with argument --{name}")

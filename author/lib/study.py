@@ -97,7 +97,7 @@ class Study:
 
     def first_settings(self):
         """Returns the first settings of the ranking of the box."""
-        cert = Certificate(str(self.folder.path / "best.cert"))
+        cert = Certificate(self.folder.path / "best.cert")
         ranking = cert.ranked(read_schedule(self.folder.path / "schedule.csv"))
         return [setting for _, setting in ranking.full[:study_fresh.FIRST]]
 

@@ -11,11 +11,11 @@ import contextlib, json, os, pathlib, re, shlex, subprocess, sys, time
 
 from . import spread_parts, spread_shares
 from .cert_inputs import digest_of
-from .endings import Fault, end_as
+from .endings import Fault, ended_with, status_of
 from .own_folder import OwnFolder
 from .program import DEFAULT
 from .spread_jobs import end_with_parent
-from .writing import whole_file
+from .writing import naming, whole_file
 
 AUTHOR = pathlib.Path(__file__).resolve().parents[1]
 FILES = ("template.red warrior.red start.red schedule.csv box.red best.cert best.cert.inputs "
@@ -128,8 +128,10 @@ class Folder(OwnFolder):
             argv = [sys.executable, str(AUTHOR / words[0]), *words[1:]]
         with whole_file(self.path / output_name, "wb") as file:
             status, messages = run_in(self.path, argv, file, logs_messages)
+            if status < 0:
+                raise ended_with(words[0], status)
             if status:
-                end_as(status)
+                sys.exit(status_of(status))
         self.log_command(words, output_name, time.monotonic() - began_at, messages)
         return messages
 
@@ -137,17 +139,18 @@ class Folder(OwnFolder):
 def run_in(folder, argv, output, returns_messages):
     """Runs a command. Returns its status, and with `returns_messages` the lines that it wrote on
     standard error, which are passed on."""
-    job = subprocess.Popen(argv, cwd=folder, stdin=subprocess.DEVNULL, stdout=output,
-                           stderr=subprocess.PIPE if returns_messages else None,
-                           preexec_fn=end_with_parent)
     messages = []
-    try:
-        for line in job.stderr or ():
-            sys.stderr.buffer.write(line)
-            sys.stderr.flush()
-            messages.append(line.decode(errors="surrogateescape").rstrip("\n"))
-        return job.wait(), messages
-    finally:
-        if job.poll() is None:
-            job.terminate()
-            job.wait()
+    with subprocess.Popen(argv, cwd=folder, stdin=subprocess.DEVNULL, stdout=output,
+                          stderr=subprocess.PIPE if returns_messages else None,
+                          preexec_fn=end_with_parent) as job:
+        try:
+            for line in job.stderr or ():
+                with naming("standard error"):
+                    sys.stderr.buffer.write(line)
+                    sys.stderr.flush()
+                messages.append(line.decode(errors="surrogateescape").rstrip("\n"))
+            return job.wait(), messages
+        finally:
+            if job.poll() is None:
+                job.terminate()
+                job.wait()

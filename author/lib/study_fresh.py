@@ -66,13 +66,13 @@ class Heat:
     def refuse_failed(self, player, status):
         """Ends as the run of a player did if it has no result. Else removes what it printed."""
         if status:
-            end_as(status, self.file(player, "fault").read_bytes())
+            end_as(self.study.args.program, status, self.file(player, "fault").read_bytes())
         for kind in ["report", "fault"]:
             self.file(player, kind).unlink()
 
     def points(self, player):
         """Returns the points of a player, which are in its certificate."""
-        points = Certificate(str(self.file(player, "cert"))).points(0)
+        points = Certificate(self.file(player, "cert")).points(0)
         digits = "".join(str(points[index]) for index in range(len(points)))
         return [digits[first:first + self.fights] for first in range(0, len(digits), self.fights)]
 

@@ -16,7 +16,7 @@ class Box:
 
     def __init__(self, folder):
         self.template = Template(folder / "box.red")
-        self.cert = Certificate(str(folder / "best.cert"))
+        self.cert = Certificate(folder / "best.cert")
         self.fights = read_schedule(folder / "schedule.csv")
         self.ranking = self.cert.ranked(self.fights)
         # By setting, NaN for one that does not assemble.

@@ -12,9 +12,9 @@ from .grid import Grid
 
 HEADER = ["opponent", "position", "first"]
 # What `cwtune` takes at most: of a template its bytes, constants and settings, of a schedule its
-# fights, of a tuning its opponents and how many of the ranking it keeps.
+# fights and their weights, of a tuning its opponents and how many of the ranking it keeps.
 MOST_BYTES, MOST_CONSTANTS, MOST_SETTINGS = 65536, 8, 1000000
-MOST_FIGHTS, MOST_OPPONENTS, MOST_KEPT = 10000, 64, 1000
+MOST_FIGHTS, MOST_WEIGHT, MOST_OPPONENTS, MOST_KEPT = 10000, 1000, 64, 1000
 
 
 class Fight(NamedTuple):
@@ -156,13 +156,14 @@ class Certificate(Rows):
                         f"{self.total}")
 
     def is_of(self, fights):
-        """Returns whether the certificate can be of these fights: it lists no other ones, and its
-        best setting played them all, has its total, and is the first of the ranking."""
+        """Returns whether the certificate can be of these fights: there is one, it lists no other
+        ones, and its best setting played them all, has its total, and is the first of the
+        ranking."""
         best_points = self.points(self.best)
         listed = [content for kind, content in self.rows if kind == "cap"]
         if any(not 0 <= index < len(fights) for points in listed for index in points):
             return False
-        return (len(best_points) == len(fights) and cap(best_points, fights) == self.total
+        return (0 < len(best_points) == len(fights) and cap(best_points, fights) == self.total
                 and self.ranked(fights).full[0][1] == self.best)
 
     def fights(self, schedule):
@@ -177,7 +178,7 @@ class Certificate(Rows):
         if not self.is_of(fights):
             complaint = (f" is not a certificate of the schedule {schedule}" if schedule
                          else ": its rows are not those of its best setting and total")
-            raise Fault(self.path + complaint, 2)
+            raise Fault(f"{self.path}{complaint}", 2)
         return fights
 
     def total_of(self, setting, fights):
@@ -227,7 +228,10 @@ def schedule_text(fights):
 
 
 def read_fight(record):
+    """Returns a fight, or raises a ValueError if the record is not one."""
     opponent, position, first, weight = record
+    if int(opponent) < 0 or not 1 <= int(weight) <= MOST_WEIGHT:
+        raise ValueError
     return Fight(int(opponent), int(position), first, int(weight))
 
 

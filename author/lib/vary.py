@@ -151,9 +151,10 @@ def refuse_ranges(args, text):
 
     For this each constant has its START alone, as `cwtune` takes at most a million settings.
     """
-    names = {name for name, _ in args.ranges}
-    starts = [ConstantRange(equ.name, range(equ.value, equ.value + 1)) for equ in equs_of(text)
-              if equ.name in names]
+    equs = equs_of(text)
+    values_of_starts = ((name, equ_of(args.warrior, equs, name, values).value)
+                        for name, values in args.ranges)
+    starts = [ConstantRange(name, range(value, value + 1)) for name, value in values_of_starts]
     template = template_of(args.warrior, text, starts).encode("latin-1")
     rules = rules_of(args).words()
     load_file = load_file_of(args.program, args.warrior, *rules, "--", args.warrior)

@@ -18,6 +18,10 @@ RIGHT = {
     "two.red": b";@tune K 0 1 1 0\nJMP 1-K\n",
     "plain.red": b"MOV 0, 1\n",
     "maps.red": b";@tune A 0 36 1 0\n;@tune B 0 0 1 0\n;@tune C 0 0 1 0\nMOV 0, 1\n",
+    # What a job of a cluster leaves if no setting assembles, and a file of the user.
+    "none.cert.1.fault": b"refused: NoCandidate\n",
+    "none.cert.1.report": b"",
+    "none.cert.whole": b"of the user\n",
     # Certificates of the last two, and one in which no setting reaches the floor.
     "plain.cert": b"cwcert,1,1\nbest,0,3\ncap,0,0:3\n",
     "maps.cert": b"cwcert,1,37\nbest,0,3\ncap,0,0:3\n" + b"".join(
@@ -32,6 +36,11 @@ RIGHT = {
                       b"cap,3,0:0\n",
 }
 NOT_OF_ANY_KIND = {"binary": bytes(range(256)), "empty": b""}
+NOT_SCHEDULES = {
+    "weight-0.csv": b"opponent,position,first,weight\n0,3670,c,0\n",
+    "weight-1001.csv": b"opponent,position,first,weight\n0,3670,c,1001\n",
+    "opponent-below-0.csv": b"opponent,position,first\n-1,3670,c\n",
+}
 NOT_CERTIFICATES = {
     "row-of-two-fields.cert": b"cwcert,1,1\nbest,0,3\ncap,0\n",
     "same-as-no-setting.cert": b"cwcert,1,2\nbest,0,3\ncap,0,0:3\nsame,1,2\n",
@@ -44,6 +53,10 @@ WRONG_CERTIFICATES = {
                                                                             b"best,3,17"),
     "more-than-the-best.cert": b"cwcert,1,2\nbest,1,3\ncap,0,0:3 1:3\ncap,1,0:3 1:0\n",
     "no-such-fight.cert": b"cwcert,1,2\nbest,0,4\ncap,0,0:3 1:1\ncap,1,-9:0\n",
+    "no-fights.cert": b"cwcert,1,2\nbest,0,0\ncap,0,-\nsame,1,0\n",
+    "four-rules.cert": b"cwcert,1,1\nbest,0,3\ncap,0,0:3\n",
+    "four-rules.cert.inputs": b"rules 8000 80000 8000 100\npart 1/1\nmethod all\ncert 1 x\n"
+                              b"folder .\ntemplate 1 x t\nschedule 1 x s\nopponent 1 x o\n",
 }
 WRONG_TEMPLATES = {
     "65537-bytes.red": b";" * 65537,
@@ -51,7 +64,12 @@ WRONG_TEMPLATES = {
     "constant-twice.red": b";@tune K 0 5 1 1\n;@tune K 0 5 1 1\nMOV 0, K\n",
     "too-many-settings.red": b"".join(b";@tune %c 0 9999 1 0\n" % name for name in b"ABC"),
 }
-FILES = RIGHT | NOT_OF_ANY_KIND | NOT_CERTIFICATES | WRONG_CERTIFICATES | WRONG_TEMPLATES
+WRONG_WARRIORS = {
+    "two-equs.red": b"STEP EQU 5\nSTEP EQU x\nMOV 0, STEP\n",
+    "no-candidate.red": b";@tune K 0 1 1 0\nJMP x\n",
+}
+FILES = (RIGHT | NOT_OF_ANY_KIND | NOT_SCHEDULES | NOT_CERTIFICATES | WRONG_CERTIFICATES
+         | WRONG_TEMPLATES | WRONG_WARRIORS)
 
 NO_FILE = "No such file or directory"
 CANNOT_BE_READ = [
@@ -60,6 +78,8 @@ CANNOT_BE_READ = [
     Refusal("cwtune-scores step.cert .", 3, "failed: .: Is a directory"),
     Refusal("cwtune-files none", 3, f"failed: none: {NO_FILE}"),
     Refusal("cwtune-landscape none step.cert x.png", 3, f"failed: none: {NO_FILE}"),
+    # A symbolic link to itself.
+    Refusal("cwtune-study --out loop two.red plain.red", 3, "failed: loop: File exists"),
 ]
 OF_ANOTHER_KIND = [
     *(Refusal(f"cwtune-files {name}", 1,
@@ -69,7 +89,7 @@ OF_ANOTHER_KIND = [
       for name in [*NOT_OF_ANY_KIND, *NOT_CERTIFICATES, "schedule.csv"]),
     Refusal("cwtune-landscape step.red binary x.png", 1, "refused: binary: not a certificate"),
     *(Refusal(f"cwtune-scores step.cert {name}", 1, f"refused: {name}: not a schedule")
-      for name in [*NOT_OF_ANY_KIND, "step.cert"]),
+      for name in [*NOT_OF_ANY_KIND, *NOT_SCHEDULES, "step.cert"]),
 ]
 NO_BEST_SETTING = [
     Refusal(words, 1, "refused: below-floor.cert: it names no best setting, since none reaches the "
@@ -102,6 +122,7 @@ OF_ANOTHER_SCHEDULE = [
       for words, cert in [
           ("cwtune-holdout --top 1 two.red more-than-the-best.cert x.red",
            "more-than-the-best.cert"),
+          ("cwtune-holdout --top 1 two.red no-fights.cert x.red", "no-fights.cert"),
           ("cwtune-landscape two.red no-such-fight.cert x.png", "no-such-fight.cert"),
           ("cwtune-landscape step.red total-17-and-not-16.cert x.png",
            "total-17-and-not-16.cert")]),
@@ -143,8 +164,38 @@ WRONG_PICTURES = [
                   f"the picture's name has to end with .png or .svg: {name}")
       for name in ["x.jpg", "x", "png"]),
 ]
+WRONG_INPUTS = [
+    usage_error("cwtune-scores four-rules.cert",
+                "give SCHEDULE: four-rules.cert.inputs is malformed"),
+]
+NOT_ASSEMBLED = [
+    Refusal("cwtune-vary two-equs.red STEP=1:9", 1,
+            "refused: two-equs.red does not assemble: Asm line 2 Expand DuplicateName"),
+    Refusal("cwtune-spread --merge 1 no-candidate.red two.csv none.cert plain.red", 1,
+            "refused: NoCandidate"),
+]
+# A program that prints nothing, and ends with the status 0.
+NOT_CWTUNE = [
+    Refusal(words, 3, f"failed: /bin/true{fault}") for words, fault in [
+        ("cwtune-seek --program /bin/true two.red two.csv plain.red",
+         " tune: not the output of cwtune"),
+        ("cwtune-spread --program /bin/true --check-only two.red two.csv x.cert plain.red",
+         " settings: not the output of cwtune"),
+        ("cwtune-spread --program /bin/true two.red two.csv x.cert plain.red",
+         " ended with status 0")]
+]
+WRONG_MERGES = [
+    usage_error("cwtune-spread --merge 1000001 two.red two.csv x.cert plain.red",
+                "argument --merge: 1000001 is not 1 to 1000000"),
+    Refusal("cwtune-spread --merge 3 two.red two.csv x.cert plain.red", 2,
+            "error: --merge 3: the template has fewer than 3 settings"),
+    *(usage_error(f"cwtune-spread --check-only --merge 2 {option} 2 two.red two.csv x.cert x.red",
+                  f"argument --check-only --merge: not allowed with argument {option}")
+      for option in ["--shares", "--work"]),
+]
 REFUSALS = [*CANNOT_BE_READ, *OF_ANOTHER_KIND, *NO_BEST_SETTING, *OF_WRONG_TEMPLATES,
-            *OF_ANOTHER_SCHEDULE, *WRONG_NUMBERS, *WRONG_PICTURES]
+            *OF_ANOTHER_SCHEDULE, *WRONG_NUMBERS, *WRONG_PICTURES, *WRONG_INPUTS, *NOT_ASSEMBLED,
+            *NOT_CWTUNE, *WRONG_MERGES]
 # What is refused only once matplotlib is there.
 NOT_DRAWN = [
     Refusal("cwtune-landscape step.red step.cert none/x.png", 3, f"failed: none/x.png: {NO_FILE}"),
@@ -161,6 +212,7 @@ def trials(python, draws):
             pathlib.Path(folder, path.name).write_bytes(path.read_bytes())
         for name, text in FILES.items():
             pathlib.Path(folder, name).write_bytes(text)
+        os.symlink("loop", f"{folder}/loop")
         before = sorted(os.listdir(folder))
         yield from refused(REFUSALS + NOT_DRAWN * draws,
                            lambda words: run(*words, folder=folder, python=python))
