@@ -6,7 +6,7 @@ from author.lib.spread_jobs import HostJobs
 from gate.inputs import RULES
 from gate.tally import compare
 
-from .commands import played
+from .commands import in_folders
 from .spread_place import DECOY, RANKED, SpreadPlace, write_ranked
 
 
@@ -163,5 +163,5 @@ def merged_rankings(place):
 
 
 def trials(program):
-    return played("cwtune-spread", lambda folder: SpreadPlace(program, folder), [
+    return in_folders(lambda folder: SpreadPlace(program, folder), [
         hosts, merged, merged_others, damaged, damaged_without_inputs, merged_rankings])

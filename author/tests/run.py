@@ -4,7 +4,10 @@ Also gives them what they have to refuse, kills `cwtune-spread` and starts it ag
 trials of the other modules here. With --plain no picture is drawn, which needs matplotlib. With
 --store the results replace those stored; look at the difference before you keep them. A picture is
 compared by its words and numbers, and by how many grey marks it has. Prints what failed, and as its
-last line `N passed, N failed`; the exit status is 1 if a run failed.
+last line `N passed, N failed`; the exit status is 1 if a run failed. What failed begins with the
+name that --only takes:
+
+    python3 -m author.tests.run --plain --only spreading.floors
 """
 import contextlib, os, pathlib, re, shutil, signal, subprocess, sys, tempfile, time
 
@@ -15,7 +18,7 @@ from gate.tally import compare, tally
 
 from . import (merging, origins, refusals, reporting, sharing, spreading, studying, varying,
                warriors)
-from .commands import AUTHOR, TUNING, command, run, printed
+from .commands import AUTHOR, TUNING, command, played, printed, run
 
 EXPECTED = pathlib.Path(__file__).resolve().parent / "expected"
 
@@ -42,6 +45,8 @@ RUN_PROGRAM = ["cwtune-warrior step.red --setting 3", "cwtune-vary ../warriors/d
                "cwtune-study step.red ../warriors/dwarf.red"]
 NO_PROGRAM = "no cwtune here or on the PATH: give --program FILE\n"
 COMMANDS = sorted(path.name for path in AUTHOR.glob("cwtune-*"))
+# The trials that draw pictures.
+DRAWING = {"results", "refusals"}
 PICTURES = {
     "line.txt": "cwtune-landscape step.red step.cert",
     "map.txt": "cwtune-landscape stone.red all-fights.cert",
@@ -158,11 +163,16 @@ def signals():
             yield compare(f"Ctrl-C in {words}", (-signal.SIGINT, b""), (job.returncode, err))
 
 
-def stored(results):
-    """Compares results with those stored. Yields names, and what was wrong."""
-    for name, result in results.items():
+def results(python, draws, replaces):
+    """Compares results with those stored, which they replace before if `replaces`. Yields names,
+    and what was wrong."""
+    drawn = PICTURES if draws else {}
+    for name, words in (PLAIN | drawn).items():
+        came = draw(python, words) if name in drawn else printed(*words.split())
         path = EXPECTED / name
-        yield compare(name, path.read_text("utf-8") if path.exists() else None, result)
+        if replaces:
+            path.write_text(came, "utf-8")
+        yield compare(name, path.read_text("utf-8") if path.exists() else None, came)
 
 
 def prepare(program):
@@ -172,34 +182,55 @@ def prepare(program):
     # What runs in the background may be started with Ctrl-C ignored or held back.
     signal.signal(signal.SIGINT, signal.default_int_handler)
     signal.pthread_sigmask(signal.SIG_SETMASK, [])
+    # A run that is ended from outside has printed what failed before.
+    sys.stdout.reconfigure(line_buffering=True)
 
 
-def store(results):
-    """Writes the results to expected/."""
-    EXPECTED.mkdir(exist_ok=True)
-    for name, result in results.items():
-        (EXPECTED / name).write_text(result, "utf-8")
+def all_trials(program, python, draws, replaces):
+    """Returns all trials by their names. None is played before somebody iterates over it."""
+    return {"results": results(python, draws, replaces), "helps": helps(), "closed": closed(),
+            "without_program": without_program(), "refusals": refusals.trials(python, draws),
+            "signals": signals(),
+            **{f"{module.__name__.rpartition('.')[2]}.{name}": trial
+               for module in (warriors, varying, origins, studying, spreading, merging, sharing)
+               for name, trial in module.trials(program).items()},
+            **{f"reporting.{name}": trial for name, trial in reporting.trials().items()}}
 
 
-def main():
+def chosen(parser, only, trials):
+    """Returns the trials that --only names, or all. Refuses a name that none has."""
+    for name in only:
+        if not any(is_of(trial_name, name) for trial_name in trials):
+            parser.error(f"argument --only: no trial {name}; there are {', '.join(trials)}")
+    return {trial_name: trial for trial_name, trial in trials.items()
+            if not only or any(is_of(trial_name, name) for name in only)}
+
+
+def is_of(trial_name, name):
+    """Returns whether a trial has this name, or is one of the module with this name."""
+    return name in (trial_name, trial_name.partition(".")[0])
+
+
+def make_parser():
     parser = module_parser("author.tests.run", __doc__)
     parser.add_argument("--plain", action="store_true", help="leave out the pictures")
     parser.add_argument("--store", action="store_true", help="replace the stored results")
+    parser.add_argument("--only", action="append", default=[], metavar="NAME",
+                        help="play this trial alone, as spreading.floors, or all of a module, as "
+                        "spreading; can be repeated")
     add_built(parser)
+    return parser
+
+
+def main():
+    parser = make_parser()
     args = parser.parse_args()
-    program, draws, python = program_of(args.program), not args.plain, sys.executable
+    program = program_of(args.program)
+    draws = not args.plain and (not args.only or not DRAWING.isdisjoint(args.only))
+    python = with_matplotlib() if draws else sys.executable
+    trials = chosen(parser, args.only, all_trials(program, python, draws, args.store))
     prepare(program)
-    results = {name: printed(*words.split()) for name, words in PLAIN.items()}
-    if draws:
-        python = with_matplotlib()
-        results |= {name: draw(python, words) for name, words in PICTURES.items()}
-    if args.store:
-        store(results)
-    return tally([*stored(results), *helps(), *closed(), *without_program(),
-                  *refusals.trials(python, draws), *signals(), *warriors.trials(program),
-                  *varying.trials(program), *origins.trials(program), *studying.trials(program),
-                  *spreading.trials(program), *merging.trials(program), *sharing.trials(program),
-                  *reporting.trials()])
+    return tally(played(trials))
 
 
 if __name__ == "__main__":

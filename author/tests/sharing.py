@@ -6,7 +6,7 @@ import random, signal, subprocess
 from gate import inputs
 from gate.tally import compare
 
-from .commands import SECONDS, played
+from .commands import SECONDS, in_folders
 from .spread_place import DECOY, SMALL, SpreadPlace, is_how_to_go_on, without_fights
 
 CHECK_ONLY = ["--check-only", *DECOY]
@@ -199,5 +199,5 @@ def merged(place):
 
 
 def trials(program):
-    return played("checks of cwtune-spread", lambda folder: SpreadPlace(program, folder), [
+    return in_folders(lambda folder: SpreadPlace(program, folder), [
         verdicts, after_kills, kept_shares, other_folders, with_a_tuning, liars, merged])

@@ -8,7 +8,7 @@ from gate.inputs import RULES
 from gate.play import shown
 from gate.tally import compare
 
-from .commands import SECONDS, played, refused, run, usage_error
+from .commands import SECONDS, in_folders, refused, run, usage_error
 from .spread_place import (DECOY, OPPONENTS, RANKED, SCHEDULE, SMALL, SpreadPlace, is_how_to_go_on,
                            without_fights, write_ranked)
 
@@ -346,6 +346,6 @@ def progress(place):
 
 
 def trials(program):
-    return played("cwtune-spread", lambda folder: SpreadPlace(program, folder), [
+    return in_folders(lambda folder: SpreadPlace(program, folder), [
         after_kills, other_inputs, damaged_parts, folders, two_at_once, templates, faults, methods,
         liars, floors, rankings, explained, notes, progress])

@@ -7,7 +7,7 @@ from author.lib import grid, tuning_files
 from gate.tally import compare
 
 from . import study_refused
-from .commands import AUTHOR, SECONDS, played, run
+from .commands import AUTHOR, SECONDS, in_folders, run
 from .study_place import OPPONENTS, TEMPLATE, StudyPlace
 
 STAGES = ["inputs", "schedule", "box", "best", "fresh 1", "fresh 2", "fresh 3", "fresh 4",
@@ -181,5 +181,5 @@ def without_seconds(log):
 
 
 def trials(program):
-    return played("cwtune-study", lambda folder: StudyPlace(program, folder), [
+    return in_folders(lambda folder: StudyPlace(program, folder), [
         finds, varies, seeks, study_refused.foreign, study_refused.refusals])

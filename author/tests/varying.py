@@ -6,7 +6,7 @@ from author.lib import grid
 from gate.play import Place
 from gate.tally import compare
 
-from .commands import (EXAMPLES, SECONDS, TUNING, Refusal, command, played, refused, run,
+from .commands import (EXAMPLES, SECONDS, TUNING, Refusal, command, in_folders, refused, run,
                        usage_error)
 
 TEXT = """;redcode-94
@@ -231,5 +231,5 @@ def stopped_climbs(place):
 
 
 def trials(program):
-    return played("cwtune-vary and cwtune-seek", lambda folder: Place(program, folder, {}), [
+    return in_folders(lambda folder: Place(program, folder, {}), [
         templates, refusals, climbs, ended_climbs, kinds, refused_climbs, stopped_climbs])
