@@ -1,5 +1,5 @@
 """Runs the commands for authors as the trials do, and looks how they refuse something."""
-import pathlib, re, subprocess, sys, tempfile, traceback
+import contextlib, os, pathlib, re, signal, subprocess, sys, tempfile, time, traceback
 from typing import NamedTuple
 
 from gate.tally import compare
@@ -44,6 +44,28 @@ def run(*words, folder=TUNING, python=sys.executable):
                                errors="surrogateescape", timeout=SECONDS)
     stderr = re.sub(r"(?s)^usage:.*?\n(?=\S)", "", completed.stderr)
     return Result(completed.returncode, completed.stdout, stderr)
+
+
+@contextlib.contextmanager
+def started(words, **options):
+    """Starts a command, and at the end kills it and what it runs, unless it has ended."""
+    with subprocess.Popen(words, start_new_session=True, **options) as job:
+        try:
+            yield job
+        finally:
+            if job.poll() is None:
+                os.killpg(job.pid, signal.SIGKILL)
+
+
+def wait_until(is_so, job):
+    """Waits until `is_so` returns something true, or the job has ended. Returns what it returned
+    last. Gives up after `SECONDS`."""
+    deadline = time.monotonic() + SECONDS
+    while not (value := is_so()) and job.poll() is None:
+        if time.monotonic() > deadline:
+            raise subprocess.TimeoutExpired(job.args, SECONDS)
+        time.sleep(0.002)
+    return value
 
 
 def printed(*words, **options):

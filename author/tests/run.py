@@ -9,7 +9,7 @@ name that --only takes:
 
     python3 -m author.tests.run --plain --only spreading.floors
 """
-import contextlib, os, pathlib, re, shutil, signal, subprocess, sys, tempfile, time
+import contextlib, os, pathlib, re, shutil, signal, subprocess, sys, tempfile
 
 from author.lib.endings import Fault, run_tool
 from author.lib.program import program_of
@@ -18,7 +18,8 @@ from gate.tally import compare, tally
 
 from . import (merging, origins, refusals, reporting, sharing, spreading, studying, varying,
                warriors)
-from .commands import AUTHOR, TUNING, command, played, printed, run
+from .commands import (AUTHOR, SECONDS, TUNING, command, played, printed, run, started,
+                       wait_until)
 
 EXPECTED = pathlib.Path(__file__).resolve().parent / "expected"
 
@@ -97,7 +98,7 @@ def closed():
     """Closes the standard output of each command. Yields names, and what was wrong."""
     for name in COMMANDS:
         completed = subprocess.run(command(name, "--help"), stderr=subprocess.PIPE, text=True,
-                                   preexec_fn=lambda: os.close(1))
+                                   timeout=SECONDS, preexec_fn=lambda: os.close(1))
         yield compare(f"{name} without a standard output", (3, "failed: no standard output\n"),
                       (completed.returncode, completed.stderr))
 
@@ -110,7 +111,8 @@ def without_program():
 
         def run_released(words):
             return subprocess.run([sys.executable, *f"{folder}/author/{words}".split()],
-                                  cwd=TUNING, env={"PATH": folder}, capture_output=True, text=True)
+                                  cwd=TUNING, env={"PATH": folder}, capture_output=True, text=True,
+                                  timeout=SECONDS)
 
         for words in RUN_PROGRAM:
             completed = run_released(words)
@@ -126,21 +128,17 @@ def without_program():
 def interrupt(job):
     """Ends a job by Ctrl-C. One that comes just before the job reads is not seen, so that another
     has to follow."""
-    while job.poll() is None:
+    for _ in range(SECONDS // 5):
         job.send_signal(signal.SIGINT)
         with contextlib.suppress(subprocess.TimeoutExpired):
-            job.wait(5)
+            return job.wait(5)
+    raise subprocess.TimeoutExpired(job.args, SECONDS)
 
 
-def writer_of(pipe, job):
-    """Opens a named pipe for writing once a job reads it, or has ended."""
-    while True:
-        try:
-            return os.open(pipe, os.O_WRONLY | os.O_NONBLOCK)
-        except OSError:
-            if job.poll() is not None:
-                return os.open(os.devnull, os.O_WRONLY)
-            time.sleep(0.01)
+def writer_of(pipe):
+    """Opens a named pipe for writing. Returns None if nobody reads it."""
+    with contextlib.suppress(OSError):
+        return open(pipe, "wb", opener=lambda path, flags: os.open(path, flags | os.O_NONBLOCK))
 
 
 def signals():
@@ -148,18 +146,18 @@ def signals():
     reading_end, pipe = os.pipe()
     os.close(reading_end)
     completed = subprocess.run(command("cwtune-scores", "step.cert", "schedule.csv"), cwd=TUNING,
-                               stdout=pipe, stderr=subprocess.PIPE)
+                               stdout=pipe, stderr=subprocess.PIPE, timeout=SECONDS)
     os.close(pipe)
     yield compare("a closed pipe", (-signal.SIGPIPE, b""),
                   (completed.returncode, completed.stderr))
     with tempfile.TemporaryDirectory() as folder:
         os.mkfifo(f"{folder}/pipe")
         for words in ["cwtune-scores pipe schedule.csv", "cwtune-landscape pipe step.cert x.svg"]:
-            job = subprocess.Popen(command(*words.split()), cwd=folder, stderr=subprocess.PIPE)
-            writer = writer_of(f"{folder}/pipe", job)
-            interrupt(job)
-            _, err = job.communicate()
-            os.close(writer)
+            with started(command(*words.split()), cwd=folder, stderr=subprocess.PIPE) as job:
+                writer = wait_until(lambda: writer_of(f"{folder}/pipe"), job)
+                with writer or open(os.devnull, "wb"):
+                    interrupt(job)
+                _, err = job.communicate()
             yield compare(f"Ctrl-C in {words}", (-signal.SIGINT, b""), (job.returncode, err))
 
 

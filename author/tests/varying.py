@@ -1,5 +1,5 @@
 """Plays `cwtune-vary` and `cwtune-seek` with the program."""
-import os, re, signal, subprocess, time
+import os, re, signal, subprocess
 from typing import NamedTuple
 
 from author.lib import grid
@@ -7,7 +7,7 @@ from gate.play import Place
 from gate.tally import compare
 
 from .commands import (EXAMPLES, SECONDS, TUNING, Refusal, command, in_folders, refused, run,
-                       usage_error)
+                       started, usage_error, wait_until)
 
 TEXT = """;redcode-94
 ;name Two Numbers
@@ -84,7 +84,7 @@ def templates(place):
 def run_bytes(place, *words):
     """Returns the status and the output of `cwtune-vary`, line ends as they are."""
     completed = subprocess.run(command("cwtune-vary", "--program", place.program, *words),
-                               cwd=place.folder, capture_output=True)
+                               cwd=place.folder, capture_output=True, timeout=SECONDS)
     return completed.returncode, completed.stdout.decode()
 
 
@@ -217,14 +217,14 @@ def stopped_climbs(place):
     os.chmod(place.folder / "slow", 0o755)
     words = command("cwtune-seek", "--program=./slow", str(TUNING / "step.red"), SCHEDULE,
                     *OPPONENTS)
+    begun = place.folder / "begun"
     for signal_number in [signal.SIGINT, signal.SIGTERM]:
-        job = subprocess.Popen(words, cwd=place.folder, stdout=subprocess.PIPE,
-                               stderr=subprocess.PIPE)
-        while not (place.folder / "begun").exists() and job.poll() is None:
-            time.sleep(0.01)
-        job.send_signal(signal_number)
-        out, err = job.communicate(timeout=SECONDS)
-        (place.folder / "begun").unlink()
+        with started(words, cwd=place.folder, stdout=subprocess.PIPE,
+                     stderr=subprocess.PIPE) as job:
+            wait_until(begun.exists, job)
+            job.send_signal(signal_number)
+            out, err = job.communicate(timeout=SECONDS)
+        begun.unlink()
         yield compare(f"signal {signal_number} before START was played", (
             -signal.SIGINT, b"", b"stopped: before START or another setting was played\n"),
             (job.returncode, out, err))
