@@ -122,7 +122,7 @@ class SpreadPlace(play.Place):
             wait_until(begun.exists, job)
             job.send_signal(signal_number)
             _, err = job.communicate(timeout=SECONDS)
-        begun.unlink()
+        begun.unlink(missing_ok=True)
         return job.returncode, err.decode()
 
     def unfinished(self):

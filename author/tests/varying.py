@@ -224,7 +224,7 @@ def stopped_climbs(place):
             wait_until(begun.exists, job)
             job.send_signal(signal_number)
             out, err = job.communicate(timeout=SECONDS)
-        begun.unlink()
+        begun.unlink(missing_ok=True)
         yield compare(f"signal {signal_number} before START was played", (
             -signal.SIGINT, b"", b"stopped: before START or another setting was played\n"),
             (job.returncode, out, err))
