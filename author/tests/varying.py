@@ -1,5 +1,5 @@
 """Plays `cwtune-vary` and `cwtune-seek` with the program."""
-import os, re, signal, subprocess
+import itertools, os, re, signal, subprocess
 from typing import NamedTuple
 
 from author.lib import grid
@@ -151,6 +151,27 @@ def climbs(place):
         boxed.status, box.start_values, all(len(values) <= 5 for values in box.ranges)))
 
 
+def pairs(place):
+    """Climbs in a template of three constants, two at a time, and in one of two."""
+    result = seek(place, "--pairs", template=TUNING / "decoy.red")
+    total = found_by(result).total
+    place.write("found.red", result.out)
+    found = grid.Grid(place.folder / "found.red")
+    planes = list(itertools.combinations(range(3), 2))
+    yield compare("what is said of the other planes", (
+        0, "note: no setting of a plane through it has a greater total; one elsewhere, of all 126 "
+        "settings, may"), (result.status, result.err.splitlines()[-1]))
+    yield compare("it tunes planes", {"DECOY,PLACE", "DECOY,STEP", "PLACE,STEP"}, {
+        line.partition(":")[0] for line in result.err.splitlines() if line.endswith(" fights")})
+    yield compare("no tuning of a plane through it has a better one", [total] * 3, [
+        best_total(place, found.line_through(found.start_values, free)) for free in planes])
+    result = seek(place, "--pairs")
+    yield compare("two constants are one plane", (
+        0, best_total(place, (TUNING / "stone.red").read_bytes()),
+        "note: none of all 273 settings has a greater total"),
+        (result.status, found_by(result).total, result.err.splitlines()[-1]))
+
+
 def ended_climbs(place):
     """Climbs until --fights N are reached."""
     place.write("large.red", LARGE)
@@ -232,4 +253,4 @@ def stopped_climbs(place):
 
 def trials(program):
     return in_folders(lambda folder: Place(program, folder, {}), [
-        templates, refusals, climbs, ended_climbs, kinds, refused_climbs, stopped_climbs])
+        templates, refusals, climbs, pairs, ended_climbs, kinds, refused_climbs, stopped_climbs])
