@@ -5,6 +5,7 @@ refusals         files and words that the commands refuse
 warriors         `cwtune-warrior` and `cwtune-holdout`
 varying          `cwtune-vary` and `cwtune-seek`
 origins          certificates with their CERT.inputs, and inputs of another tuning
+landscapes       `cwtune-landscape --effects`
 studying         `cwtune-study`
 study_refused    what it refuses, for `studying`
 spreading        `cwtune-spread`
