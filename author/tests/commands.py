@@ -105,7 +105,10 @@ def played(trials):
 
 
 def line_of(fault):
-    """Returns the last line of a trial that an exception came through."""
-    frames = [frame for frame in traceback.extract_tb(fault.__traceback__)
-              if pathlib.Path(frame.filename).parent == AUTHOR / "tests"]
-    return f"{pathlib.Path(frames[-1].filename).name}, line {frames[-1].lineno}"
+    """Returns the last line that an exception came through in a trial, not in what it calls."""
+    lines = [(pathlib.Path(frame.filename), frame.lineno)
+             for frame in traceback.extract_tb(fault.__traceback__)]
+    of_trials = [(path, number) for path, number in lines
+                 if path.parent == AUTHOR / "tests" and path != pathlib.Path(__file__)]
+    path, number = (of_trials or lines)[-1]
+    return f"{path.name}, line {number}"

@@ -314,8 +314,10 @@ def screen_of(place, words):
         os.close(terminal)
         alarm = threading.Timer(SECONDS, job.kill)
         alarm.start()
-        text = shown(screen)
-        alarm.cancel()
+        try:
+            text = shown(screen)
+        finally:
+            alarm.cancel()
         job.wait(SECONDS)
     return text.decode()
 
