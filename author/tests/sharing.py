@@ -7,7 +7,7 @@ from gate import inputs
 from gate.tally import compare
 
 from .commands import SECONDS, in_folders
-from .spread_place import DECOY, SMALL, Kill, SpreadPlace, is_how_to_go_on, without_fights
+from .spread_place import DECOY, SMALL, Kill, SpreadPlace, silent_stops, without_fights
 
 CHECK_ONLY = ["--check-only", *DECOY]
 
@@ -71,10 +71,8 @@ def after_kills(place):
         kill = place.kill_at(shares, signal_number, dice.uniform(0, 0.03), jobs, "--shares=16",
                              *CHECK_ONLY, kind="shares")
         kills.append(kill)
-        if signal_number != signal.SIGKILL and kill.met_job():
-            yield compare("a stop says how to go on", True,
-                          is_how_to_go_on(kill.err, "shares", 16))
     yield compare("a kill met a check at work", True, any(map(Kill.met_job, kills)))
+    yield compare("a stop says how to go on", [], silent_stops(kills, "shares", 16))
     yield compare("six kills change nothing", ((0, line, ""), []),
                   (place.spread("--jobs=2", *CHECK_ONLY), left(place)))
 

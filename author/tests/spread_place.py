@@ -150,10 +150,13 @@ def without_fights(result):
     return result.status, lines, result.err
 
 
-def is_how_to_go_on(err, kind, count):
-    """Returns whether standard error says after a kill what is done of `count` parts or shares."""
-    return re.fullmatch(rf"stopped: \d+ of {count} {kind} are done, and kept in CERT.{kind}: "
-                        r"repeat the command to run the others\n", err) is not None
+def silent_stops(kills, kind, count):
+    """Returns which kills met a run that could say what is done of `count` parts or shares, and
+    did not."""
+    how_to_go_on = re.compile(rf"stopped: \d+ of {count} {kind} are done, and kept in CERT.{kind}: "
+                              r"repeat the command to run the others\n")
+    return [kill for kill in kills if kill.met_job() and kill.status != -signal.SIGKILL
+            and not how_to_go_on.fullmatch(kill.err)]
 
 
 def write_ranked(place):

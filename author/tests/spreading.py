@@ -10,7 +10,7 @@ from gate.tally import compare
 
 from .commands import SECONDS, in_folders, refused, run, usage_error
 from .spread_place import (DECOY, OPPONENTS, RANKED, SCHEDULE, SMALL, Kill, SpreadPlace,
-                           is_how_to_go_on, without_fights, write_ranked)
+                           silent_stops, without_fights, write_ranked)
 
 WRONG_OPTIONS = [
     *(usage_error(f"cwtune-spread {name}={number}", f"argument {name}: {number} is not 1 or more")
@@ -39,13 +39,11 @@ def after_kills(place):
         kill = place.kill_at(parts, signal_number, dice.uniform(0, 0.05), jobs, "--parts=12",
                              *DECOY)
         kills.append(kill)
-        if signal_number != signal.SIGKILL and kill.met_job():
-            yield compare("a stop says how to go on", True,
-                          is_how_to_go_on(kill.err, "parts", 12))
         # A kill while `tune` looks at the inputs leaves an empty CERT.
         is_whole = not place.read("CERT") or place.check(DECOY) == 0
         yield compare("a kill leaves no half certificate", True, is_whole)
     yield compare("a kill met a tuning at work", True, any(map(Kill.met_job, kills)))
+    yield compare("a stop says how to go on", [], silent_stops(kills, "parts", 12))
     yield compare("ten kills change nothing", unbroken,
                   place.found(DECOY, place.spread("--jobs=2", "--parts=12", *DECOY)))
     yield compare("the parts are gone at the end", False, (place.folder / "CERT.parts").exists())
