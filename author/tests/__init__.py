@@ -5,6 +5,7 @@ refusals         files and words that the commands refuse
 warriors         `cwtune-warrior` and `cwtune-holdout`
 varying          `cwtune-vary` and `cwtune-seek`
 origins          certificates with their CERT.inputs, and inputs of another tuning
+landscapes       `cwtune-landscape --effects`
 studying         `cwtune-study`
 study_refused    what it refuses, for `studying`
 spreading        `cwtune-spread`
@@ -12,9 +13,11 @@ merging          `cwtune-spread` with GNU parallel, and with what the jobs of a 
 sharing          the checks of `cwtune-spread`
 reporting        the page of a study
 
-Each of them but `run` and `study_refused` has a function `trials`. It yields the names of what was
-tried, and for each a list of what was wrong, which `run` counts. What a module tries in a folder of
-its own is named after its title and its function, as `cwtune-spread, folders: a file in its place`.
+Each of them but `run` and `study_refused` has a function `trials`. It returns trials by the names
+of their functions; that of `refusals` is one trial. A trial yields the names of what was tried, and
+for each a list of what was wrong, which `run` counts. What failed is named after its module and its
+function, as `spreading.folders: a file in its place`, and `--only spreading.folders` plays that
+trial alone.
 
 Their libraries: `commands` runs a command and plays tables of refusals, `spread_place` and
 `study_place` make the folders of two commands, and `report_samples` makes up the reports of

@@ -1,8 +1,7 @@
 """Runs the commands for authors as the trials do, and looks how they refuse something."""
-import pathlib, re, subprocess, sys, tempfile
+import contextlib, os, pathlib, re, signal, subprocess, sys, tempfile, time, traceback
 from typing import NamedTuple
 
-from author.lib.endings import Fault
 from gate.tally import compare
 
 AUTHOR = pathlib.Path(__file__).resolve().parents[1]
@@ -47,6 +46,28 @@ def run(*words, folder=TUNING, python=sys.executable):
     return Result(completed.returncode, completed.stdout, stderr)
 
 
+@contextlib.contextmanager
+def started(words, **options):
+    """Starts a command, and at the end kills it and what it runs, unless it has ended."""
+    with subprocess.Popen(words, start_new_session=True, **options) as job:
+        try:
+            yield job
+        finally:
+            if job.poll() is None:
+                os.killpg(job.pid, signal.SIGKILL)
+
+
+def wait_until(is_so, job):
+    """Waits until `is_so` returns something true, or the job has ended. Returns what it returned
+    last. Gives up after `SECONDS`."""
+    deadline = time.monotonic() + SECONDS
+    while not (value := is_so()) and job.poll() is None:
+        if time.monotonic() > deadline:
+            raise subprocess.TimeoutExpired(job.args, SECONDS)
+        time.sleep(0.002)
+    return value
+
+
 def printed(*words, **options):
     """Returns all that a command prints, and its status if that is not 0."""
     status, out, err = run(*words, **options)
@@ -59,17 +80,35 @@ def refused(refusals, run_words):
         yield compare(words, (status, "", f"{line}\n"), run_words(words.split()))
 
 
-def played(title, place_in, trials):
-    """Plays each of the trials in a folder of its own, in which `place_in` makes a place.
+def in_folders(place_in, trials):
+    """Returns the trials by their names. Each is played, once somebody iterates over it, in a
+    folder of its own, in which `place_in` makes a place."""
+    return {trial.__name__: in_folder(place_in, trial) for trial in trials}
 
-    Yields names, and what was wrong. After a trial that breaks off the next one is played.
-    """
-    for trial in trials:
-        name = f"{title}, {trial.__name__}"
-        with tempfile.TemporaryDirectory() as folder:
-            try:
-                for part, wrong in trial(place_in(folder)):
-                    yield f"{name}: {part}", wrong
-            except (Fault, OSError, ValueError, LookupError,
-                    subprocess.TimeoutExpired) as fault:
-                yield name, [repr(fault)]
+
+def in_folder(place_in, trial):
+    """Plays a trial in a new folder. Yields names, and what was wrong."""
+    with tempfile.TemporaryDirectory() as folder:
+        yield from trial(place_in(folder))
+
+
+def played(trials):
+    """Plays trials, given by their names. Yields names, and what was wrong. A trial that an
+    exception ends has failed, and the next one is played."""
+    for name, trial in trials.items():
+        try:
+            for part, wrong in trial:
+                yield f"{name}: {part}", wrong
+        # A command that failed leaves less than a trial reads, so any exception may come of it.
+        except Exception as fault:
+            yield name, [f"broke off in {line_of(fault)}: {fault!r}"]
+
+
+def line_of(fault):
+    """Returns the last line that an exception came through in a trial, not in what it calls."""
+    lines = [(pathlib.Path(frame.filename), frame.lineno)
+             for frame in traceback.extract_tb(fault.__traceback__)]
+    of_trials = [(path, number) for path, number in lines
+                 if path.parent == AUTHOR / "tests" and path != pathlib.Path(__file__)]
+    path, number = (of_trials or lines)[-1]
+    return f"{path.name}, line {number}"

@@ -6,11 +6,17 @@ from author.lib.spread_jobs import HostJobs
 from gate.inputs import RULES
 from gate.tally import compare
 
-from .commands import played
+from .commands import SECONDS, in_folders
 from .spread_place import DECOY, RANKED, SpreadPlace, write_ranked
 
-
 NO_CERT = (3, "", "failed: CERT.2: No such file or directory\n")
+# A stand-in for GNU parallel that runs on this host, one after the other, the numbers that it reads
+# but those of `$LEFT_OUT`.
+PARALLEL = """for job; do :; done
+while read -r number; do
+case " $LEFT_OUT " in *" $number "*) ;; *) sh -c "${job//\\{\\}/$number}";; esac
+done
+"""
 
 
 class FolderStub:
@@ -31,22 +37,62 @@ class FolderStub:
         return self.path / f"{number}.{kind}"
 
 
-def hosts(place):
-    """Runs a stand-in for GNU parallel that ends at once."""
-    place.write_program("parallel", "exit 9\n")
+def parallel(place, script, **environment):
+    """Makes a stand-in for GNU parallel the one on the PATH, as a context."""
+    place.write_program("parallel", script)
     place.write("hosts", ":\n")
-    path = {"PATH": f"{place.folder}:{os.environ['PATH']}"}
-    with mock.patch.dict(os.environ, path):
+    path = f"{place.folder}:{os.environ['PATH']}"
+    return mock.patch.dict(os.environ, {"PATH": path, **environment})
+
+
+def host_jobs(place, numbers):
+    """Runs the jobs of a stub, and waits until the stand-in for GNU parallel has ended."""
+    args = argparse.Namespace(hosts=place.folder / "hosts", jobs=1)
+    jobs = HostJobs(args, FolderStub(place.folder), numbers)
+    jobs.parallel.wait(SECONDS)
+    return jobs
+
+
+def hosts(place):
+    """Runs a stand-in for GNU parallel that runs the jobs, and leaves some out the first time."""
+    unbroken = place.found(DECOY, place.spread("--parts=5", *DECOY))
+    place.clear()
+    words = ["--hosts=hosts", "--parts=5", *DECOY]
+    with parallel(place, PARALLEL, LEFT_OUT="2 4"):
+        yield compare("parts that it left out", (
+            3, "", "failed: no result for parts 2, 4 of 5\n3 of 5 parts are done, and kept in "
+            "CERT.parts: repeat the command to run the others\n", 3),
+            (*place.spread(*words), place.done()))
+    with parallel(place, PARALLEL, LEFT_OUT="1 3 5"):
+        yield compare("the others are run later", unbroken,
+                      place.found(DECOY, place.spread(*words)))
+    verdict = place.verdict(DECOY)
+    with parallel(place, PARALLEL):
+        yield compare("a check on hosts", (*verdict, ""), place.spread(
+            "--hosts=hosts", "--check-only", "--shares=3", *DECOY))
+
+
+def statuses(place):
+    """Runs a stand-in for GNU parallel that leaves the status of one job, and half of another's."""
+    script = "echo 1 > 1.status; printf 0 > 2.status\n"
+    with parallel(place, script):
+        jobs = host_jobs(place, [1, 2, 3])
+    yield compare("a status is a whole line", ([(1, 1)], [2, 3], None, False),
+                  (jobs.take_ended(), jobs.waiting, jobs.fault, jobs.keep_running()))
+
+
+def idle_hosts(place):
+    """Runs a stand-in for GNU parallel that ends at once."""
+    with parallel(place, "exit 9\n"):
         yield compare("parts without a result", (
             3, "", "failed: no result for parts 1, 2, 3 of 3 (GNU parallel ended with status 9)\n"
             "0 of 3 parts are done, and kept in CERT.parts: repeat the command to run the "
             "others\n"), place.spread("--hosts=hosts", "--parts=3", *DECOY))
         # More numbers than the pipe takes before the stand-in ends.
-        args = argparse.Namespace(hosts=place.folder / "hosts", jobs=1)
-        jobs = HostJobs(args, FolderStub(place.folder), range(1, 20000))
-    while jobs.keep_running():
-        jobs.take_ended()
-    yield compare("numbers that it does not read", "GNU parallel ended with status 9", jobs.fault)
+        jobs = host_jobs(place, range(1, 20000))
+    jobs.take_ended()
+    yield compare("numbers that it does not read", ("GNU parallel ended with status 9", False),
+                  (jobs.fault, jobs.keep_running()))
 
 
 def merged(place):
@@ -163,5 +209,6 @@ def merged_rankings(place):
 
 
 def trials(program):
-    return played("cwtune-spread", lambda folder: SpreadPlace(program, folder), [
-        hosts, merged, merged_others, damaged, damaged_without_inputs, merged_rankings])
+    return in_folders(lambda folder: SpreadPlace(program, folder), [
+        hosts, statuses, idle_hosts, merged, merged_others, damaged, damaged_without_inputs,
+        merged_rankings])

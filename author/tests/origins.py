@@ -6,7 +6,7 @@ from gate import cert_inputs
 from gate.play import Place
 from gate.tally import compare
 
-from .commands import Refusal, played, refused, run
+from .commands import Refusal, in_folders, refused, run
 
 FILES = {
     "t.red": ";@tune K 0 1 1 0\nJMP 1-K\n",
@@ -128,5 +128,5 @@ def writers(place):
 
 
 def trials(program):
-    return played("CERT.inputs", lambda folder: Place(program, folder, FILES), [
+    return in_folders(lambda folder: Place(program, folder, FILES), [
         readers, names, unknown, writers])

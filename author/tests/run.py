@@ -4,18 +4,22 @@ Also gives them what they have to refuse, kills `cwtune-spread` and starts it ag
 trials of the other modules here. With --plain no picture is drawn, which needs matplotlib. With
 --store the results replace those stored; look at the difference before you keep them. A picture is
 compared by its words and numbers, and by how many grey marks it has. Prints what failed, and as its
-last line `N passed, N failed`; the exit status is 1 if a run failed.
+last line `N passed, N failed`; the exit status is 1 if a run failed. What failed begins with the
+name that --only takes:
+
+    python3 -m author.tests.run --plain --only spreading.floors
 """
-import contextlib, os, pathlib, re, shutil, signal, subprocess, sys, tempfile, time
+import contextlib, os, pathlib, re, shutil, signal, subprocess, sys, tempfile
 
 from author.lib.endings import Fault, run_tool
 from author.lib.program import program_of
 from author.lib.words import add_built, module_parser
 from gate.tally import compare, tally
 
-from . import (merging, origins, refusals, reporting, sharing, spreading, studying, varying,
-               warriors)
-from .commands import AUTHOR, TUNING, command, run, printed
+from . import (landscapes, merging, origins, refusals, reporting, sharing, spreading, studying,
+               varying, warriors)
+from .commands import (AUTHOR, SECONDS, TUNING, command, played, printed, run, started,
+                       wait_until)
 
 EXPECTED = pathlib.Path(__file__).resolve().parent / "expected"
 
@@ -42,6 +46,8 @@ RUN_PROGRAM = ["cwtune-warrior step.red --setting 3", "cwtune-vary ../warriors/d
                "cwtune-study step.red ../warriors/dwarf.red"]
 NO_PROGRAM = "no cwtune here or on the PATH: give --program FILE\n"
 COMMANDS = sorted(path.name for path in AUTHOR.glob("cwtune-*"))
+# The trials that draw pictures.
+DRAWING = {"results", "refusals"}
 PICTURES = {
     "line.txt": "cwtune-landscape step.red step.cert",
     "map.txt": "cwtune-landscape stone.red all-fights.cert",
@@ -92,7 +98,7 @@ def closed():
     """Closes the standard output of each command. Yields names, and what was wrong."""
     for name in COMMANDS:
         completed = subprocess.run(command(name, "--help"), stderr=subprocess.PIPE, text=True,
-                                   preexec_fn=lambda: os.close(1))
+                                   timeout=SECONDS, preexec_fn=lambda: os.close(1))
         yield compare(f"{name} without a standard output", (3, "failed: no standard output\n"),
                       (completed.returncode, completed.stderr))
 
@@ -105,7 +111,8 @@ def without_program():
 
         def run_released(words):
             return subprocess.run([sys.executable, *f"{folder}/author/{words}".split()],
-                                  cwd=TUNING, env={"PATH": folder}, capture_output=True, text=True)
+                                  cwd=TUNING, env={"PATH": folder}, capture_output=True, text=True,
+                                  timeout=SECONDS)
 
         for words in RUN_PROGRAM:
             completed = run_released(words)
@@ -121,21 +128,17 @@ def without_program():
 def interrupt(job):
     """Ends a job by Ctrl-C. One that comes just before the job reads is not seen, so that another
     has to follow."""
-    while job.poll() is None:
+    for _ in range(SECONDS // 5):
         job.send_signal(signal.SIGINT)
         with contextlib.suppress(subprocess.TimeoutExpired):
-            job.wait(5)
+            return job.wait(5)
+    raise subprocess.TimeoutExpired(job.args, SECONDS)
 
 
-def writer_of(pipe, job):
-    """Opens a named pipe for writing once a job reads it, or has ended."""
-    while True:
-        try:
-            return os.open(pipe, os.O_WRONLY | os.O_NONBLOCK)
-        except OSError:
-            if job.poll() is not None:
-                return os.open(os.devnull, os.O_WRONLY)
-            time.sleep(0.01)
+def writer_of(pipe):
+    """Opens a named pipe for writing. Returns None if nobody reads it."""
+    with contextlib.suppress(OSError):
+        return open(pipe, "wb", opener=lambda path, flags: os.open(path, flags | os.O_NONBLOCK))
 
 
 def signals():
@@ -143,26 +146,31 @@ def signals():
     reading_end, pipe = os.pipe()
     os.close(reading_end)
     completed = subprocess.run(command("cwtune-scores", "step.cert", "schedule.csv"), cwd=TUNING,
-                               stdout=pipe, stderr=subprocess.PIPE)
+                               stdout=pipe, stderr=subprocess.PIPE, timeout=SECONDS)
     os.close(pipe)
     yield compare("a closed pipe", (-signal.SIGPIPE, b""),
                   (completed.returncode, completed.stderr))
     with tempfile.TemporaryDirectory() as folder:
         os.mkfifo(f"{folder}/pipe")
         for words in ["cwtune-scores pipe schedule.csv", "cwtune-landscape pipe step.cert x.svg"]:
-            job = subprocess.Popen(command(*words.split()), cwd=folder, stderr=subprocess.PIPE)
-            writer = writer_of(f"{folder}/pipe", job)
-            interrupt(job)
-            _, err = job.communicate()
-            os.close(writer)
+            with started(command(*words.split()), cwd=folder, stderr=subprocess.PIPE) as job:
+                writer = wait_until(lambda: writer_of(f"{folder}/pipe"), job)
+                with writer or open(os.devnull, "wb"):
+                    interrupt(job)
+                _, err = job.communicate()
             yield compare(f"Ctrl-C in {words}", (-signal.SIGINT, b""), (job.returncode, err))
 
 
-def stored(results):
-    """Compares results with those stored. Yields names, and what was wrong."""
-    for name, result in results.items():
+def results(python, draws, replaces):
+    """Compares results with those stored, which they replace before if `replaces`. Yields names,
+    and what was wrong."""
+    drawn = PICTURES if draws else {}
+    for name, words in (PLAIN | drawn).items():
+        came = draw(python, words) if name in drawn else printed(*words.split())
         path = EXPECTED / name
-        yield compare(name, path.read_text("utf-8") if path.exists() else None, result)
+        if replaces:
+            path.write_text(came, "utf-8")
+        yield compare(name, path.read_text("utf-8") if path.exists() else None, came)
 
 
 def prepare(program):
@@ -172,34 +180,56 @@ def prepare(program):
     # What runs in the background may be started with Ctrl-C ignored or held back.
     signal.signal(signal.SIGINT, signal.default_int_handler)
     signal.pthread_sigmask(signal.SIG_SETMASK, [])
+    # A run that is ended from outside has printed what failed before.
+    sys.stdout.reconfigure(line_buffering=True)
 
 
-def store(results):
-    """Writes the results to expected/."""
-    EXPECTED.mkdir(exist_ok=True)
-    for name, result in results.items():
-        (EXPECTED / name).write_text(result, "utf-8")
+def all_trials(program, python, draws, replaces):
+    """Returns all trials by their names. None is played before somebody iterates over it."""
+    return {"results": results(python, draws, replaces), "helps": helps(), "closed": closed(),
+            "without_program": without_program(), "refusals": refusals.trials(python, draws),
+            "signals": signals(),
+            **{f"{module.__name__.rpartition('.')[2]}.{name}": trial
+               for module in (warriors, varying, origins, landscapes, studying, spreading, merging,
+                              sharing)
+               for name, trial in module.trials(program).items()},
+            **{f"reporting.{name}": trial for name, trial in reporting.trials().items()}}
 
 
-def main():
+def chosen(parser, only, trials):
+    """Returns the trials that --only names, or all. Refuses a name that none has."""
+    for name in only:
+        if not any(is_of(trial_name, name) for trial_name in trials):
+            parser.error(f"argument --only: no trial {name}; there are {', '.join(trials)}")
+    return {trial_name: trial for trial_name, trial in trials.items()
+            if not only or any(is_of(trial_name, name) for name in only)}
+
+
+def is_of(trial_name, name):
+    """Returns whether a trial has this name, or is one of the module with this name."""
+    return name in (trial_name, trial_name.partition(".")[0])
+
+
+def make_parser():
     parser = module_parser("author.tests.run", __doc__)
     parser.add_argument("--plain", action="store_true", help="leave out the pictures")
     parser.add_argument("--store", action="store_true", help="replace the stored results")
+    parser.add_argument("--only", action="append", default=[], metavar="NAME",
+                        help="play this trial alone, as spreading.floors, or all of a module, as "
+                        "spreading; can be repeated")
     add_built(parser)
+    return parser
+
+
+def main():
+    parser = make_parser()
     args = parser.parse_args()
-    program, draws, python = program_of(args.program), not args.plain, sys.executable
+    program = program_of(args.program)
+    draws = not args.plain and (not args.only or not DRAWING.isdisjoint(args.only))
+    python = with_matplotlib() if draws else sys.executable
+    trials = chosen(parser, args.only, all_trials(program, python, draws, args.store))
     prepare(program)
-    results = {name: printed(*words.split()) for name, words in PLAIN.items()}
-    if draws:
-        python = with_matplotlib()
-        results |= {name: draw(python, words) for name, words in PICTURES.items()}
-    if args.store:
-        store(results)
-    return tally([*stored(results), *helps(), *closed(), *without_program(),
-                  *refusals.trials(python, draws), *signals(), *warriors.trials(program),
-                  *varying.trials(program), *origins.trials(program), *studying.trials(program),
-                  *spreading.trials(program), *merging.trials(program), *sharing.trials(program),
-                  *reporting.trials()])
+    return tally(played(trials))
 
 
 if __name__ == "__main__":

@@ -1,13 +1,13 @@
 """Plays the checks of `cwtune-spread`, in shares: kills them and starts them again, damages what
 they check, and gives them what they have to refuse.
 """
-import random, signal, subprocess
+import random, signal
 
 from gate import inputs
 from gate.tally import compare
 
-from .commands import SECONDS, played
-from .spread_place import DECOY, SMALL, SpreadPlace, is_how_to_go_on, without_fights
+from .commands import SECONDS, in_folders
+from .spread_place import DECOY, SMALL, Kill, SpreadPlace, silent_stops, without_fights
 
 CHECK_ONLY = ["--check-only", *DECOY]
 
@@ -64,26 +64,38 @@ def damaged(row):
 def after_kills(place):
     """Kills a check at six moments, and compares its line with that of an unbroken one."""
     _, line = tune_decoy(place)
-    dice = random.Random(66)
+    dice, kills = random.Random(66), []
     for shares in range(0, 12, 2):
         signal_number = dice.choice([signal.SIGKILL, signal.SIGINT, signal.SIGTERM])
         jobs = f"--jobs={dice.randint(1, 3)}"
-        err = place.kill_at(shares, signal_number, dice.uniform(0, 0.03), jobs, "--shares=16",
-                            *CHECK_ONLY, kind="shares")
-        if signal_number != signal.SIGKILL and "CERT.shares" in err:
-            yield compare("a stop says how to go on", True, is_how_to_go_on(err, "shares", 16))
+        kill = place.kill_at(shares, signal_number, dice.uniform(0, 0.03), jobs, "--shares=16",
+                             *CHECK_ONLY, kind="shares")
+        kills.append(kill)
+    yield compare("a kill met a check at work", True, any(map(Kill.met_job, kills)))
+    yield compare("a stop says how to go on", [], silent_stops(kills, "shares", 16))
     yield compare("six kills change nothing", ((0, line, ""), []),
                   (place.spread("--jobs=2", *CHECK_ONLY), left(place)))
+
+
+def stops(place):
+    """Stops a check in its second share."""
+    tune_decoy(place)
+    for signal_number in [signal.SIGINT, signal.SIGTERM]:
+        yield compare(f"signal {signal_number} says how to go on", (
+            -signal.SIGINT, "stopped: 1 of 3 shares are done, and kept in CERT.shares: repeat the "
+            "command to run the others\n", 1), (
+            *place.stop_in("--share=2/3", signal_number, "--anew", "--jobs=1", "--shares=3",
+                           *CHECK_ONLY), place.done("shares")))
 
 
 def leave_unfinished(place):
     """Leaves CERT.shares as a kill leaves it, with some of 16 shares done."""
     for _ in range(10):
-        err = place.kill_at(2, signal.SIGKILL, 0, "--jobs=1", "--shares=16", *CHECK_ONLY,
-                            kind="shares")
-        if place.done("shares"):
+        kill = place.kill_at(2, signal.SIGKILL, 0, "--jobs=1", "--shares=16", *CHECK_ONLY,
+                             kind="shares")
+        if kill.after:
             return
-    raise ValueError(f"no kill left a share: {err}")
+    raise ValueError(f"no kill left a share: {kill}")
 
 
 def kept_shares(place):
@@ -118,15 +130,12 @@ def other_folders(place):
     place.write("mine/precious.txt", b"mine\n")
     yield compare("a folder that it did not make", (2, "", "error: mine is not a folder of this "
                   "cwtune-spread, and is not touched\n"), place.spread("--work=mine", *CHECK_ONLY))
-    job = subprocess.Popen(place.words(["--jobs=1", "--shares=16", *CHECK_ONLY]), cwd=place.folder,
-                           stdout=subprocess.DEVNULL)
-    place.wait_for(1, job, "shares")
-    job.send_signal(signal.SIGSTOP)
-    yield compare("two at once",
-                  (2, "", "error: another cwtune-spread is at work in CERT.shares\n"),
-                  place.spread(*CHECK_ONLY))
-    job.send_signal(signal.SIGCONT)
-    yield compare("the first one ends as it does alone", 0, job.wait(SECONDS))
+    with place.held("--jobs=1", "--shares=16", *CHECK_ONLY, kind="shares") as job:
+        yield compare("two at once",
+                      (2, "", "error: another cwtune-spread is at work in CERT.shares\n"),
+                      place.spread(*CHECK_ONLY))
+        job.send_signal(signal.SIGCONT)
+        yield compare("the first one ends as it does alone", 0, job.wait(SECONDS))
     for option in ["--all", "--parts=3"]:
         name = option.partition("=")[0]
         yield compare(f"--check-only {option}", (2, "", "cwtune-spread: error: argument "
@@ -199,5 +208,5 @@ def merged(place):
 
 
 def trials(program):
-    return played("checks of cwtune-spread", lambda folder: SpreadPlace(program, folder), [
-        verdicts, after_kills, kept_shares, other_folders, with_a_tuning, liars, merged])
+    return in_folders(lambda folder: SpreadPlace(program, folder), [
+        verdicts, after_kills, stops, kept_shares, other_folders, with_a_tuning, liars, merged])

@@ -1,10 +1,11 @@
 """Makes the folder in which `cwtune-spread` is played: a template, a schedule and opponents."""
-import os, re, signal, subprocess, time
+import contextlib, os, re, signal, subprocess, time
+from typing import NamedTuple
 
 from gate import inputs, play
 from gate.inputs import RULES
 
-from .commands import EXAMPLES, Result, command, run
+from .commands import EXAMPLES, SECONDS, Result, command, run, started, wait_until
 
 OPPONENTS = ["dwarf.red", "scanner.red", "core-clear.red"]
 # The words of tunings: of the decoy of examples/tuning/, of a template that a trial writes, and of
@@ -13,6 +14,21 @@ DECOY = ["decoy.red", "schedule.csv", "CERT", *OPPONENTS]
 SMALL = [*RULES, "x.red", "both.csv", "CERT", "dat.red", "imp.red"]
 RANKED = [*RULES, "steps.red", "both.csv", "CERT", "dat.red", "imp.red"]
 SCHEDULE = b"opponent,position,first\n0,3670,c\n1,2085,o\n2,4621,c\n"
+
+
+class Kill(NamedTuple):
+    """What a signal did to `cwtune-spread`: its status, its standard error, and how many parts or
+    shares were done before this run and after it."""
+
+    status: int
+    err: str
+    before: int
+    after: int
+
+    def met_job(self):
+        """Returns whether it met a run that had work done and was not at its end: such a run is
+        ended by the signal, and keeps more than was there before."""
+        return self.status < 0 and self.after > self.before
 
 
 class SpreadPlace(play.Place):
@@ -39,7 +55,8 @@ class SpreadPlace(play.Place):
         for job in range(1, count + 1):
             env = {**os.environ, "CWTUNE": self.program, "SLURM_ARRAY_TASK_ID": str(job),
                    "SLURM_ARRAY_TASK_COUNT": str(count)}
-            subprocess.run(["sh", str(EXAMPLES / "slurm.sh"), *words], cwd=self.folder, env=env)
+            subprocess.run(["sh", str(EXAMPLES / "slurm.sh"), *words], cwd=self.folder, env=env,
+                           timeout=SECONDS)
 
     def spread(self, *words):
         """Returns the result of `cwtune-spread`."""
@@ -70,30 +87,53 @@ class SpreadPlace(play.Place):
 
     def wait_for(self, pieces, job, kind="parts"):
         """Waits until `pieces` parts or shares are done, or the job has ended."""
-        while self.done(kind) < pieces and job.poll() is None:
-            time.sleep(0.002)
+        wait_until(lambda: self.done(kind) >= pieces, job)
+
+    def start_spread(self, *words, **options):
+        """Starts `cwtune-spread` without its output."""
+        return started(self.words(words), cwd=self.folder, stdout=subprocess.DEVNULL, **options)
+
+    @contextlib.contextmanager
+    def held(self, *words, kind="parts"):
+        """Starts `cwtune-spread`, and holds it by SIGSTOP once a part or a share is done."""
+        with self.start_spread(*words) as job:
+            self.wait_for(1, job, kind)
+            job.send_signal(signal.SIGSTOP)
+            yield job
 
     def kill_at(self, pieces, signal_number, seconds, *words, kind="parts"):
-        """Ends `cwtune-spread` by a signal, `seconds` after `pieces` parts or shares are done.
+        """Ends `cwtune-spread` by a signal, `seconds` after `pieces` parts or shares are done."""
+        before = self.done(kind)
+        with self.start_spread(*words, stderr=subprocess.PIPE) as job:
+            self.wait_for(pieces, job, kind)
+            time.sleep(seconds)
+            job.send_signal(signal_number)
+            _, err = job.communicate(timeout=SECONDS)
+        return Kill(job.returncode, err.decode(), before, self.done(kind))
 
-        Returns its standard error.
-        """
-        job = subprocess.Popen(self.words(words), cwd=self.folder, stdout=subprocess.DEVNULL,
-                               stderr=subprocess.PIPE)
-        self.wait_for(pieces, job, kind)
-        time.sleep(seconds)
-        job.send_signal(signal_number)
-        return job.communicate()[1].decode()
+    def stop_in(self, piece, signal_number, *words):
+        """Ends `cwtune-spread` by a signal in a piece that a stand-in for `cwtune` does not end,
+        given as `--part=2/3`. Returns its status and its standard error."""
+        begun = self.folder / "begun"
+        self.write_program("stuck", f"""case "$*" in *{piece}*) touch {begun}; exec sleep 99;;
+*) exec {self.program} "$@";; esac\n""")
+        words = ["--program=./stuck", *words]
+        with self.start_spread(*words, stderr=subprocess.PIPE) as job:
+            wait_until(begun.exists, job)
+            job.send_signal(signal_number)
+            _, err = job.communicate(timeout=SECONDS)
+        begun.unlink(missing_ok=True)
+        return job.returncode, err.decode()
 
     def unfinished(self):
         """Leaves CERT.parts as a kill leaves it, with some of 12 parts done and no CERT."""
         for _ in range(10):
             self.clear()
-            err = self.kill_at(2, signal.SIGKILL, 0, "--jobs=1", "--parts=12", *DECOY)
-            if self.done():
+            kill = self.kill_at(2, signal.SIGKILL, 0, "--jobs=1", "--parts=12", *DECOY)
+            if kill.after:
                 break
         else:
-            raise ValueError(f"no kill left a part: {err}")
+            raise ValueError(f"no kill left a part: {kill}")
         (self.folder / "CERT").unlink(missing_ok=True)
 
     def clear(self):
@@ -110,10 +150,13 @@ def without_fights(result):
     return result.status, lines, result.err
 
 
-def is_how_to_go_on(err, kind, count):
-    """Returns whether standard error says after a kill what is done of `count` parts or shares."""
-    return re.fullmatch(rf"stopped: \d+ of {count} {kind} are done, and kept in CERT.{kind}: "
-                        r"repeat the command to run the others\n", err) is not None
+def silent_stops(kills, kind, count):
+    """Returns which kills met a run that could say what is done of `count` parts or shares, and
+    did not."""
+    how_to_go_on = re.compile(rf"stopped: \d+ of {count} {kind} are done, and kept in CERT.{kind}: "
+                              r"repeat the command to run the others\n")
+    return [kill for kill in kills if kill.met_job() and kill.status != -signal.SIGKILL
+            and not how_to_go_on.fullmatch(kill.err)]
 
 
 def write_ranked(place):

@@ -1,5 +1,5 @@
 """Plays `cwtune-spread`: kills it and starts it again, and gives it what it has to refuse."""
-import os, pathlib, pty, random, re, signal, subprocess
+import os, pathlib, pty, random, re, signal, threading, time
 from unittest import mock
 
 from author.lib import tuning_files
@@ -8,9 +8,9 @@ from gate.inputs import RULES
 from gate.play import shown
 from gate.tally import compare
 
-from .commands import SECONDS, played, refused, run, usage_error
-from .spread_place import (DECOY, OPPONENTS, RANKED, SCHEDULE, SMALL, SpreadPlace, is_how_to_go_on,
-                           without_fights, write_ranked)
+from .commands import SECONDS, in_folders, refused, run, usage_error
+from .spread_place import (DECOY, OPPONENTS, RANKED, SCHEDULE, SMALL, Kill, SpreadPlace,
+                           silent_stops, without_fights, write_ranked)
 
 WRONG_OPTIONS = [
     *(usage_error(f"cwtune-spread {name}={number}", f"argument {name}: {number} is not 1 or more")
@@ -32,19 +32,32 @@ def after_kills(place):
     result, check_status = unbroken
     yield compare("an unbroken tuning is accepted", (0, 0), (result[0], check_status))
     place.clear()
-    dice = random.Random(45)
+    dice, kills = random.Random(45), []
     for parts in range(10):
         signal_number = dice.choice([signal.SIGKILL, signal.SIGINT, signal.SIGTERM])
         jobs = f"--jobs={dice.randint(1, 4)}"
-        err = place.kill_at(parts, signal_number, dice.uniform(0, 0.05), jobs, "--parts=12", *DECOY)
-        if signal_number != signal.SIGKILL and "CERT.parts" in err:
-            yield compare("a stop says how to go on", True, is_how_to_go_on(err, "parts", 12))
+        kill = place.kill_at(parts, signal_number, dice.uniform(0, 0.05), jobs, "--parts=12",
+                             *DECOY)
+        kills.append(kill)
         # A kill while `tune` looks at the inputs leaves an empty CERT.
         is_whole = not place.read("CERT") or place.check(DECOY) == 0
         yield compare("a kill leaves no half certificate", True, is_whole)
+    yield compare("a kill met a tuning at work", True, any(map(Kill.met_job, kills)))
+    yield compare("a stop says how to go on", [], silent_stops(kills, "parts", 12))
     yield compare("ten kills change nothing", unbroken,
                   place.found(DECOY, place.spread("--jobs=2", "--parts=12", *DECOY)))
     yield compare("the parts are gone at the end", False, (place.folder / "CERT.parts").exists())
+
+
+def stops(place):
+    """Stops a tuning in the part that begins last."""
+    for signal_number in [signal.SIGINT, signal.SIGTERM]:
+        yield compare(f"signal {signal_number} says how to go on", (
+            -signal.SIGINT, "stopped: 2 of 3 parts are done, and kept in CERT.parts: repeat the "
+            "command to run the others\n", 2), (
+            *place.stop_in("--part=2/3", signal_number, "--jobs=1", "--parts=3", *DECOY),
+            place.done()))
+        place.clear()
 
 
 def other_inputs(place):
@@ -117,15 +130,12 @@ def folders(place):
 
 def two_at_once(place):
     """Runs one `cwtune-spread` while another one has the folder."""
-    job = subprocess.Popen(place.words(["--jobs=1", "--parts=12", *DECOY]), cwd=place.folder,
-                           stdout=subprocess.DEVNULL)
-    place.wait_for(1, job)
-    job.send_signal(signal.SIGSTOP)
-    yield compare("the second one is refused",
-                  (2, "", "error: another cwtune-spread is at work in CERT.parts\n"),
-                  place.spread(*DECOY))
-    job.send_signal(signal.SIGCONT)
-    yield compare("the first one ends as it does alone", 0, job.wait(SECONDS))
+    with place.held("--jobs=1", "--parts=12", *DECOY) as job:
+        yield compare("the second one is refused",
+                      (2, "", "error: another cwtune-spread is at work in CERT.parts\n"),
+                      place.spread(*DECOY))
+        job.send_signal(signal.SIGCONT)
+        yield compare("the first one ends as it does alone", 0, job.wait(SECONDS))
 
 
 def templates(place):
@@ -186,11 +196,15 @@ def methods(place):
     place.tune("--all", *DECOY)
     cert = place.read("CERT")
     place.clear()
+    began_at = time.monotonic()
     status, _, err = place.spread("--all", "--jobs=2", "--progress", *DECOY)
+    minutes = int((time.monotonic() - began_at) / 60)
     yield compare("--all makes the certificate of tune --all", (0, cert),
                   (status, place.read("CERT")))
-    yield compare("--progress begins with a line", "0 of 32 parts, 0 of 126 settings, 0 fights\n",
-                  err)
+    first_line, *more_lines = err.splitlines()
+    yield compare("--progress begins with a line", "0 of 32 parts, 0 of 126 settings, 0 fights",
+                  first_line)
+    yield compare("another one follows each minute", True, len(more_lines) <= minutes)
     place.clear()
     folder, name = os.path.split(place.program)
     with mock.patch.dict(os.environ, {"PATH": f"{folder}:{os.environ['PATH']}"}):
@@ -294,11 +308,15 @@ def rankings(place):
 def screen_of(place, words):
     """Returns what `cwtune-spread` shows on a terminal."""
     screen, terminal = pty.openpty()
-    job = subprocess.Popen(place.words(words), cwd=place.folder, stdout=subprocess.DEVNULL,
-                           stderr=terminal)
-    os.close(terminal)
-    text = shown(screen)
-    job.wait()
+    with place.start_spread(*words, stderr=terminal) as job:
+        os.close(terminal)
+        alarm = threading.Timer(SECONDS, job.kill)
+        alarm.start()
+        try:
+            text = shown(screen)
+        finally:
+            alarm.cancel()
+        job.wait(SECONDS)
     return text.decode()
 
 
@@ -346,6 +364,6 @@ def progress(place):
 
 
 def trials(program):
-    return played("cwtune-spread", lambda folder: SpreadPlace(program, folder), [
-        after_kills, other_inputs, damaged_parts, folders, two_at_once, templates, faults, methods,
-        liars, floors, rankings, explained, notes, progress])
+    return in_folders(lambda folder: SpreadPlace(program, folder), [
+        after_kills, stops, other_inputs, damaged_parts, folders, two_at_once, templates, faults,
+        methods, liars, floors, rankings, explained, notes, progress])

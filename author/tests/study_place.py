@@ -3,7 +3,7 @@ import json, subprocess
 
 from gate import play
 
-from .commands import command, run
+from .commands import command, run, started
 
 STONE = """;redcode-nano
 ;name Little <Stone> & "Co"
@@ -46,8 +46,8 @@ class StudyPlace(play.Place):
         return self.run(["asm", "--core=80", "--length=5", "--distance=5", *words]).out
 
     def begin(self, *words):
-        return subprocess.Popen(command("cwtune-study", *self.words(*words)), cwd=self.folder,
-                                stdout=subprocess.DEVNULL, stderr=subprocess.PIPE)
+        return started(command("cwtune-study", *self.words(*words)), cwd=self.folder,
+                       stdout=subprocess.DEVNULL, stderr=subprocess.PIPE)
 
     def stages(self, name):
         """Returns which stages are done."""

@@ -1,9 +1,9 @@
 """Gives `cwtune-study` what it has to refuse: other inputs, other folders, wrong words."""
-import fcntl, os, time
+import fcntl, os
 
 from gate.tally import compare
 
-from .commands import Refusal, refused, usage_error
+from .commands import Refusal, refused, usage_error, wait_until
 from .study_place import TEMPLATE, texts
 
 FOREIGN = "error: mine is not a folder of this cwtune-study, and is not touched\n"
@@ -93,11 +93,9 @@ def foreign(place):
                   place.study("t.red", "all"))
     os.close(lock)
     place.write("t.study/study.json.1.new", "{")
-    job = place.begin("t.red", "all")
-    while len(place.stages("t")) < 1 and job.poll() is None:
-        time.sleep(0.001)
-    job.kill()
-    job.communicate()
+    with place.begin("t.red", "all") as job:
+        wait_until(lambda: place.stages("t"), job)
+        job.kill()
     (place.folder / "t.study/best.cert").unlink(missing_ok=True)
     place.write("t.study/best.cert", "a text\n")
     status, _, err = place.study("t.red", "all")

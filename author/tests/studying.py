@@ -7,7 +7,7 @@ from author.lib import grid, tuning_files
 from gate.tally import compare
 
 from . import study_refused
-from .commands import AUTHOR, SECONDS, played, run
+from .commands import AUTHOR, SECONDS, in_folders, run, wait_until
 from .study_place import OPPONENTS, TEMPLATE, StudyPlace
 
 STAGES = ["inputs", "schedule", "box", "best", "fresh 1", "fresh 2", "fresh 3", "fresh 4",
@@ -155,14 +155,11 @@ def after_kills(place):
     shutil.rmtree(place.folder / "p.study")
     dice = random.Random(69)
     for count, name in enumerate(STAGES, 1):
-        job = place.begin("--exact=9", "p.red", "all")
-        deadline = time.monotonic() + SECONDS
-        while (len(place.stages("p")) < count and job.poll() is None
-               and time.monotonic() < deadline):
-            time.sleep(0.002)
-        time.sleep(dice.uniform(0, 0.15))
-        job.send_signal([signal.SIGKILL, signal.SIGTERM][count % 2])
-        err = job.communicate()[1].decode()
+        with place.begin("--exact=9", "p.red", "all") as job:
+            wait_until(lambda: len(place.stages("p")) >= count, job)
+            time.sleep(dice.uniform(0, 0.15))
+            job.send_signal([signal.SIGKILL, signal.SIGTERM][count % 2])
+            err = job.communicate(timeout=SECONDS)[1].decode()
         yield compare(f"a kill after the stage {name}", STAGES[:count], place.stages("p")[:count])
         # A later kill may come before the folder is opened.
         if count == 1:
@@ -181,5 +178,5 @@ def without_seconds(log):
 
 
 def trials(program):
-    return played("cwtune-study", lambda folder: StudyPlace(program, folder), [
+    return in_folders(lambda folder: StudyPlace(program, folder), [
         finds, varies, seeks, study_refused.foreign, study_refused.refusals])

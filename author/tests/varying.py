@@ -1,13 +1,13 @@
 """Plays `cwtune-vary` and `cwtune-seek` with the program."""
-import os, re, signal, subprocess, time
+import itertools, os, re, signal, subprocess
 from typing import NamedTuple
 
 from author.lib import grid
 from gate.play import Place
 from gate.tally import compare
 
-from .commands import (EXAMPLES, SECONDS, TUNING, Refusal, command, played, refused, run,
-                       usage_error)
+from .commands import (EXAMPLES, SECONDS, TUNING, Refusal, command, in_folders, refused, run,
+                       started, usage_error, wait_until)
 
 TEXT = """;redcode-94
 ;name Two Numbers
@@ -84,7 +84,7 @@ def templates(place):
 def run_bytes(place, *words):
     """Returns the status and the output of `cwtune-vary`, line ends as they are."""
     completed = subprocess.run(command("cwtune-vary", "--program", place.program, *words),
-                               cwd=place.folder, capture_output=True)
+                               cwd=place.folder, capture_output=True, timeout=SECONDS)
     return completed.returncode, completed.stdout.decode()
 
 
@@ -149,6 +149,27 @@ def climbs(place):
     box = grid.Grid(place.folder / "box.red")
     yield compare("a box is around it", (0, found.start_values, True), (
         boxed.status, box.start_values, all(len(values) <= 5 for values in box.ranges)))
+
+
+def pairs(place):
+    """Climbs in a template of three constants, two at a time, and in one of two."""
+    result = seek(place, "--pairs", template=TUNING / "decoy.red")
+    total = found_by(result).total
+    place.write("found.red", result.out)
+    found = grid.Grid(place.folder / "found.red")
+    planes = list(itertools.combinations(range(3), 2))
+    yield compare("what is said of the other planes", (
+        0, "note: no setting of a plane through it has a greater total; one elsewhere, of all 126 "
+        "settings, may"), (result.status, result.err.splitlines()[-1]))
+    yield compare("it tunes planes", {"DECOY,PLACE", "DECOY,STEP", "PLACE,STEP"}, {
+        line.partition(":")[0] for line in result.err.splitlines() if line.endswith(" fights")})
+    yield compare("no tuning of a plane through it has a better one", [total] * 3, [
+        best_total(place, found.line_through(found.start_values, free)) for free in planes])
+    result = seek(place, "--pairs")
+    yield compare("two constants are one plane", (
+        0, best_total(place, (TUNING / "stone.red").read_bytes()),
+        "note: none of all 273 settings has a greater total"),
+        (result.status, found_by(result).total, result.err.splitlines()[-1]))
 
 
 def ended_climbs(place):
@@ -217,19 +238,19 @@ def stopped_climbs(place):
     os.chmod(place.folder / "slow", 0o755)
     words = command("cwtune-seek", "--program=./slow", str(TUNING / "step.red"), SCHEDULE,
                     *OPPONENTS)
+    begun = place.folder / "begun"
     for signal_number in [signal.SIGINT, signal.SIGTERM]:
-        job = subprocess.Popen(words, cwd=place.folder, stdout=subprocess.PIPE,
-                               stderr=subprocess.PIPE)
-        while not (place.folder / "begun").exists() and job.poll() is None:
-            time.sleep(0.01)
-        job.send_signal(signal_number)
-        out, err = job.communicate(timeout=SECONDS)
-        (place.folder / "begun").unlink()
+        with started(words, cwd=place.folder, stdout=subprocess.PIPE,
+                     stderr=subprocess.PIPE) as job:
+            wait_until(begun.exists, job)
+            job.send_signal(signal_number)
+            out, err = job.communicate(timeout=SECONDS)
+        begun.unlink(missing_ok=True)
         yield compare(f"signal {signal_number} before START was played", (
             -signal.SIGINT, b"", b"stopped: before START or another setting was played\n"),
             (job.returncode, out, err))
 
 
 def trials(program):
-    return played("cwtune-vary and cwtune-seek", lambda folder: Place(program, folder, {}), [
-        templates, refusals, climbs, ended_climbs, kinds, refused_climbs, stopped_climbs])
+    return in_folders(lambda folder: Place(program, folder, {}), [
+        templates, refusals, climbs, pairs, ended_climbs, kinds, refused_climbs, stopped_climbs])

@@ -5,7 +5,7 @@ from gate.play import Place
 from gate.tally import compare
 
 from . import origins
-from .commands import TUNING, Refusal, played, refused, run
+from .commands import TUNING, Refusal, in_folders, refused, run
 
 FIGHT = "opponent,position,first\n0,4000,c\n"
 # Templates with range lines at unusual places, and how many settings they have.
@@ -191,5 +191,5 @@ def ranks(place):
 
 
 def trials(program):
-    return played("cwtune-warrior and cwtune-holdout", lambda folder: Place(program, folder, {}), [
+    return in_folders(lambda folder: Place(program, folder, {}), [
         warriors, refusals, pmars_notes, faults, holdouts, gains, ranks])

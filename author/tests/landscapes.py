@@ -1,0 +1,98 @@
+"""Draws pictures by `cwtune-landscape --effects`, with a stand-in for matplotlib."""
+import math, os
+from unittest import mock
+
+from author.lib import landscape, tuning_files
+from gate.play import Place
+from gate.tally import compare
+
+from .commands import TUNING, in_folders, run
+
+# The modules of the stand-in. A picture is the text of the calls that drew it.
+STAND_IN = {"__init__.py": """rcParams = {}
+
+
+def use(_):
+    pass
+""", "pyplot.py": """class Axes:
+    def __init__(self, calls):
+        self.calls = calls
+
+    def __getattr__(self, name):
+        return lambda *args, **_: self.calls.append(f"{name} {args}")
+
+
+class Figure(Axes):
+    def savefig(self, file, **_):
+        file.write("\\n".join(self.calls).encode())
+
+
+class Grid:
+    def __init__(self, axes):
+        self.flat = axes
+
+
+def subplots(rows=1, columns=1, squeeze=True, **_):
+    calls = []
+    grid = Grid([Axes(calls) for _ in range(rows * columns)])
+    return Figure(calls), grid.flat[0] if squeeze else grid
+"""}
+FILES = {
+    "t.red": ";@tune K 0 1 1 0\nJMP 1-K\n",
+    "two.red": ";@tune A 0 1 1 0\n;@tune B 0 2 1 0\nMOV 0, 1\n",
+    "imp.red": "MOV 0, 1\n",
+    "s.csv": "opponent,position,first\n0,4000,c\n",
+    **{name: (TUNING / name).read_bytes() for name in ["step.red", "step.cert"]},
+}
+# The second picture of the certificate that `tune --all` makes of t.red.
+EFFECTS = """errorbar ([0, 1], [0.0, 1.0], [0.0, 0.0])
+set_xlabel ('K',)
+set_ylabel ('mean total',)
+suptitle ('best 1: K=1, total 1 of 3',)"""
+
+
+def effects(place):
+    """Draws both pictures with the stand-in."""
+    (place.folder / "matplotlib").mkdir()
+    for name, text in STAND_IN.items():
+        place.write(f"matplotlib/{name}", text)
+    place.run(["tune", "--all", "t.red", "s.csv", "cert", "imp.red"], keep=True)
+    with mock.patch.dict(os.environ, {"PYTHONPATH": str(place.folder)}):
+        result = run("cwtune-landscape", "t.red", "cert", "x.svg", "--effects", "y.svg",
+                     folder=place.folder)
+        yield compare("the means of all values", ((0, "", ""), EFFECTS, True), (
+            result, (place.read("y.svg") or b"").decode(), b"scatter " in place.read("x.svg")))
+        result = run("cwtune-landscape", "step.red", "step.cert", "x.png", "--effects", "y.png",
+                     folder=place.folder)
+    yield compare("settings that were dropped", (
+        1, "", "refused: settings were dropped: the means need a certificate of `cwtune tune "
+        "--all`\n", None), (*result, place.read("y.png")))
+
+
+def means(place):
+    """Computes the means of the values of two constants, and their errors."""
+    template, nan = tuning_files.Template(str(place.folder / "two.red")), math.nan
+    for name, totals, constant, expected in [
+        ("the slower constant", [1, 2, 3, 4, nan, 6], 0, ([0, 1], [2, 5], [0.577350269, 1])),
+        ("the faster constant", [1, 2, 3, 4, nan, 6], 1,
+         ([0, 1, 2], [2.5, 2, 4.5], [1.5, 0, 1.5])),
+        ("a value that never assembles", [1, nan, 3, 4, nan, 6], 1,
+         ([0, 2], [2.5, 4.5], [1.5, 1.5])),
+    ]:
+        values, came, errors = landscape.effect_of(template, totals, constant)
+        yield compare(name, expected, (values, came, [round(error, 9) for error in errors]))
+
+
+def wrong_names(place):
+    """Names a second picture of another kind."""
+    before = place.texts()
+    for name in ["y.jpg", "svg"]:
+        yield compare(f"--effects {name}", (
+            2, "", "cwtune-landscape: error: the picture's name has to end with .png or .svg: "
+            f"{name}\n", before), (
+            *run("cwtune-landscape", "step.red", "step.cert", "x.svg", f"--effects={name}",
+                 folder=place.folder), place.texts()))
+
+
+def trials(program):
+    return in_folders(lambda folder: Place(program, folder, FILES), [effects, means, wrong_names])
