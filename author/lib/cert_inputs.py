@@ -62,13 +62,13 @@ def digest_of(path):
     return f"{os.path.getsize(path)} {sha256_of(path)}"
 
 
-def name_of(cert):
+def inputs_path(cert):
     return f"{cert}.inputs"
 
 
 def read(cert):
     """Returns which inputs a certificate is for, or a text that says why that is not known."""
-    name = name_of(cert)
+    name = inputs_path(cert)
     try:
         inputs = CertInputs(pathlib.Path(name).read_bytes())
     except FileNotFoundError:
@@ -109,7 +109,7 @@ def print_note(why_unused):
 def refuse_other_tuning(args, cert, part, method):
     """Refuses `cert` if its CERT.inputs names another part, tuning or certificate, or is malformed.
     Without a CERT.inputs `cert` passes."""
-    if not os.path.exists(name_of(cert)):
+    if not os.path.exists(inputs_path(cert)):
         return
     inputs = read(cert)
     if isinstance(inputs, str):

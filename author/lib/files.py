@@ -4,7 +4,7 @@ Example: cwtune-files my.red fights.csv my.cert
 """
 import pathlib
 
-from .tuning_files import Rows, Template, read_schedule
+from .tuning_files import AnyCertificate, Template, read_schedule
 from .words import command_parser, counted
 
 
@@ -16,7 +16,7 @@ def describe(path):
         fights = read_schedule(path)
         return f"schedule of {counted(len(fights), 'fight')}, greatest total {fights.greatest}"
     if first_field == "cwcert":
-        cert = Rows(path)
+        cert = AnyCertificate(path)
         answer = (f"none reaches the floor {cert.total}" if cert.best is None
                   else f"best {cert.best} total {cert.total}")
         settings = counted(len(cert.rows), "setting")

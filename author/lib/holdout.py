@@ -21,7 +21,7 @@ from .endings import Fault, end_by_kill_as_by_interrupt, fault_of
 from .mean_error import error_of_mean
 from .program import EXPLAIN, rules_of, run_program
 from .series import refuse_distance, refuse_fights
-from .words import (add_opponents_of_tuning, add_program, add_rules, add_words, command_parser,
+from .words import (add_files, add_opponents_of_tuning, add_program, add_rules, command_parser,
                     counted, number_from)
 
 
@@ -123,7 +123,7 @@ class Holdout:
     def __init__(self, args):
         self.args = args
         self.cert = tuning_files.Certificate(args.cert)
-        self.template = tuning_files.Template(args.template).of(self.cert)
+        self.template = tuning_files.Template(args.template).checked_for(self.cert)
         self.fights = self.cert.fights(args.schedule)
         self.fresh_fights = FreshFights(args, opponent_weights_of(args, self.fights))
         self.ranking = self.cert.ranked(self.fights)
@@ -195,7 +195,7 @@ def make_parser():
                         help="compare with the warrior of this Redcode text, and not with START")
     add_program(parser)
     add_rules(parser, of_tuning=True)
-    add_words(parser, "template", "cert")
+    add_files(parser, "template", "cert")
     add_opponents_of_tuning(parser)
     return parser
 

@@ -14,7 +14,7 @@ import itertools, math, sys
 from . import cert_inputs, tuning_files
 from .endings import Fault
 from .mean_error import error_of_mean
-from .words import add_words, command_parser
+from .words import add_files, command_parser
 from .writing import whole_file
 
 MOST_MAPS = 36
@@ -203,7 +203,7 @@ def refuse_opponent(parser, args, fights):
 
 def make_parser():
     parser = command_parser(__doc__)
-    add_words(parser, "template", "cert")
+    add_files(parser, "template", "cert")
     parser.add_argument("picture", metavar="PICTURE", help="a name that ends with .png or .svg")
     parser.add_argument("--schedule", metavar="FILE",
                         help="the schedule [default: that of the tuning]")
@@ -239,7 +239,7 @@ def main():
     template = tuning_files.Template(args.template)
     cert = tuning_files.Certificate(args.cert)
     why_unused = cert_inputs.settle(args)
-    if not template.of(cert).names:
+    if not template.checked_for(cert).names:
         parser.error("the template has no constants to draw")
     fights = cert.fights(args.schedule)
     refuse_opponent(parser, args, fights)

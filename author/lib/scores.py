@@ -10,7 +10,7 @@ import concurrent.futures, os
 from . import cert_inputs, tuning_files
 from .endings import Fault, say
 from .program import assemble, rules_of
-from .words import add_program, add_rules, add_words, command_parser, counted, number_from
+from .words import add_files, add_program, add_rules, command_parser, counted, number_from
 
 # With more settings than this none is assembled, to save time.
 MOST_ASSEMBLED = 2000
@@ -113,7 +113,7 @@ def print_idle(template, warriors):
 
 def make_parser():
     parser = command_parser(__doc__)
-    add_words(parser, "cert")
+    add_files(parser, "cert")
     parser.add_argument("schedule", metavar="SCHEDULE", nargs="?",
                         help="the schedule [default: that of the tuning]")
     parser.add_argument("--template", metavar="FILE", help="the template, for the constants' names "
@@ -133,7 +133,7 @@ def main():
         parser.error(f"give SCHEDULE: {why_unused or 'the schedule of the tuning is not there'}")
     cert = tuning_files.Certificate(args.cert)
     fights = cert.fights(args.schedule)
-    template = tuning_files.Template(args.template).of(cert) if args.template else None
+    template = tuning_files.Template(args.template).checked_for(cert) if args.template else None
     constants = f" {template.constants(cert.best)}" if template else ""
     print_scores(f"best setting {cert.best}, total {cert.total} of {fights.greatest}{constants}",
                  cert.points(cert.best), fights)

@@ -18,7 +18,7 @@ from .endings import Fault, end_as, end_by_kill_as_by_interrupt
 from .grid import Grid
 from .program import NO_CANDIDATE, reading_output, rules_of, run_program
 from .tuning_files import MOST_SETTINGS
-from .words import add_program, add_rules, add_words, command_parser, counted, number_from
+from .words import add_files, add_program, add_rules, command_parser, counted, number_from
 
 # How `cwtune-study` reads this command's lines: START's total, if it assembles, and the number of
 # fights.
@@ -225,7 +225,7 @@ def make_parser():
                         help="run each tuning on N processors, by cwtune-spread [default: 1]")
     add_program(parser)
     add_rules(parser)
-    add_words(parser, "template", "schedule", "opponent")
+    add_files(parser, "template", "schedule", "opponent")
     return parser
 
 

@@ -24,7 +24,7 @@ import contextlib, os, shutil, sys, time
 from . import cert_inputs, spread_parts, spread_shares, tuning_files
 from .endings import Fault, end_as, end_by_kill_as_by_interrupt
 from .program import EXPLAIN, reading_output, rules_of, run_program
-from .spread_folder import Folder
+from .spread_folder import SpreadFolder
 from .spread_jobs import HostJobs, LocalJobs
 from .spread_parts import Part
 from .spread_progress import PartsProgress, SharesProgress
@@ -128,7 +128,7 @@ def explaining_stop(folder, progress):
     try:
         yield
     except KeyboardInterrupt as stop:
-        if not stop.args and isinstance(folder, Folder):
+        if not stop.args and isinstance(folder, SpreadFolder):
             print(f"stopped: {how_to_go_on(folder, progress)}", file=sys.stderr)
         raise KeyboardInterrupt("said") from None
 
@@ -173,7 +173,7 @@ def refuse_missing(folder, progress, faults):
             raise Fault(fault.strip(), 1 if word == "refused" else 2)
     numbers = f"{'s' * (len(missing) > 1)} {', '.join(map(str, missing))} of {folder.piece_count}"
     why = f" ({messages[0].strip()})" if messages else ""
-    hint = f"\n{how_to_go_on(folder, progress)}" if isinstance(folder, Folder) else ""
+    hint = f"\n{how_to_go_on(folder, progress)}" if isinstance(folder, SpreadFolder) else ""
     raise Fault(f"no result for {folder.PIECE}{numbers}{why}{hint}", 3)
 
 
@@ -244,7 +244,7 @@ def write_inputs(args):
     removed, and nothing else changes."""
     if not os.path.isfile(args.cert):
         return
-    name, files = cert_inputs.name_of(args.cert), [args.template, args.schedule, *args.opponent]
+    name, files = cert_inputs.inputs_path(args.cert), [args.template, args.schedule, *args.opponent]
     try:
         printed = run_program(args.program, "--version").stdout.decode()
         version = printed.removeprefix("cwtune ").strip()

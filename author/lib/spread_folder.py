@@ -33,7 +33,7 @@ def copies_of(args, *others):
               for index, path in enumerate(args.opponent))]
 
 
-class Folder(OwnFolder):
+class SpreadFolder(OwnFolder):
     """A folder that `cwtune-spread` made.
 
     Its subclasses say how a piece is called (`PIECE`), which files of the folder are its own

@@ -16,7 +16,7 @@ from typing import NamedTuple
 from .cert_inputs import sha256_of
 from .endings import Fault
 from .program import NO_CANDIDATE, rules_of
-from .spread_folder import Folder, copies_of
+from .spread_folder import SpreadFolder, copies_of
 from .spread_jobs import end_with_parent
 from .tuning_files import MOST_BYTES, Template
 
@@ -124,7 +124,7 @@ class ClusterParts:
         """Leaves the files of the jobs where they are."""
 
 
-class Parts(Folder):
+class Parts(SpreadFolder):
     """The folder CERT.parts."""
 
     PIECE, THROWN, INSTEAD = "part", "the parts", "CERT"

@@ -10,12 +10,12 @@ import csv, pathlib, re
 from .cert_inputs import sha256_of
 from .endings import Fault
 from .program import rules_of
-from .spread_folder import Copy, Folder, copies_of
+from .spread_folder import Copy, SpreadFolder, copies_of
 
 ACCEPTED = re.compile(r"accepted share (\d+)/(\d+) best (\d+) total (\d+)\n(?P<ranks>(rank .*\n)*)")
 REJECTED = re.compile(r"rejected row (\d+) (\w+)\n")
 # The reasons of the form of a certificate and of its best row, which all shares find alike.
-OF_ALL = {"Malformed", "Version", "RowCount", "BestRow"}
+REASONS_OF_ALL_SHARES = {"Malformed", "Version", "RowCount", "BestRow"}
 
 
 def is_verdict(text, status, number, share_count, keep=1):
@@ -50,7 +50,7 @@ def first_rejection(rejections, cert):
 
     def order(rejection):
         row, reason = rejection
-        return reason not in OF_ALL, row in same, row
+        return reason not in REASONS_OF_ALL_SHARES, row in same, row
 
     return min(rejections, key=order)
 
@@ -102,7 +102,7 @@ class ClusterShares:
         """Leaves the files of the jobs where they are."""
 
 
-class Shares(Folder):
+class Shares(SpreadFolder):
     """The folder CERT.shares, or another one."""
 
     PIECE, THROWN, INSTEAD = "share", "the shares", "folder by --work"

@@ -2,7 +2,7 @@
 import os
 
 from .tuning_files import MOST_KEPT, MOST_SETTINGS
-from .words import add_program, add_rules, add_words, number_from
+from .words import add_files, add_program, add_rules, number_from
 
 # The most parts and the most shares that the program takes.
 MOST_PIECES = 2 ** 32 - 1
@@ -20,10 +20,10 @@ def add_options(parser):
     add_check(parser)
     add_jobs(parser)
     add_rules(parser)
-    add_words(parser, "template", "schedule")
+    add_files(parser, "template", "schedule")
     parser.add_argument("cert", metavar="CERT", help="the file to which the certificate is "
                         "written, or with --check-only the certificate")
-    add_words(parser, "opponent")
+    add_files(parser, "opponent")
 
 
 def add_jobs(parser):

@@ -19,12 +19,12 @@ from . import seek, study_fresh, study_inputs, study_report
 from .endings import Fault, end_by_kill_as_by_interrupt
 from .grid import Grid
 from .program import Rules, rules_of
-from .study_folder import Folder
+from .study_folder import StudyFolder
 from .study_result import report_of
 from .tuning_files import MOST_FIGHTS, MOST_SETTINGS, Certificate, read_schedule
 from .words import add_program, add_rules, command_parser, number_from
 
-FIGHTS = number_from(1, MOST_FIGHTS)
+fight_count = number_from(1, MOST_FIGHTS)
 
 
 class Study:
@@ -37,8 +37,8 @@ class Study:
         self.opponents = [f"opponents/{name}" for name in self.names]
         self.rules = [word for word, default in zip(rules_of(args).words(), Rules().words())
                       if word != default]
-        self.folder = Folder(args.out or f"{pathlib.Path(args.warrior).stem}.study", args.program,
-                             inputs.fingerprint(args), args.anew)
+        given_path = args.out or f"{pathlib.Path(args.warrior).stem}.study"
+        self.folder = StudyFolder(given_path, args.program, inputs.fingerprint(args), args.anew)
 
     def author_words(self, name, *words):
         """Returns the words of a command for authors that takes the program and the rules."""
@@ -99,7 +99,7 @@ class Study:
         """Returns the first settings of the ranking of the box."""
         cert = Certificate(self.folder.path / "best.cert")
         ranking = cert.ranked(read_schedule(self.folder.path / "schedule.csv"))
-        return [setting for _, setting in ranking.full[:study_fresh.FIRST]]
+        return [setting for _, setting in ranking.full[:study_fresh.FIRST_HEAT_PLAYERS]]
 
     def go(self):
         """Goes through all stages. Returns the report."""
@@ -168,7 +168,7 @@ def make_parser():
     parser = command_parser(__doc__)
     parser.add_argument("--out", metavar="FOLDER", help="where all files go [default: NAME.study, "
                         "for a warrior NAME.red]")
-    parser.add_argument("--rounds", type=FIGHTS, default=20, metavar="R",
+    parser.add_argument("--rounds", type=fight_count, default=20, metavar="R",
                         help="fights of the tuning against each opponent [default: 20]")
     parser.add_argument("--seed", type=number_from(1, 65535), metavar="S",
                         help="the first position, as SEED of cwtune-series [default: 4321, or less "
@@ -179,7 +179,7 @@ def make_parser():
     parser.add_argument("--box", type=number_from(1), default=2, metavar="N",
                         help="values on both sides of what the climb finds; 1 if the box would "
                         "have more than --exact settings [default: 2]")
-    parser.add_argument("--fresh", type=FIGHTS, default=100, metavar="F",
+    parser.add_argument("--fresh", type=fight_count, default=100, metavar="F",
                         help="fresh fights of a heat against each opponent [default: 100]")
     parser.add_argument("--jobs", type=number_from(1), default=os.cpu_count(), metavar="N",
                         help="jobs that run side by side [default: the processors]")

@@ -28,7 +28,7 @@ ROOMS = {
 }
 
 
-class Folder(OwnFolder):
+class StudyFolder(OwnFolder):
     """A folder that `cwtune-study` made. `mark` is what its mark says, and `stage_commands` are the
     commands of the stage that runs."""
 

@@ -17,7 +17,7 @@ from .spread_jobs import LocalJobs
 from .tuning_files import MOST_FIGHTS, Certificate
 
 # How many of the ranking play in the first heat.
-FIRST = 10
+FIRST_HEAT_PLAYERS = 10
 # The player START. The others are settings, as texts.
 START = "start"
 

@@ -83,16 +83,17 @@ class Template(Grid):
         """Returns the values of a setting as the report says them."""
         return self.constants_of(self.settings[setting])
 
-    def of(self, cert):
-        """Returns this template, which has to have as many settings as a certificate has rows."""
+    def checked_for(self, cert):
+        """Returns this template. Refuses it if the certificate has another number of rows than it
+        has settings."""
         if len(self.settings) != len(cert.rows):
             raise Fault(f"the certificate is of {len(cert.rows)} settings, and the template "
                         f"has {len(self.settings)}", 2)
         return self
 
 
-class Rows:
-    """The rows of a certificate.
+class AnyCertificate:
+    """A certificate, with a best setting or without: its answer and its rows.
 
     `rows[setting]` is ("refused", None), ("same", twin) or ("cap", points): the twin is the setting
     whose fights are shared, and the points are a dict by fight. If no setting reaches the floor of
@@ -146,7 +147,7 @@ class Ranking(NamedTuple):
     exact: int
 
 
-class Certificate(Rows):
+class Certificate(AnyCertificate):
     """A certificate that names a best setting."""
 
     def __init__(self, path):

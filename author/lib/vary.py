@@ -91,7 +91,7 @@ def uses_of(text, equ):
                if number != equ.line)
 
 
-def numbers_of(text):
+def lines_of_numbers(text):
     """Yields for each number that can have a range a line that says where it is and how often it is
     used."""
     for equ in equs_of(text):
@@ -206,7 +206,7 @@ def main():
     args = parser.parse_intermixed_args()
     text = warrior_text(parser, args)
     if not args.ranges:
-        lines = list(numbers_of(text))
+        lines = list(lines_of_numbers(text))
         for line in lines:
             print(line)
         if not lines:

@@ -14,7 +14,7 @@ from . import cert_inputs, tuning_files
 from .endings import Fault
 from .grid import is_range_line
 from .program import load_file_of, refuse_other_warrior, rules_of
-from .words import FILE_HELP, add_program, add_rules, add_words, command_parser
+from .words import FILE_HELP, add_files, add_program, add_rules, command_parser
 
 # The new lines come after the first line that begins so.
 REDCODE_LINE = b";redcode"
@@ -96,7 +96,7 @@ def make_parser():
                         help="the index of a setting, or `start`")
     add_program(parser)
     add_rules(parser, of_tuning=True)
-    add_words(parser, "template")
+    add_files(parser, "template")
     parser.add_argument("cert", metavar="CERT", nargs="?", help=FILE_HELP["cert"])
     return parser
 
@@ -115,7 +115,7 @@ def main():
     else:
         cert = tuning_files.Certificate(args.cert)
         why_unused = cert_inputs.settle(args)
-        template.of(cert)
+        template.checked_for(cert)
         setting = cert.best
         totals = cert.total, total_of_start(cert, template, args.schedule)
     with open(args.template, "rb") as file:

@@ -65,7 +65,7 @@ def program_word(module, docstring):
     return program_of(parser.parse_args().program)
 
 
-def add_words(parser, *names):
+def add_files(parser, *names):
     """Adds the files of a tuning to the words of a command."""
     for name in names:
         parser.add_argument(name, metavar=name.upper(), help=FILE_HELP[name],
