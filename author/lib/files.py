@@ -24,7 +24,7 @@ def describe(path):
     template = Template(path)
     if not template.names:
         return "text without a range line: a template of one setting"
-    settings = counted(len(template.settings), "setting")
+    settings = counted(len(template.values_of_settings), "setting")
     return f"template of {settings}, constants {' '.join(template.names)}"
 
 

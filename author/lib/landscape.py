@@ -132,7 +132,7 @@ def draw_maps(plot, totals, x, y):
     total_maps, cap_maps = maps_of(totals, x, y, others)
     figure, axes_of_maps, grid = grid_of(plot, len(total_maps))
     numbers = [total for total in totals.totals if not math.isnan(total)]
-    greys, best = totals.greys(), totals.template.settings[totals.best]
+    greys, best = totals.greys(), totals.template.values_of_settings[totals.best]
     choices = itertools.product(*(ranges[constant] for constant in others))
     for axes, choice, total_map, cap_map in zip(axes_of_maps, choices, total_maps, cap_maps):
         if greys:
@@ -157,7 +157,7 @@ def effect_of(template, totals, constant):
     """Returns the values of a constant that assemble, their mean totals, and the standard errors
     of these. `totals` is the list of all settings, and `constant` an index."""
     groups = {value: [] for value in template.ranges[constant]}
-    for total, values in zip(totals, template.settings):
+    for total, values in zip(totals, template.values_of_settings):
         if not math.isnan(total):
             groups[values[constant]].append(total)
     groups = {value: group for value, group in groups.items() if group}

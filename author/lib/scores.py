@@ -103,7 +103,7 @@ def print_idle(template, warriors):
     print("for how many choices of the other constants all values of one make the same warrior")
     for constant, name in enumerate(template.names):
         groups = {}
-        for setting, values in enumerate(template.settings):
+        for setting, values in enumerate(template.values_of_settings):
             others = values[:constant] + values[constant + 1:]
             groups.setdefault(others, []).append(setting)
         alike = [warriors.are_one(group) for group in groups.values()]

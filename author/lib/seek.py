@@ -49,18 +49,18 @@ class Tunings:
         self.args, self.grid, self.folder = args, grid, pathlib.Path(folder)
         self.best_by_line, self.fights, self.greatest = {}, 0, ""
 
-    def line(self, values, free):
+    def line_key(self, values, free):
         """Returns what all settings of a line have in common: `free`, and the other values."""
         return free, tuple(value for constant, value in enumerate(values) if constant not in free)
 
     def is_tuned(self, values, free):
         """Returns whether a line through a setting was tuned before."""
-        return self.line(values, free) in self.best_by_line
+        return self.line_key(values, free) in self.best_by_line
 
-    def best(self, values, free):
+    def tuned_best(self, values, free):
         """Returns the best setting of a line through a setting, or None if none of the line
         assembles. Tunes the line if it was not tuned before."""
-        line = self.line(values, free)
+        line = self.line_key(values, free)
         if line not in self.best_by_line:
             if self.args.fights and self.fights >= self.args.fights:
                 raise FightsReached
@@ -106,7 +106,7 @@ class Climb:
     def go(self, choices):
         """Plays the fights of the first setting, and then tunes one choice of constants after the
         other until none of them gains."""
-        first = self.tunings.best(self.values, ())
+        first = self.tunings.tuned_best(self.values, ())
         self.total = first and first.total
         total = f"total {self.total} of {self.tunings.greatest}" if first else "does not assemble:"
         print(f"start: {total} {self.grid.constants_of(self.values)}", file=sys.stderr, flush=True)
@@ -119,7 +119,7 @@ class Climb:
     def step(self, free):
         """Tunes the constants `free`, prints what came, and returns whether that gained."""
         tuned_before = self.tunings.is_tuned(self.values, free)
-        best = self.tunings.best(self.values, free)
+        best = self.tunings.tuned_best(self.values, free)
         if best is None:
             return False
         gains = self.total is None or best.total > self.total

@@ -28,7 +28,7 @@ from .spread_folder import SpreadFolder
 from .spread_jobs import HostJobs, LocalJobs
 from .spread_parts import Part
 from .spread_progress import PartsProgress, SharesProgress
-from .spread_report import best_of, index_of, ranks_of, report_of, write_whole
+from .spread_report import best_of, index_of, ranks_of, report_lines, write_whole
 from .spread_words import MOST_PIECES, add_options, refuse_idle
 from .words import command_parser
 from .writing import naming, whole_file
@@ -143,7 +143,7 @@ def run_jobs(args, folder, progress):
         while jobs.keep_running():
             for number, status in jobs.take_ended():
                 faults[number] = folder.take_result(number, status)
-                progress.pieces[number] = folder.piece(number)
+                progress.results[number] = folder.result(number)
             progress.show()
             time.sleep(0.02)
         faults |= dict.fromkeys(jobs.waiting, jobs.fault)
@@ -214,7 +214,7 @@ def finish(args, folder, progress, notes):
         end_without_candidate(args, folder, notes)
     refuse_floors(parts)
     with naming(folder.given_path):
-        write_whole(folder, progress.pieces)
+        write_whole(folder, progress.results)
     refuse_ranking(args, whole)
     ranks = ranks_of(parts, args.keep)
     printed, status = check(args, folder.setting_count, notes, whole) if args.check else ("", 0)
@@ -227,7 +227,7 @@ def finish(args, folder, progress, notes):
         raise Fault("the check names another ranking than the parts", 3)
     write_cert(args, whole)
     print_start(args, whole)
-    print(*report_of(parts, folder.setting_count), *ranks, *verdict, sep="\n", flush=True)
+    print(*report_lines(parts, folder.setting_count), *ranks, *verdict, sep="\n", flush=True)
     folder.clean_up()
     return 0
 

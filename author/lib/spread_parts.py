@@ -103,7 +103,7 @@ class ClusterParts:
     def cert(self, number):
         return pathlib.Path(f"{self.given_path}.{number}")
 
-    def piece(self, number):
+    def result(self, number):
         """Returns what came of a part, or None if it has no result."""
         try:
             fault = pathlib.Path(f"{self.cert(number)}.fault").read_text(errors="replace")
@@ -230,7 +230,7 @@ class Parts(SpreadFolder):
         """Returns where the certificate of a part is, once the part is done."""
         return self.path / f"{number}.cert"
 
-    def piece(self, number):
+    def result(self, number):
         """Returns what came of a part, or None if it is not done. Notes its totals."""
         result = self.read_done(number)
         try:

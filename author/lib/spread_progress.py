@@ -9,21 +9,22 @@ PAUSE = 60
 
 
 class Progress:
-    """The pieces of a folder by number, None for one that is not done, and the line of what is
-    done: at a terminal, and with `in_log` once a minute elsewhere."""
+    """What came of the pieces of a folder, by number, None for one that is not done, and the line
+    of what is done: at a terminal, and with `in_log` once a minute elsewhere."""
 
     def __init__(self, folder, in_log):
         self.folder, self.in_log, self.shown, self.last_line_at = folder, in_log, "", -PAUSE
-        self.pieces = {number: folder.piece(number) for number in range(1, folder.piece_count + 1)}
+        numbers = range(1, folder.piece_count + 1)
+        self.results = {number: folder.result(number) for number in numbers}
         self.began_at, self.settings_before = time.monotonic(), self.settings_done()
 
     def done(self):
-        """Returns the pieces that are done."""
-        return [piece for piece in self.pieces.values() if piece]
+        """Returns what came of the pieces that are done."""
+        return [result for result in self.results.values() if result]
 
     def numbers_left(self):
         """Returns the numbers of the pieces that are not done."""
-        return [number for number, piece in self.pieces.items() if piece is None]
+        return [number for number, result in self.results.items() if result is None]
 
     def show(self):
         """Rewrites the line if it says something new, cut to the width of the terminal."""
@@ -76,7 +77,7 @@ class SharesProgress(Progress):
     def settings_done(self):
         folder = self.folder
         return sum(len(settings_of(number, folder.piece_count, folder.setting_count))
-                   for number, verdict in self.pieces.items() if verdict)
+                   for number, verdict in self.results.items() if verdict)
 
     def line(self):
         return (f"{len(self.done())} of {self.folder.piece_count} shares of the check, "

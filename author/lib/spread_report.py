@@ -39,7 +39,7 @@ def rank_line(rank, setting, total, constants):
     return f"rank {rank} setting {setting} total {total}{values}"
 
 
-def report_of(parts, setting_count):
+def report_lines(parts, setting_count):
     """Returns the lines of the report of the whole template."""
     best = best_of(parts)
     return [

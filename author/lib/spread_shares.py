@@ -81,7 +81,7 @@ class ClusterShares:
         self.setting_count, self.keep = setting_count, args.keep
         self.digest = sha256_of(args.cert)
 
-    def piece(self, number):
+    def result(self, number):
         """Returns what a share printed, or None if its job left nothing for this certificate."""
         try:
             text = pathlib.Path(f"{self.given_path}.{number}.check").read_text()
@@ -137,7 +137,7 @@ class Shares(SpreadFolder):
         fault = self.file(number, "fault").read_text(errors="surrogateescape")
         return fault or f"failed: it ended with status {status}\n"
 
-    def piece(self, number):
+    def result(self, number):
         """Returns what a share printed, or None if it is not done."""
         return self.read_done(number)
 

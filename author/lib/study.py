@@ -20,7 +20,7 @@ from .endings import Fault, end_by_kill_as_by_interrupt
 from .grid import Grid
 from .program import Rules, rules_of
 from .study_folder import StudyFolder
-from .study_result import report_of
+from .study_result import report_numbers
 from .tuning_files import MOST_FIGHTS, MOST_SETTINGS, Certificate, read_schedule
 from .words import add_program, add_rules, command_parser, number_from
 
@@ -124,8 +124,9 @@ class Study:
         self.folder.run(words, "winner.red")
 
     def write_report(self, *results):
-        """Writes report.json and report.html from `results`, the other arguments of `report_of`."""
-        report = report_of(self, *results)
+        """Writes report.json and report.html from `results`, the other arguments of
+        `report_numbers`."""
+        report = report_numbers(self, *results)
         self.folder.write("report.json", (json.dumps(report, indent=1) + "\n").encode())
         self.folder.write("report.html", study_report.html_of(report).encode(errors="replace"))
 

@@ -24,16 +24,17 @@ class Box:
 
     def values(self, setting):
         """Returns the values of a setting by the names of the constants."""
-        return dict(zip(self.template.names, self.template.settings[setting]))
+        return dict(zip(self.template.names, self.template.values_of_settings[setting]))
 
     def landscape(self, winner):
         """Returns the totals over the first two constants, with the others as the winner has them:
         for each value of the first a list of those of the second. Of one constant they are a list
         with one list."""
         template = self.template
-        held = template.settings[winner][2:]
+        held = template.values_of_settings[winner][2:]
         totals = [None if math.isnan(total) else total
-                  for values, total in zip(template.settings, self.totals) if values[2:] == held]
+                  for values, total in zip(template.values_of_settings, self.totals)
+                  if values[2:] == held]
         values = [list(constant_range) for constant_range in template.ranges[:2]]
         width = len(values[-1])
         return {"axes": template.names[:2], "values": values,
@@ -94,13 +95,13 @@ def digests_of(folder, names):
 
 def start_total(grid, box, box_result):
     """Returns the total of START in the tuning: that of the climb, or of the box."""
-    if grid.start_values in box.template.settings:
-        start = box.template.settings.index(grid.start_values)
+    if grid.start_values in box.template.values_of_settings:
+        start = box.template.values_of_settings.index(grid.start_values)
         return box.cert.total_of(start, box.fights)
     return box_result["start"]
 
 
-def report_of(study, box_result, tuning_result, winner, points, last_points):
+def report_numbers(study, box_result, tuning_result, winner, points, last_points):
     """Returns the report.
 
     `box_result` and `tuning_result` are the results of their stages. The points are those of the
@@ -117,7 +118,7 @@ def report_of(study, box_result, tuning_result, winner, points, last_points):
         "made": datetime.date.today().isoformat(), "program": version,
         "rules": rules_of(args)._asdict(),
         "constants": constants_of(grid, box, ranked_winner["values"]),
-        "settings": {"template": grid.count(), "box": len(box.template.settings),
+        "settings": {"template": grid.count(), "box": len(box.template.values_of_settings),
                      "sought": box_result["sought"], "seek_fights": box_result["fights"],
                      "box_fights": tuning_result["fights"]},
         "opponents": [{"name": name, "digest": digest_of(folder / "opponents" / name)}

@@ -44,8 +44,8 @@ class Template(Grid):
         super().__init__(path)
         if self.count() > MOST_SETTINGS:
             raise Fault(f"{path}: more than {MOST_SETTINGS} settings")
-        self.settings = list(itertools.product(*self.ranges))
-        self.start = self.settings.index(self.start_values)
+        self.values_of_settings = list(itertools.product(*self.ranges))
+        self.start = self.values_of_settings.index(self.start_values)
 
     def read(self, path):
         """Returns the text. Refuses one that cannot be that of a template."""
@@ -77,18 +77,18 @@ class Template(Grid):
 
     def with_start(self, setting):
         """Returns the text of this template with another setting as START."""
-        return self.text(self.ranges, self.settings[setting])
+        return self.text(self.ranges, self.values_of_settings[setting])
 
     def constants(self, setting):
         """Returns the values of a setting as the report says them."""
-        return self.constants_of(self.settings[setting])
+        return self.constants_of(self.values_of_settings[setting])
 
     def checked_for(self, cert):
         """Returns this template. Refuses it if the certificate has another number of rows than it
         has settings."""
-        if len(self.settings) != len(cert.rows):
+        if len(self.values_of_settings) != len(cert.rows):
             raise Fault(f"the certificate is of {len(cert.rows)} settings, and the template "
-                        f"has {len(self.settings)}", 2)
+                        f"has {len(self.values_of_settings)}", 2)
         return self
 
 

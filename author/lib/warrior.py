@@ -36,8 +36,8 @@ def new_lines(template, setting, totals):
     total, start_total = totals
     shown = f", total {total}" if total is not None else ""
     shown += f"; total of START {start_total}" if start_total is not None else ""
-    return [f";strategy cwtune: setting {setting} of {len(template.settings)}{shown}",
-            *map(equ_line, template.names, template.settings[setting])]
+    return [f";strategy cwtune: setting {setting} of {len(template.values_of_settings)}{shown}",
+            *map(equ_line, template.names, template.values_of_settings[setting])]
 
 
 def text_of(text, template, setting, totals=(None, None)):
@@ -65,8 +65,8 @@ def setting_of(template, word):
     if word == "start":
         return template.start
     setting = int(word)
-    if setting >= len(template.settings):
-        raise Fault(f"the template has {len(template.settings)} settings, from 0", 2)
+    if setting >= len(template.values_of_settings):
+        raise Fault(f"the template has {len(template.values_of_settings)} settings, from 0", 2)
     return setting
 
 

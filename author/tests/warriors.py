@@ -46,13 +46,14 @@ def wrong_settings(place, text, count):
     path, setting_path = place.folder / "t.red", place.folder / "setting.red"
     path.write_bytes(text)
     template, wrong = tuning_files.Template(path), []
-    for setting in range(len(template.settings)):
+    for setting in range(len(template.values_of_settings)):
         setting_path.write_bytes(warrior.text_of(text, template, setting))
         expected = assemble(place.program, "--setting", str(setting), str(path))
         result = assemble(place.program, str(setting_path))
         if result != expected or not expected[0]:
             wrong.append(f"setting {setting}: expected {expected}, came {result}")
-    return wrong + [f"{len(template.settings)} settings"] * (len(template.settings) != count)
+    found = len(template.values_of_settings)
+    return wrong + [f"{found} settings"] * (found != count)
 
 
 def warriors(place):
