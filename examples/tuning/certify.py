@@ -14,7 +14,7 @@ check` on a certificate.
 Nothing here has to be trusted: `cwtune check` says whether what it writes is right.
 
 It is one file on purpose: it shares no code with the commands of `author/`, and runs wherever
-Python does. So `RULES` and `MEANING` are copies of what `author/lib/program.py` has.
+Python does. So `RULES` and `MEANING` are copies of what `author/lib/` has.
 """
 import argparse, collections, csv, io, itertools, pathlib, re, subprocess, sys, tempfile
 
