@@ -178,7 +178,7 @@ def refuse_missing(folder, progress, faults):
 
 
 def refuse_floors(parts):
-    """Refuses parts with floors too great to show the best setting: a cluster's, or a liar's."""
+    """Refuses parts whose floors were too great to show which setting is the best."""
     best = best_of(parts)
     # A floor of 0 hides nothing. Without a best setting any other may hide one.
     greatest, best_setting = (best.total(), index_of(best)) if best else (-1, 0)
