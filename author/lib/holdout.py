@@ -92,14 +92,16 @@ class FreshFights:
                             for opponent in range(len(args.opponents))], self.opponent_weights)
 
 
-def opponent_weights_of(args, fights):
-    """Returns for each opponent the sum of its fights' weights, or 1 without a schedule."""
-    if not args.schedule:
-        return [1] * len(args.opponents)
-    if any(fight.opponent >= len(args.opponents) for fight in fights):
-        raise Fault(f"{args.schedule} has fights against more opponents than were given", 2)
+def weights_by_opponent(schedule, opponents):
+    """Returns for each of `opponents` opponents the sum of its fights' weights in a schedule, or 1
+    without one."""
+    if not schedule:
+        return [1] * opponents
+    fights = tuning_files.read_schedule(schedule)
+    if any(fight.opponent >= opponents for fight in fights):
+        raise Fault(f"{schedule} has fights against more opponents than were given", 2)
     return [sum(fight.weight for fight in fights if fight.opponent == opponent)
-            for opponent in range(len(args.opponents))]
+            for opponent in range(opponents)]
 
 
 def output_of(*words):
@@ -125,7 +127,7 @@ class Holdout:
         self.cert = tuning_files.Certificate(args.cert)
         self.template = tuning_files.Template(args.template).checked_for(self.cert)
         self.fights = self.cert.fights(args.schedule)
-        self.fresh_fights = FreshFights(args, opponent_weights_of(args, self.fights))
+        self.fresh_fights = FreshFights(args, weights_by_opponent(args.schedule, len(args.opponents)))
         self.ranking = self.cert.ranked(self.fights)
         self.points = {}
 

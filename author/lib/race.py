@@ -1,0 +1,245 @@
+"""Finds a good setting of a template of any size by a race in fresh fights.
+
+The method is iterated racing, as in irace: few fights for many settings, and many for few. In a
+*round* new settings race against the survivors of the round before. Its *heats* get longer; in each
+all play the same fights, at positions that nobody played before, and the worse part leaves. So
+nothing is picked by the same fights for long, and luck does not last.
+
+    exploring   settings from everywhere, spread evenly over the ranges
+    rounds      new settings, most of them near the survivors, against these
+    final       the best few in fresh fights; what they made before does not count
+    gain        the winner and START in fights that picked nothing
+
+START plays in each round and in the final. A *block* is one fight against each opponent, and a
+*play* is one setting in one block.
+"""
+import itertools, math, random
+from typing import NamedTuple
+
+from .endings import Fault
+from .race_model import PRIOR_BLOCKS, Model
+from .race_settings import anywhere, child, spread_evenly
+
+# Which part of the budget is used when exploring, the rounds and the final end.
+EXPLORED, RACED, DECIDED = 0.33, 0.70, 0.88
+# The blocks of START's first fights, which show how long the race takes; of the first heat of a
+# round; and of its longest. Each heat is twice as long as the one before.
+TRIAL_BLOCKS, FIRST_HEAT, LONGEST_HEAT = 16, 2, 8
+# Which part of a heat goes on, and how many at least: those that survive a round.
+GOES_ON, SURVIVORS = 0.34, 8
+# How many new settings a round has, and how many of these come from anywhere. For each, TRIES are
+# made, of which the model takes one.
+NEW_SETTINGS, FROM_ANYWHERE, TRIES = 48, 8, 8
+# How far a value moves from a survivor's, as a part of its range: in the first and the last round.
+FAR, NEAR = 0.15, 0.005
+# How many play in each heat of the final, beside START.
+FINALISTS = 16, 6, 2
+# How many settings, or blocks, play before the budget is looked at again.
+SETTINGS_AT_ONCE, BLOCKS_AT_ONCE = 48, 16
+
+
+class Contender:
+    """A setting in the race: its values, and the blocks that it played.
+
+    A rate is the points as a part of the greatest total. `guess` is what the setting was thought to
+    make before it played.
+    """
+
+    def __init__(self, values, guess=0.0):
+        self.values, self.guess, self.assembles = values, guess, True
+        self.blocks, self.sum_of_rates = 0, 0.0
+
+    def add(self, rates):
+        """Adds the rates of some blocks. They are None if the setting does not assemble."""
+        if rates is None:
+            self.assembles = False
+        else:
+            self.blocks += len(rates)
+            self.sum_of_rates += sum(rates)
+
+    def rate(self):
+        return self.sum_of_rates / self.blocks if self.blocks else 0.0
+
+    def estimate(self):
+        """Returns the rate, drawn to the guess: the more, the less the setting played."""
+        known = self.sum_of_rates + PRIOR_BLOCKS * self.guess
+        return known / (self.blocks + PRIOR_BLOCKS)
+
+
+class Outcome(NamedTuple):
+    """What a race found.
+
+    `finalists` were in the final, the best first, each with the final's blocks alone. `rise` is by
+    how much the winner's rate was above START's in all fights that picked it. `points` are those of
+    the winner and of START in fights that picked nothing, a text for each opponent with a digit for
+    each fight. `rise` and `points` are None if the winner is START, or if START does not assemble.
+    """
+
+    winner: tuple
+    finalists: list
+    rise: float | None
+    points: tuple | None
+
+
+class Race:
+    """A race in the settings of a grid, which uses the part `share` of an arena's budget."""
+
+    def __init__(self, grid, arena, seed, share=1):
+        self.grid, self.arena, self.dice, self.share = grid, arena, random.Random(seed), share
+        self.start = Contender(grid.start_values)
+        self.contenders = {grid.start_values: self.start}
+        self.survivors, self.model = [], None
+
+    def run(self):
+        """Runs the race to its end. Returns the outcome."""
+        self.start.add(self.arena.rates([self.start], self.arena.new_blocks(TRIAL_BLOCKS))[0])
+        self.start.guess = self.start.rate()
+        self.arena.tell_estimate()
+        self.explore()
+        for number in itertools.count(1):
+            if not self.improve(number):
+                break
+        self.survivors = finalists = self.decide()
+        winner = finalists[0].values
+        if winner == self.start.values or not self.start.assembles:
+            return Outcome(winner, finalists, None, None)
+        rise = self.contenders[winner].rate() - self.start.rate()
+        return Outcome(winner, finalists, rise, self.measure("gain", winner, self.start.values, 1))
+
+    def leader(self):
+        """Returns the values of the best setting, by what is known so far."""
+        return (self.survivors or [self.start])[0].values
+
+    def enter(self, settings):
+        """Returns new contenders: those of some settings that never entered."""
+        entered = []
+        for values in settings:
+            if values not in self.contenders:
+                guess = self.model.guess(values) if self.model else 0.0
+                self.contenders[values] = Contender(values, guess)
+                entered.append(self.contenders[values])
+        return entered
+
+    def play(self, phase, contenders, count, limit):
+        """Plays `count` new blocks, as far as `limit` of the race's budget allows. Returns those
+        who played and assemble."""
+        blocks, played = self.arena.new_blocks(count), []
+        for first in range(0, len(contenders), SETTINGS_AT_ONCE):
+            some = contenders[first:first + SETTINGS_AT_ONCE]
+            if not self.arena.has_room(len(some) * count, limit * self.share):
+                break
+            self.arena.news = f"{phase}, {len(self.contenders)} settings"
+            for contender, rates in zip(some, self.arena.rates(some, blocks)):
+                contender.add(rates)
+            played += some
+        return [contender for contender in played if contender.assembles]
+
+    def plays_until(self, limit):
+        """Returns how many plays are left of a part of the race's budget."""
+        return self.arena.plays_until(limit * self.share)
+
+    def explore(self):
+        """Races settings from everywhere, as many as their part of the budget has room for."""
+        count = int(self.plays_until(EXPLORED) / plays_of_exploring())
+        new = self.enter(spread_evenly(self.grid.ranges, count, self.dice))
+        played = self.play("exploring", new, FIRST_HEAT, EXPLORED)
+        mean = sum(map(Contender.rate, played)) / max(1, len(played))
+        for contender in played:
+            contender.guess = mean
+        self.race("exploring", played, EXPLORED)
+
+    def improve(self, number):
+        """Runs a round. Returns whether the budget had room for it, and a new setting was found."""
+        known = [contender for contender in self.contenders.values() if contender.blocks]
+        if not known or self.plays_until(RACED) < NEW_SETTINGS * FIRST_HEAT:
+            return False
+        phase, self.model = f"round {number}", Model(self.grid.ranges, known)
+        new = self.enter(self.choices())
+        self.race(phase, self.play(phase, new, FIRST_HEAT, RACED), RACED)
+        return bool(new)
+
+    def race(self, phase, new, limit):
+        """Races those who played the first heat of a round against the survivors of the last one.
+        Sets those that survive."""
+        runners, length = self.best([*new, *self.survivors]), FIRST_HEAT
+        while length < LONGEST_HEAT or len(runners) > SURVIVORS + 1:
+            length = min(2 * length, LONGEST_HEAT)
+            played = self.play(phase, runners, length, limit)
+            runners = self.best(runners)
+            if not played:
+                break
+        self.survivors = runners
+
+    def best(self, contenders):
+        """Returns the better part of some contenders, the best first, and START."""
+        count = max(SURVIVORS, math.ceil(GOES_ON * len(contenders)))
+        ranked = sorted(contenders, key=Contender.estimate, reverse=True)
+        return self.with_start(ranked[:count])
+
+    def with_start(self, contenders):
+        """Returns contenders, and START if it assembles."""
+        has_start = any(one.values == self.start.values for one in contenders)
+        return contenders + [self.start] * (self.start.assembles and not has_start)
+
+    def choices(self):
+        """Yields the values of new settings: for each the best of a few tries, by the model."""
+        part = (self.arena.used() / self.share - EXPLORED) / (RACED - EXPLORED)
+        reach = FAR * (NEAR / FAR) ** min(1, max(0, part))
+        parents = [survivor.values for survivor in self.survivors]
+        for index in range(NEW_SETTINGS):
+            tries = [anywhere(self.grid.ranges, self.dice) if index < FROM_ANYWHERE
+                     else child(parents, self.grid.ranges, reach, self.dice)
+                     for _ in range(TRIES)]
+            yield max(tries, key=self.model.guess)
+
+    def decide(self):
+        """Plays the final. Returns who were in it, the winner first."""
+        known = [one for one in self.contenders.values() if one.blocks and one is not self.start]
+        known.sort(key=Contender.estimate, reverse=True)
+        finalists = [one.values for one in self.with_start(known[:FINALISTS[0]])]
+        if not finalists:
+            raise Fault("no setting that was tried assembles; `cwtune asm --setting start` says "
+                        "why of START")
+        ranked = self.knock_out("final", finalists, FINALISTS, self.start.values, DECIDED)
+        for finalist in ranked:
+            self.contenders[finalist.values].add([finalist.rate()] * finalist.blocks)
+        return ranked
+
+    def knock_out(self, phase, settings, counts, kept, limit):
+        """Plays settings in heats of fresh blocks, in which nothing else counts. In each heat play
+        the first of `counts` and `kept`. Returns them as new contenders, the best first."""
+        players, out = [Contender(values) for values in settings], []
+        for heat, count in enumerate(counts if len(players) > 1 else ()):
+            out = [player for player in players[count:] if player.values != kept] + out
+            players = [player for player in players if player not in out]
+            plays = self.plays_until(limit) / (len(counts) - heat)
+            for length in pieces(int(plays / len(players))):
+                self.play(phase, players, length, limit)
+            players.sort(key=Contender.rate, reverse=True)
+        return players + out
+
+    def measure(self, phase, first, second, limit):
+        """Plays two settings in fresh blocks, until `limit` of the race's budget is used. Returns
+        the points of both: a text for each opponent, with a digit for each fight."""
+        pair, points = [Contender(first), Contender(second)], ([], [])
+        while self.arena.has_room(2 * BLOCKS_AT_ONCE, limit * self.share):
+            self.arena.news = f"{phase}, {len(self.contenders)} settings"
+            played = self.arena.play(pair, self.arena.new_blocks(BLOCKS_AT_ONCE))
+            for player_points, blocks in zip(points, played):
+                player_points.extend(blocks)
+        return tuple(["".join(column) for column in zip(*blocks)] for blocks in points)
+
+
+def plays_of_exploring():
+    """Returns how many plays the heats of exploring take for each new setting."""
+    runners, length, plays = 1.0, FIRST_HEAT, FIRST_HEAT
+    while runners > 0.03:
+        runners, length = GOES_ON * runners, min(2 * length, LONGEST_HEAT)
+        plays += runners * length
+    return plays
+
+
+def pieces(count):
+    """Yields the lengths of the pieces in which `count` blocks are played."""
+    for first in range(0, count, BLOCKS_AT_ONCE):
+        yield min(BLOCKS_AT_ONCE, count - first)

@@ -1,0 +1,247 @@
+"""Plays the fights of a race by `cwtune`, and keeps its budget.
+
+Each process plays one setting, as the only one of a template, in some blocks; --jobs of them run
+side by side. What was played is a list of records, which a study keeps in a file: a race that is
+begun again with them goes the same way, without a fight, up to where it was stopped.
+"""
+import argparse, concurrent.futures, operator, os, pathlib, random, resource, subprocess, sys, time
+from typing import NamedTuple
+
+from .endings import Fault, fault_of
+from .program import NO_CANDIDATE, reading_output
+from .tuning_files import Fight, schedule_text
+from .words import counted, number_from
+
+# The fights of a race that is given no budget.
+DEFAULT_FIGHTS = 300000
+# The blocks of one process, so that a long heat runs on several processors.
+BLOCKS_OF_PROCESS = 8
+# The part of --minutes that is left for the end of the command, and the seconds of it.
+END_PART, END_SECONDS = 0.01, 0.4
+# The seconds between two lines of progress.
+PROGRESS_SECONDS = 15
+
+
+def processor_seconds():
+    """Returns the seconds of this process and of its children that have ended."""
+    return sum(sum(resource.getrusage(who)[:2])
+               for who in (resource.RUSAGE_SELF, resource.RUSAGE_CHILDREN))
+
+
+def clock():
+    """Returns the seconds that --minutes counts. Measurements set CWTUNE_CLOCK=processor, since the
+    time on a wall says little on a busy machine."""
+    if os.environ.get("CWTUNE_CLOCK") == "processor":
+        return processor_seconds()
+    return time.monotonic()
+
+
+class Budget(NamedTuple):
+    """What a race may use: fights, seconds, or both. None is no limit."""
+
+    fights: int | None
+    seconds: float | None
+
+    def used(self, fights, seconds):
+        """Returns which part of it some fights in some seconds are."""
+        parts = [fights / self.fights] if self.fights else []
+        if self.seconds:
+            parts.append(seconds / max(0.001, self.seconds * (1 - END_PART) - END_SECONDS))
+        return max(parts)
+
+
+class Positions:
+    """Where one opponent is placed, and who moves first, in one block after the other: in all
+    places once, in an order drawn by the seed, before one comes again, with the other first."""
+
+    def __init__(self, rules, dice):
+        self.places = list(range(rules.distance, rules.core - rules.distance + 1))
+        dice.shuffle(self.places)
+        self.shift = dice.randrange(2)
+
+    def fight(self, opponent, block):
+        cycle, index = divmod(block, len(self.places))
+        return Fight(opponent, self.places[index], "co"[(index + cycle + self.shift) % 2])
+
+
+class Arena:
+    """The fights of a race in the settings of a grid: `with` it, they can be played.
+
+    `opponents` are the paths of the opponents, and `weights` how much each counts. `records` is a
+    list of what was played: a race that stopped goes on by that of its last run.
+    """
+
+    def __init__(self, args, grid, rules, opponents, weights, records, folder):
+        self.args, self.grid, self.rules, self.records = args, grid, rules, records
+        self.budget = Budget(args.fights, args.minutes and 60 * args.minutes)
+        self.opponents, self.weights = zip(*((path, weight) for path, weight
+                                             in zip(opponents, weights) if weight))
+        self.folder, dice = pathlib.Path(folder), random.Random(args.seed)
+        self.positions = [Positions(rules, dice) for _ in self.opponents]
+        self.block_count = self.record_count = self.fights = 0
+        self.began_at, self.seconds = clock(), 0.0
+        self.seconds_of_play, self.seconds_of_jobs = 0.0, 0.0
+        self.news, self.told_at = "", time.monotonic()
+
+    def __enter__(self):
+        self.running = set()
+        self.threads = concurrent.futures.ThreadPoolExecutor(self.args.jobs)
+        return self
+
+    def __exit__(self, *_):
+        self.threads.shutdown(wait=False, cancel_futures=True)
+        for process in list(self.running):
+            process.kill()
+        self.threads.shutdown()
+
+    def used(self):
+        """Returns which part of the budget is used."""
+        return self.budget.used(self.fights, self.seconds)
+
+    def has_room(self, plays, limit):
+        """Returns whether `plays` more are within a part of the budget."""
+        fights = self.fights + plays * len(self.opponents)
+        return self.budget.used(fights, self.seconds + plays * self.seconds_of_play) <= limit
+
+    def plays_until(self, limit):
+        """Returns how many plays are left of a part of the budget, as far as can be told."""
+        left = self.fights * (limit / max(self.used(), 1e-9) - 1)
+        return max(0, left / len(self.opponents))
+
+    def charge(self, fights, seconds):
+        """Takes fights and seconds from the budget."""
+        self.fights += fights
+        self.seconds += seconds
+        self.began_at = clock() - self.seconds
+
+    def new_blocks(self, count):
+        """Returns the next `count` blocks, each a list of fights."""
+        numbers = range(self.block_count, self.block_count + count)
+        self.block_count += count
+        return [[positions.fight(opponent, number)
+                 for opponent, positions in enumerate(self.positions)] for number in numbers]
+
+    def rates(self, contenders, blocks):
+        """Returns the rates of contenders in blocks, or None for one that does not assemble."""
+        greatest = 3 * sum(self.weights)
+        return [points and [sum(map(operator.mul, self.weights, map(int, block))) / greatest
+                            for block in points] for points in self.play(contenders, blocks)]
+
+    def play(self, contenders, blocks):
+        """Returns the points of contenders in blocks, or None for one that does not assemble. The
+        points of a block are a text with a digit for each opponent."""
+        settings = [list(contender.values) for contender in contenders]
+        if self.record_count == len(self.records):
+            points = self.run(settings, blocks)
+            self.records.append({"settings": settings, "points": points,
+                                 "seconds": round(clock() - self.began_at, 3)})
+        record, plays = self.records[self.record_count], len(settings) * len(blocks)
+        if record["settings"] != settings:
+            raise Fault("what was played before is of another race", 2)
+        self.record_count += 1
+        # The budget goes by what is recorded, so that a race that goes on decides as it did.
+        self.seconds_of_play = (record["seconds"] - self.seconds) / plays
+        self.charge(plays * len(self.opponents), record["seconds"] - self.seconds)
+        return record["points"]
+
+    def run(self, settings, blocks):
+        """Plays settings in blocks, several processes side by side."""
+        pieces = range(0, len(blocks), BLOCKS_OF_PROCESS)
+        for piece in pieces:
+            fights = (fight for block in blocks[piece:piece + BLOCKS_OF_PROCESS] for fight in block)
+            (self.folder / f"{piece}.csv").write_text(schedule_text(fights))
+        futures = []
+        for number, values in enumerate(settings):
+            (self.folder / f"{number}.red").write_bytes(self.grid.line_through(values, ()))
+            futures.append([self.threads.submit(self.run_process, number, piece)
+                            for piece in pieces])
+        points = []
+        for of_setting in futures:
+            points.append(joined([future.result() for future in of_setting]))
+            self.tell_progress()
+        return points
+
+    def run_process(self, number, piece):
+        """Plays a setting in a piece of the blocks. Returns its points, or None."""
+        began_at = time.monotonic()
+        words = [self.args.program, "tune", "--all", *self.rules.words(), "--",
+                 self.folder / f"{number}.red", self.folder / f"{piece}.csv", "/dev/stdout",
+                 *self.opponents]
+        with subprocess.Popen(words, stdin=subprocess.DEVNULL, stdout=subprocess.PIPE,
+                              stderr=subprocess.PIPE) as process:
+            self.running.add(process)
+            stdout, stderr = process.communicate()
+            self.running.discard(process)
+        self.seconds_of_jobs += time.monotonic() - began_at
+        completed = subprocess.CompletedProcess(words, process.returncode, stdout, stderr)
+        if process.returncode == 1 and stderr.endswith(NO_CANDIDATE.encode()):
+            return None
+        if process.returncode:
+            raise fault_of(completed)
+        with reading_output(self.args.program, "tune"):
+            row = stdout.split(b"\n", 3)[2].split(b",")[2].split(b" ")
+            points = {int(fight): digit for fight, _, digit in (item.partition(b":")
+                                                                for item in row)}
+            digits = b"".join(points[fight] for fight in range(len(points))).decode()
+        width = len(self.opponents)
+        return [digits[first:first + width] for first in range(0, len(digits), width)]
+
+    def tell_estimate(self):
+        """Prints about how long the race takes, by the fights of START."""
+        if not self.seconds_of_jobs:
+            print("the race goes on where it was stopped", file=sys.stderr, flush=True)
+            return
+        rate = self.args.jobs * self.fights / self.seconds_of_jobs
+        limits = [self.budget.seconds, self.budget.fights and self.budget.fights / rate]
+        seconds = min(filter(None, limits))
+        print(f"race: {self.grid.count()} settings, about {round(seconds * rate, -2):.0f} fights "
+              f"in {duration(seconds)} on {counted(self.args.jobs, 'processor')}",
+              file=sys.stderr, flush=True)
+
+    def tell_progress(self):
+        """Prints how far the race is, if some seconds have passed since the last line."""
+        if time.monotonic() - self.told_at > PROGRESS_SECONDS:
+            self.told_at = time.monotonic()
+            print(f"{100 * self.used():.0f}%: {self.news}, {self.fights} fights", file=sys.stderr,
+                  flush=True)
+
+
+def joined(pieces):
+    """Returns the points of the pieces of a heat, one after the other."""
+    return None if None in pieces else [block for piece in pieces for block in piece]
+
+
+def duration(seconds):
+    """Returns a time in words, in the unit that fits."""
+    if seconds < 100:
+        return counted(max(1, round(seconds)), "second")
+    if seconds < 6000:
+        return counted(round(seconds / 60), "minute")
+    return f"{seconds / 3600:.1f} hours"
+
+
+def add_budget(parser):
+    """Adds the options of a race to the words of a command."""
+    group = parser.add_argument_group("race")
+    group.add_argument("--fights", type=number_from(1), metavar="N", help="end after about N "
+                       f"fights [default: {DEFAULT_FIGHTS}, unless --minutes is given]")
+    group.add_argument("--minutes", type=minutes, metavar="N",
+                       help="end after N minutes, such as 10 or 0.5")
+    group.add_argument("--seed", type=number_from(0), default=1, metavar="N", help="another number "
+                       "gives other positions and other settings [default: 1]")
+    group.add_argument("--jobs", type=number_from(1), default=os.cpu_count(), metavar="N",
+                       help="fights that run side by side [default: the processors]")
+
+
+def minutes(word):
+    """Reads a number of minutes for argparse."""
+    number = float(word)
+    if not 0.01 <= number <= 100000:
+        raise argparse.ArgumentTypeError(f"{word} is not 0.01 to 100000")
+    return number
+
+
+def settle_budget(args):
+    """Gives the words of a command a budget if they have none."""
+    if not (args.fights or args.minutes):
+        args.fights = DEFAULT_FIGHTS

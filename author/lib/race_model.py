@@ -1,0 +1,81 @@
+"""Guesses what a setting makes from what others made: an additive model of the constants.
+
+A guess is the mean of all settings, and what each of its values adds to it. That is a smooth curve
+over the values of the constant, and what the value itself adds beyond the curve, drawn to 0 where
+it played little. The constants are fitted in turn, each to what the others leave over.
+"""
+import math
+
+# The width of a curve's kernel, as a part of the range, and the most cells of a curve.
+WIDTH, MOST_CELLS = 0.03, 200
+# How many blocks draw a rate half way to the guess, and how many settings a curve and a value's own
+# part to 0.
+PRIOR_BLOCKS, CURVE_PRIOR, OWN_PRIOR = 6, 2, 4
+
+
+class Constant:
+    """What the values of one constant add: `curve` by cell, and `own` by value."""
+
+    def __init__(self, values):
+        self.cell_of = {value: index * min(len(values), MOST_CELLS) // len(values)
+                        for index, value in enumerate(values)}
+        cells = min(len(values), MOST_CELLS)
+        width = max(0.6, WIDTH * cells)
+        self.kernel = [math.exp(-(distance / width) ** 2 / 2)
+                       for distance in range(int(2.5 * width) + 1)]
+        self.curve, self.own = [0.0] * cells, {}
+
+    def part(self, value):
+        """Returns what a value adds."""
+        return self.curve[self.cell_of[value]] + self.own.get(value, 0.0)
+
+    def fit(self, values, weights, rates):
+        """Fits the constant to rates of settings with these values."""
+        sums = Sums(zip(map(self.cell_of.get, values), weights, rates))
+        self.curve = [self.smooth(sums, cell) for cell in range(len(self.curve))]
+        left = (rate - self.curve[self.cell_of[value]] for value, rate in zip(values, rates))
+        by_value = Sums(zip(values, weights, left))
+        self.own = {value: total / (by_value.weights[value] + OWN_PRIOR)
+                    for value, total in by_value.totals.items()}
+
+    def smooth(self, sums, cell):
+        """Returns the mean of the cells around a cell, the nearer the more."""
+        total = weight = 0.0
+        reach = len(self.kernel)
+        for near in range(max(0, cell - reach + 1), min(len(self.curve), cell + reach)):
+            if near in sums.totals:
+                total += self.kernel[abs(near - cell)] * sums.totals[near]
+                weight += self.kernel[abs(near - cell)] * sums.weights[near]
+        return total / (weight + CURVE_PRIOR)
+
+
+class Sums:
+    """Weighted sums by key."""
+
+    def __init__(self, entries):
+        self.totals, self.weights = {}, {}
+        for key, weight, number in entries:
+            self.totals[key] = self.totals.get(key, 0.0) + weight * number
+            self.weights[key] = self.weights.get(key, 0.0) + weight
+
+
+class Model:
+    """The model of what some contenders made, which have the values `values`, blocks and rates."""
+
+    def __init__(self, ranges, contenders):
+        known = [contender for contender in contenders if contender.blocks]
+        weights = [contender.blocks / (contender.blocks + PRIOR_BLOCKS) for contender in known]
+        rates = [contender.rate() for contender in known]
+        self.mean = sum(map(math.prod, zip(weights, rates))) / sum(weights)
+        self.constants = [Constant(values) for values in ranges]
+        left = [rate - self.mean for rate in rates]
+        columns = list(zip(*(contender.values for contender in known)))
+        for constant, column in 2 * list(zip(self.constants, columns)):
+            left = [rest + constant.part(value) for rest, value in zip(left, column)]
+            constant.fit(column, weights, left)
+            left = [rest - constant.part(value) for rest, value in zip(left, column)]
+
+    def guess(self, values):
+        """Returns the guess for a setting, as a part of the greatest total."""
+        return self.mean + sum(constant.part(value)
+                               for constant, value in zip(self.constants, values))
