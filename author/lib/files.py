@@ -4,6 +4,7 @@ Example: cwtune-files my.red fights.csv my.cert
 """
 import pathlib
 
+from .endings import escaped
 from .tuning_files import AnyCertificate, Template, read_schedule
 from .words import command_parser, counted
 
@@ -37,4 +38,4 @@ def make_parser():
 
 def main():
     for path in make_parser().parse_args().files:
-        print(f"{path}: {describe(path)}")
+        print(f"{escaped(path)}: {describe(path)}")

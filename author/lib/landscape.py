@@ -9,7 +9,7 @@ total, so a certificate of `cwtune tune --all`. Needs matplotlib (Debian: python
 
 Example: cwtune-landscape my.red my.cert totals.png --effects effects.png
 """
-import itertools, math, sys
+import contextlib, itertools, math, os, sys
 
 from . import cert_inputs, tuning_files
 from .endings import Fault
@@ -25,14 +25,20 @@ MAP_SCALE = {"origin": "lower", "aspect": "auto"}
 
 def load_pyplot():
     """Returns matplotlib.pyplot, or ends and says which package has it."""
+    # Settings of a file would change the picture, and one in the current folder may be anybody's.
+    os.environ["MATPLOTLIBRC"] = os.devnull
     try:
-        import matplotlib
-    except ImportError:
+        with contextlib.chdir("/"):
+            import matplotlib
+            matplotlib.use("Agg")
+            import matplotlib.pyplot
+    except ModuleNotFoundError:
         raise Fault("no matplotlib for this Python; on Debian: apt-get install "
                     f"python3-matplotlib, then /usr/bin/python3 {sys.argv[0]} ..", 3) from None
-    matplotlib.use("Agg")
-    matplotlib.rcParams.update({"svg.hashsalt": "cwtune", "svg.fonttype": "none"})
-    import matplotlib.pyplot
+    except ImportError as error:
+        raise Fault(f"matplotlib cannot be loaded: {error}", 3) from None
+    matplotlib.rcParams.update({"svg.hashsalt": "cwtune", "svg.fonttype": "none",
+                                "text.parse_math": False})
     return matplotlib.pyplot
 
 

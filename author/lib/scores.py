@@ -127,7 +127,7 @@ def make_parser():
 
 def main():
     parser = make_parser()
-    args = parser.parse_intermixed_args()
+    args = parser.parse_mixed()
     why_unused = cert_inputs.settle(args)
     if args.schedule is None:
         parser.error(f"give SCHEDULE: {why_unused or 'the schedule of the tuning is not there'}")

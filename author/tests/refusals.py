@@ -79,7 +79,8 @@ CANNOT_BE_READ = [
     Refusal("cwtune-files none", 3, f"failed: none: {NO_FILE}"),
     Refusal("cwtune-landscape none step.cert x.png", 3, f"failed: none: {NO_FILE}"),
     # A symbolic link to itself.
-    Refusal("cwtune-study --out loop two.red plain.red", 3, "failed: loop: File exists"),
+    Refusal("cwtune-study --out loop two.red plain.red", 2,
+            "error: loop is a link, and is not touched"),
 ]
 OF_ANOTHER_KIND = [
     *(Refusal(f"cwtune-files {name}", 1,
