@@ -11,7 +11,7 @@ exact `cwtune tune`. Ctrl-C ends it with the best so far.
 
 Example: cwtune-seek my.red fights.csv dwarf.red scanner.red > better.red
 """
-import itertools, math, pathlib, random, re, sys, tempfile
+import itertools, math, pathlib, random, re, sys
 from typing import NamedTuple
 
 from .endings import Fault, end_as, end_by_kill_as_by_interrupt
@@ -19,6 +19,7 @@ from .grid import Grid
 from .program import NO_CANDIDATE, reading_output, rules_of, run_program
 from .tuning_files import MOST_SETTINGS
 from .words import add_files, add_program, add_rules, command_parser, counted, number_from
+from .writing import temporary_folder
 
 # How `cwtune-study` reads this command's lines: START's total, if it assembles, and the number of
 # fights.
@@ -236,7 +237,7 @@ def main():
     if not grid.names:
         raise Fault(f"{args.template}: no range line, which begins `;@tune` at the left margin "
                     "(cwtune-vary makes a template of a text with EQU lines)")
-    with tempfile.TemporaryDirectory(prefix="cwtune-seek-") as folder:
+    with temporary_folder() as folder:
         tunings = Tunings(args, grid, folder)
         best, why_ended = seek(args, grid, tunings)
     if best is None and why_ended:

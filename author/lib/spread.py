@@ -129,7 +129,9 @@ def explaining_stop(folder, progress):
         yield
     except KeyboardInterrupt as stop:
         if not stop.args and isinstance(folder, SpreadFolder):
-            print(f"stopped: {how_to_go_on(folder, progress)}", file=sys.stderr)
+            how = ("repeat the command" if folder.is_removed
+                   else how_to_go_on(folder, progress))
+            print(f"stopped: {how}", file=sys.stderr)
         raise KeyboardInterrupt("said") from None
 
 

@@ -28,7 +28,7 @@ NAMES = {
        for name, kind in [("parts", spread_parts.Parts), ("shares", spread_shares.Shares)]},
 }
 # What a kill leaves of these.
-UNFINISHED = r".*(\.\d+\.new|\.unfinished-\d+)"
+UNFINISHED = r".*(\.\d+\.new|\.unfinished-\d+|\.report|\.fault)"
 Count = Annotated[int, range(1 << 53)]
 # The schemas of the results of stages, by the names of these. That of a stage that has no entry
 # here is not looked at.
