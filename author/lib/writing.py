@@ -49,9 +49,10 @@ def replacing(folder, name, mode):
             file.flush()
             os.fsync(file.fileno())
         os.replace(new, name, src_dir_fd=folder, dst_dir_fd=folder)
-    finally:
+    except BaseException:
         with contextlib.suppress(OSError):
             os.unlink(new, dir_fd=folder)
+        raise
 
 
 def open_new(folder, name, mode):
