@@ -4,62 +4,63 @@ SHA-256 digest of each of its files. docs/FORMATS.md has it line by line.
 
 A reader believes it only if the certificate has the digest that it names.
 """
-import hashlib, os, pathlib
-from typing import NamedTuple
+import dataclasses, os, re
+from typing import Annotated
 
 from .endings import Fault, say
 from .program import HILLS, Rules, fill_rules
+from .regular import NotRegular, digest_of, read_regular
+from .schema import Malformed, checked
+from .tuning_files import MOST_OPPONENTS
 
 KINDS = ["template", "schedule", "opponent"]
+# More than such a file has, with the longest names.
+MOST_BYTES = 1 << 20
+# A size and a SHA-256 digest as one text. `cwtune` reads no file above 1 GiB.
+Digest = Annotated[str, re.compile(r"\d{1,10} [0-9a-f]{64}")]
+FIELD = re.compile(r"(?s)(\d+ [0-9a-f]+) (.+)")
+# A file of the tuning: its size and digest, and its name.
+File = tuple[Digest, Annotated[str, range(1, 1 << 16)]]
 
 
-class TuningFile(NamedTuple):
-    """A file of the tuning: its size and digest as one text, and its name."""
-
-    digest: str
-    name: str
-
-
+@dataclasses.dataclass
 class CertInputs:
     """Which inputs a certificate is for."""
 
-    def __init__(self, text):
-        lines = [line.split(" ", 1) for line in lines_of(text)]
-        fields = dict(lines)
-        # Unlike the class, `_make` wants all five.
-        self.rules = Rules._make(map(int, fields["rules"].split()))
-        self.part, self.method = fields["part"], fields["method"]
-        self.cert, self.folder = fields["cert"], fields["folder"]
-        self.files = {kind: [tuning_file_of(field) for word, field in lines if word == kind]
-                      for kind in KINDS}
-        if [len(self.files[kind]) for kind in KINDS[:2]] != [1, 1] or not self.files["opponent"]:
-            raise ValueError
+    rules: tuple[(Annotated[int, range(1 << 32)],) * len(Rules._fields)]
+    part: Annotated[str, re.compile(r"\d{1,10}/\d{1,10}")]
+    method: Annotated[str, re.compile(r"all|cache \d{1,10}")]
+    cert: Digest
+    folder: str
+    template: Annotated[list[File], range(1, 2)]
+    schedule: Annotated[list[File], range(1, 2)]
+    opponent: Annotated[list[File], range(1, MOST_OPPONENTS + 1)]
 
-    def path(self, file):
+    def files(self, kind):
+        """Returns size with digest, and name, of each file of a kind."""
+        return getattr(self, kind)
+
+    def path(self, name):
         """Returns where a file was at the tuning."""
-        return os.path.join(self.folder, file.name)
+        return os.path.join(self.folder, name)
+
+
+def inputs_of(text):
+    """Returns what the text of such a file says. Raises a ValueError if it is malformed."""
+    lines = [line.split(" ", 1) for line in lines_of(text)]
+    fields = dict(lines)
+    fields["rules"] = [int(number) if re.fullmatch("[0-9]{1,10}", number) else None
+                       for number in fields.get("rules", "").split()]
+    for kind in KINDS:
+        fields[kind] = [list(FIELD.fullmatch(field).groups()) if FIELD.fullmatch(field) else []
+                        for word, field in lines if word == kind]
+    return checked(CertInputs, fields)
 
 
 def lines_of(text):
     """Returns the lines of the file. A name goes to the line feed, so it may have a CR or any other
     byte at which `splitlines` would split."""
     return os.fsdecode(text).removesuffix("\n").split("\n")
-
-
-def tuning_file_of(field):
-    """Returns the file of a tuning that a line describes by its size, its digest and its name."""
-    size, digest, name = field.split(" ", 2)
-    return TuningFile(f"{size} {digest}", name)
-
-
-def sha256_of(path):
-    with open(path, "rb") as file:
-        return hashlib.file_digest(file, "sha256").hexdigest()
-
-
-def digest_of(path):
-    """Returns the size and the digest of a file as CERT.inputs has them."""
-    return f"{os.path.getsize(path)} {sha256_of(path)}"
 
 
 def inputs_path(cert):
@@ -70,12 +71,23 @@ def read(cert):
     """Returns which inputs a certificate is for, or a text that says why that is not known."""
     name = inputs_path(cert)
     try:
-        inputs = CertInputs(pathlib.Path(name).read_bytes())
+        inputs = inputs_of(read_regular(MOST_BYTES, name))
     except FileNotFoundError:
         return f"{name} is not there"
-    except (KeyError, ValueError, TypeError):
+    except NotRegular as fault:
+        return str(fault)
+    except ValueError:
         return f"{name} is malformed"
-    return inputs if inputs.cert == digest_of(cert) else f"{name} is of another certificate"
+    return inputs if is_file(cert, inputs.cert) else f"{name} is of another certificate"
+
+
+def is_file(path, digest):
+    """Returns whether a file is regular, and has this size and digest. One of another size is not
+    read."""
+    try:
+        return (os.path.getsize(path) == int(digest.split()[0]) and digest_of(path) == digest)
+    except NotRegular:
+        return False
 
 
 def settle(args):
@@ -90,7 +102,7 @@ def settle(args):
     if isinstance(inputs, str):
         fill_rules(args, Rules())
         return inputs
-    fill_rules(args, inputs.rules)
+    fill_rules(args, Rules(*inputs.rules))
     refuse_other_rules(args, inputs.rules)
     for kind in KINDS[:2]:
         if hasattr(args, kind):
@@ -128,7 +140,7 @@ def refuse_other_tuning(args, cert, part, method):
 
 
 def refuse_other_rules(args, rules):
-    for name, number in rules._asdict().items():
+    for name, number in Rules(*rules)._asdict().items():
         if getattr(args, name, number) != number:
             raise Fault(f"--{name} is {getattr(args, name)}, but the tuning had {number}", 2)
 
@@ -136,11 +148,11 @@ def refuse_other_rules(args, rules):
 def settled_file(inputs, kind, index, given_path):
     """Returns the path of a file of the tuning: the one given, else where the file was, or None if
     it is not there. Refuses another file than that of the tuning."""
-    file = inputs.files[kind][index]
-    path = given_path if given_path is not None else inputs.path(file)
+    digest, name = inputs.files(kind)[index]
+    path = given_path if given_path is not None else inputs.path(name)
     if given_path is None and not os.path.exists(path):
         return None
-    if digest_of(path) != file.digest:
+    if not is_file(path, digest):
         which = f"opponent {index}" if kind == "opponent" else f"the {kind}"
         raise Fault(f"{path} is not {which} of the tuning", 2)
     return path
@@ -148,7 +160,7 @@ def settled_file(inputs, kind, index, given_path):
 
 def settled_opponents(inputs, given_paths):
     """Returns the paths of the opponents, or none if one of them is not where it was."""
-    count = len(inputs.files["opponent"])
+    count = len(inputs.files("opponent"))
     if given_paths and len(given_paths) != count:
         raise Fault(f"opponents given: {len(given_paths)}; of the tuning: {count}", 2)
     paths = [settled_file(inputs, "opponent", index, given_paths[index] if given_paths else None)

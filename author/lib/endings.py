@@ -1,8 +1,12 @@
 """Ends the commands: after a fault, as a run of `cwtune` ended, or by a signal."""
-import io, os, signal, subprocess, sys
+import codecs, ctypes, io, os, pathlib, re, signal, subprocess, sys, traceback
 
 # The first word of a fault on standard error, by the status of the command.
 STATUS_WORDS = {1: "refused", 2: "error", 3: "failed"}
+# What steers a terminal.
+STEERING = re.compile(r"[\x00-\x08\x0b-\x1f\x7f-\x9f]")
+LIBC, PR_SET_PDEATHSIG = ctypes.CDLL(None), 1
+PID = os.getpid()
 
 
 class Fault(Exception):
@@ -34,12 +38,40 @@ def open_streams():
     os.close(descriptor)
     if sys.stdout is None:
         sys.stdout = io.TextIOWrapper(ClosedStream(), write_through=True)
-    sys.stdout.reconfigure(errors="surrogateescape")
     if sys.stderr is None:
         sys.stderr = open(os.devnull, "w")
+    for stream in (sys.stdout, sys.stderr):
+        stream.reconfigure(errors="names")
 
 
+def encoded(error):
+    """Encodes the first character that a stream cannot: a byte of a name as it is, and another one
+    as a backslash and its number."""
+    first = UnicodeEncodeError(error.encoding, error.object, error.start, error.start + 1,
+                               error.reason)
+    try:
+        return codecs.lookup_error("surrogateescape")(first)
+    except UnicodeEncodeError:
+        return codecs.lookup_error("backslashreplace")(first)
+
+
+codecs.register_error("names", encoded)
 open_streams()
+
+
+def can_be_shown(text):
+    """Returns whether nothing of a line steers a terminal."""
+    return "\n" not in text and not STEERING.search(text)
+
+
+def shown(line):
+    """Returns a line, or what `cwtune` prints in its place if it would steer a terminal."""
+    return line if can_be_shown(line) else "(a terminal cannot show it)"
+
+
+def escaped(text):
+    """Returns a text with a backslash and a number for each character that steers a terminal."""
+    return STEERING.sub(lambda match: f"\\x{ord(match[0]):02x}", text)
 
 
 def run_tool(main):
@@ -47,6 +79,7 @@ def run_tool(main):
 
     A closed pipe and Ctrl-C end it by their signals and without a word, as they end `cat`.
     """
+    end_by_kill_as_by_interrupt()
     try:
         status = main()
         sys.stdout.flush()
@@ -56,14 +89,28 @@ def run_tool(main):
         status = end_by(signal.SIGPIPE)
     except KeyboardInterrupt:
         status = end_by(signal.SIGINT)
-    except subprocess.TimeoutExpired as timeout:
-        words = " ".join(map(str, timeout.cmd))
-        status = say("failed", f"{words} took more than {timeout.timeout:.0f} seconds", 3)
-    except OSError as error:
+    except Exception as error:
+        if os.environ.get("CWTUNE_TRACEBACK") == "1":
+            raise
+        status = say("failed", words_of(error), 3)
+    sys.exit(status)
+
+
+def words_of(error):
+    """Returns what a fault says that no command foresees."""
+    if isinstance(error, MemoryError):
+        return "out of memory"
+    if isinstance(error, subprocess.TimeoutExpired):
+        words = " ".join(map(str, error.cmd))
+        return f"{words} took more than {error.timeout:.0f} seconds"
+    if isinstance(error, OSError):
         # A copy names two files; the second is the one that is written.
         name = error.filename2 or error.filename or "standard output"
-        status = say("failed", f"{name}: {error.strerror}", 3)
-    sys.exit(status)
+        return f"{os.fsdecode(name) if isinstance(name, bytes) else name}: {error.strerror}"
+    place = traceback.extract_tb(error.__traceback__)[-1]
+    return (f"{type(error).__name__} in {pathlib.Path(place.filename).name}, line {place.lineno}: "
+            f"{' '.join(str(error).split())[:200]} (a fault of this command: with "
+            "CWTUNE_TRACEBACK=1 it says more)")
 
 
 def say(word, message, status):
@@ -72,8 +119,7 @@ def say(word, message, status):
     If the line cannot be written, the status alone reports the fault.
     """
     try:
-        sys.stderr.buffer.write(f"{word}: {message}\n".encode(errors="surrogateescape"))
-        sys.stderr.flush()
+        print(f"{word}: {escaped(message)}", file=sys.stderr, flush=True)
     except OSError:
         sys.stderr = open(os.devnull, "w")
     return status
@@ -117,5 +163,15 @@ def end_by(signal_number):
 
 
 def end_by_kill_as_by_interrupt():
-    """Lets what `kill` sends end the command as Ctrl-C does."""
-    signal.signal(signal.SIGTERM, signal.default_int_handler)
+    """Lets what `kill` and a terminal that is closed send end the command as Ctrl-C does, unless
+    `nohup` or another parent has it ignored."""
+    for signal_number in (signal.SIGTERM, signal.SIGHUP):
+        if signal.getsignal(signal_number) != signal.SIG_IGN:
+            signal.signal(signal_number, signal.default_int_handler)
+
+
+def end_with_parent():
+    """Has the kernel kill the new process when this one ends, even if this one is killed."""
+    LIBC.prctl(PR_SET_PDEATHSIG, signal.SIGKILL)
+    if os.getppid() != PID:  # it has ended already
+        os._exit(1)

@@ -2,16 +2,15 @@
 
 Example: cwtune-files my.red fights.csv my.cert
 """
-import pathlib
-
+from .endings import escaped
 from .tuning_files import AnyCertificate, Template, read_schedule
 from .words import command_parser, counted
 
 
 def describe(path):
     """Returns a line that says what a file is."""
-    text = pathlib.Path(path).read_text("latin-1")
-    first_field = text.split(",", 1)[0].lstrip("\xef\xbb\xbf\"\r\n")
+    with open(path, encoding="latin-1") as file:
+        first_field = file.read(4096).split(",", 1)[0].lstrip("\xef\xbb\xbf\"\r\n")
     if first_field == "opponent":
         fights = read_schedule(path)
         return f"schedule of {counted(len(fights), 'fight')}, greatest total {fights.greatest}"
@@ -19,7 +18,7 @@ def describe(path):
         cert = AnyCertificate(path)
         answer = (f"none reaches the floor {cert.total}" if cert.best is None
                   else f"best {cert.best} total {cert.total}")
-        settings = counted(len(cert.rows), "setting")
+        settings = counted(cert.count, "setting")
         return f"certificate, version {cert.version}, of {settings}: {answer}"
     template = Template(path)
     if not template.names:
@@ -37,4 +36,4 @@ def make_parser():
 
 def main():
     for path in make_parser().parse_args().files:
-        print(f"{path}: {describe(path)}")
+        print(f"{escaped(path)}: {describe(path)}")

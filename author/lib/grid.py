@@ -4,6 +4,8 @@ import math, pathlib, re
 from .endings import Fault
 
 BLANKS = b" \t\r"
+# The name of a constant.
+NAME = "[A-Za-z_][A-Za-z0-9_]*"
 
 
 class Grid:
@@ -77,7 +79,8 @@ def read_range(path, number, line):
     """Returns the name of a constant, its range, and its value in START. `number` is that of the
     line, for the fault."""
     words = re.split(rb"[ \t\r]+", line[6:].strip(BLANKS))
-    if len(words) == 5 and all(re.fullmatch(rb"-?[0-9]{1,5}", word) for word in words[1:]):
+    if (len(words) == 5 and re.fullmatch(NAME.encode(), words[0])
+            and all(re.fullmatch(rb"-?[0-9]{1,5}", word) for word in words[1:])):
         low, high, step, start = map(int, words[1:])
         values = range(low, high + 1, step) if step > 0 else ()
         if start in values:

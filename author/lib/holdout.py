@@ -13,16 +13,17 @@ them.
 
 Example: cwtune-holdout my.red my.cert
 """
-import math, pathlib, random, tempfile
+import math, pathlib, random
 from typing import NamedTuple
 
 from . import cert_inputs, tuning_files
-from .endings import Fault, end_by_kill_as_by_interrupt, fault_of
+from .endings import Fault, escaped, fault_of
 from .mean_error import error_of_mean
 from .program import EXPLAIN, rules_of, run_program
 from .series import refuse_distance, refuse_fights
 from .words import (add_files, add_opponents_of_tuning, add_program, add_rules, command_parser,
                     counted, number_from)
+from .writing import temporary_folder
 
 
 class FreshPoints(NamedTuple):
@@ -79,7 +80,7 @@ class FreshFights:
         """
         args, rules = self.args, rules_of(self.args).words()
         load_file = output_of(args.program, "asm", *EXPLAIN, *rules, *asm_words)
-        with tempfile.TemporaryDirectory() as folder:
+        with temporary_folder() as folder:
             files = [pathlib.Path(folder, name) for name in ("t.red", "s.csv", "cert")]
             template, schedule, cert = files
             template.write_bytes(b";@tune ONE 0 0 1 0\n" + load_file)
@@ -157,8 +158,9 @@ class Holdout:
         args, start = self.args, self.template.start
         if args.against:
             points = self.fresh_fights.play("--", args.against)
-            print(f"{args.against}: fresh {points}")
-            self.print_gain(args.against, points)
+            against = escaped(args.against)
+            print(f"{against}: fresh {points}")
+            self.print_gain(against, points)
         elif self.cert.points(start) is None:
             print(f"START, setting {start}: does not assemble")
         elif start == self.cert.best:
@@ -205,7 +207,7 @@ def make_parser():
 def read_words():
     """Returns the words of the command, and why CERT.inputs is not used, or an empty text."""
     parser = make_parser()
-    args = parser.parse_intermixed_args()
+    args = parser.parse_mixed()
     why_unused = cert_inputs.settle(args)
     if not args.opponents:
         reason = why_unused or "the opponents of the tuning are not there"
@@ -216,7 +218,6 @@ def read_words():
 
 
 def main():
-    end_by_kill_as_by_interrupt()
     args, why_unused = read_words()
     holdout = Holdout(args)
     holdout.print_first()

@@ -9,11 +9,12 @@ total, so a certificate of `cwtune tune --all`. Needs matplotlib (Debian: python
 
 Example: cwtune-landscape my.red my.cert totals.png --effects effects.png
 """
-import itertools, math, sys
+import contextlib, itertools, math, os, sys
 
 from . import cert_inputs, tuning_files
 from .endings import Fault
 from .mean_error import error_of_mean
+from .watching import watched
 from .words import add_files, command_parser
 from .writing import whole_file
 
@@ -25,14 +26,20 @@ MAP_SCALE = {"origin": "lower", "aspect": "auto"}
 
 def load_pyplot():
     """Returns matplotlib.pyplot, or ends and says which package has it."""
+    # Settings of a file would change the picture, and one in the current folder may be anybody's.
+    os.environ["MATPLOTLIBRC"] = os.devnull
     try:
-        import matplotlib
-    except ImportError:
+        with contextlib.chdir("/"):
+            import matplotlib
+            matplotlib.use("Agg")
+            import matplotlib.pyplot
+    except ModuleNotFoundError:
         raise Fault("no matplotlib for this Python; on Debian: apt-get install "
                     f"python3-matplotlib, then /usr/bin/python3 {sys.argv[0]} ..", 3) from None
-    matplotlib.use("Agg")
-    matplotlib.rcParams.update({"svg.hashsalt": "cwtune", "svg.fonttype": "none"})
-    import matplotlib.pyplot
+    except ImportError as error:
+        raise Fault(f"matplotlib cannot be loaded: {error}", 3) from None
+    matplotlib.rcParams.update({"svg.hashsalt": "cwtune", "svg.fonttype": "none",
+                                "text.parse_math": False})
     return matplotlib.pyplot
 
 
@@ -45,25 +52,25 @@ class Totals:
     """
 
     def __init__(self, template, cert, fights, opponent=None):
-        self.template, self.best, self.fights = template, cert.best, fights
+        self.template, self.best, self.weights = template, cert.best, fights.weights
         self.counted = {index for index, fight in enumerate(fights)
                         if opponent in (None, fight.opponent)}
         self.greatest = 3 * sum(fights[index].weight for index in self.counted)
         self.totals, self.caps = [], []
-        for setting in range(len(cert.rows)):
-            points = cert.points(setting)
-            cap = self.cap(points)
-            has_total = points is not None and self.counted <= points.keys()
+        for setting in watched(range(cert.count), cert.count, "totals"):
+            cap, played = self.cap_of(cert, setting)
+            has_total = played == len(self.counted)
             self.totals.append(cap if has_total else math.nan)
             self.caps.append(math.nan if has_total else cap)
 
-    def cap(self, points):
-        """Returns the greatest total that a setting with these points can have."""
-        if points is None:
-            return math.nan
-        lost = sum((3 - fight_points) * self.fights[index].weight
-                   for index, fight_points in points.items() if index in self.counted)
-        return self.greatest - lost
+    def cap_of(self, cert, setting):
+        """Returns the greatest total that a setting can have, and how many of the fights that count
+        it played; NaN and None if it does not assemble."""
+        if not cert.assembles(setting):
+            return math.nan, None
+        counted = [(points, self.weights[fight]) for fight, points in cert.items(setting)
+                   if fight in self.counted]
+        return self.greatest - sum((3 - points) * weight for points, weight in counted), len(counted)
 
     def greys(self):
         """Returns the scale of the greys of dropped settings, or nothing if there are none."""

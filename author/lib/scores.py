@@ -10,6 +10,7 @@ import concurrent.futures, os
 from . import cert_inputs, tuning_files
 from .endings import Fault, say
 from .program import assemble, rules_of
+from .watching import watched
 from .words import add_files, add_program, add_rules, command_parser, counted, number_from
 
 # With more settings than this none is assembled, to save time.
@@ -61,7 +62,7 @@ class Warriors:
 
     def __init__(self, cert, args):
         self.cert, self.load_files = cert, {}
-        if len(cert.rows) <= MOST_ASSEMBLED:
+        if cert.count <= MOST_ASSEMBLED:
             try:
                 self.read_load_files(args)
             except Fault as fault:
@@ -70,7 +71,7 @@ class Warriors:
     def read_load_files(self, args):
         """Assembles each setting whose row does not name another one with an equal warrior."""
         rules = rules_of(args).words()
-        settings = [setting for setting, row in enumerate(self.cert.rows) if row[0] == "cap"]
+        settings = list(filter(self.cert.lists_fights, range(self.cert.count)))
 
         def load_file(setting):
             return assemble(args.program, *rules, f"--setting={setting}", "--", args.template)[0]
@@ -80,7 +81,7 @@ class Warriors:
 
     def are_one(self, settings):
         """Returns whether these settings make one warrior, or None if that is not known."""
-        if any(self.cert.rows[setting][0] == "refused" for setting in settings):
+        if not all(map(self.cert.assembles, settings)):
             return False
         twins = {self.cert.twin(setting) for setting in settings}
         if len(twins) == 1:
@@ -101,14 +102,14 @@ def idle_text(alike):
 def print_idle(template, warriors):
     """Prints for each constant in how many choices of the others its values make one warrior."""
     print("for how many choices of the other constants all values of one make the same warrior")
-    for constant, name in enumerate(template.names):
-        groups = {}
-        for setting, values in enumerate(template.values_of_settings):
-            others = values[:constant] + values[constant + 1:]
-            groups.setdefault(others, []).append(setting)
-        alike = [warriors.are_one(group) for group in groups.values()]
-        single = len(template.ranges[constant]) == 1
-        print(f"    {name}: {'only one value' if single else idle_text(alike)}")
+    count = len(template.values_of_settings)
+    for name, values, step in zip(template.names, template.ranges, template.strides()):
+        block = step * len(values)
+        groups = (range(first, first + block, step) for start in range(0, count, block)
+                  for first in range(start, start + step))
+        alike = [warriors.are_one(group)
+                 for group in watched(groups, count // len(values), f"choices beside {name}")]
+        print(f"    {name}: {'only one value' if len(values) == 1 else idle_text(alike)}")
 
 
 def make_parser():
@@ -127,7 +128,7 @@ def make_parser():
 
 def main():
     parser = make_parser()
-    args = parser.parse_intermixed_args()
+    args = parser.parse_mixed()
     why_unused = cert_inputs.settle(args)
     if args.schedule is None:
         parser.error(f"give SCHEDULE: {why_unused or 'the schedule of the tuning is not there'}")

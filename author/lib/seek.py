@@ -14,7 +14,7 @@ best so far. With --fights and a seed the result is the same on every machine.
 
 Example: cwtune-seek --minutes 10 my.red fights.csv dwarf.red scanner.red > better.red
 """
-import math, sys, tempfile
+import math, sys
 
 from . import holdout
 from .endings import Fault, end_by_kill_as_by_interrupt
@@ -24,6 +24,7 @@ from .race import Race
 from .race_fights import Arena, add_budget, settle_budget
 from .tuning_files import MOST_SETTINGS
 from .words import add_files, add_program, add_rules, command_parser, number_from
+from .writing import temporary_folder
 
 
 def gain_of(points, weights):
@@ -79,7 +80,7 @@ def make_parser():
 
 def seek(args, grid, weights):
     """Runs the race. Returns the values of the winner, or after Ctrl-C of the best so far."""
-    with (tempfile.TemporaryDirectory(prefix="cwtune-seek-") as folder,
+    with (temporary_folder() as folder,
           Arena(args, grid, rules_of(args), args.opponent, weights, [], folder) as arena):
         race = Race(grid, arena, args.seed)
         try:

@@ -22,7 +22,7 @@ Example: cwtune-spread --jobs 4 my.red fights.csv my.cert dwarf.red scanner.red
 import contextlib, os, shutil, sys, time
 
 from . import cert_inputs, spread_parts, spread_shares, tuning_files
-from .endings import Fault, end_as, end_by_kill_as_by_interrupt
+from .endings import Fault, end_as
 from .program import EXPLAIN, reading_output, rules_of, run_program
 from .spread_folder import SpreadFolder
 from .spread_jobs import HostJobs, LocalJobs
@@ -129,7 +129,9 @@ def explaining_stop(folder, progress):
         yield
     except KeyboardInterrupt as stop:
         if not stop.args and isinstance(folder, SpreadFolder):
-            print(f"stopped: {how_to_go_on(folder, progress)}", file=sys.stderr)
+            how = ("repeat the command" if folder.is_removed
+                   else how_to_go_on(folder, progress))
+            print(f"stopped: {how}", file=sys.stderr)
         raise KeyboardInterrupt("said") from None
 
 
@@ -288,7 +290,6 @@ def tune(args, setting_count, notes):
 
 
 def main():
-    end_by_kill_as_by_interrupt()
     parser = make_parser()
     args = parser.parse_args()
     refuse_idle(parser, args)

@@ -6,15 +6,20 @@
     I.done           what came of piece I
     I.PID.*          what the run with that process id has written of piece I
 
+A mark without a fingerprint is of a folder that is being made or removed, and is made anew. A copy
+that is missing is put back from its input, which has the digest of the mark.
+
 A piece is a part of a tuning or a share of a check. It is done when `I.done` is there, which is
 written once the piece has a result, so neither a kill nor a crash leaves half of one.
 """
-import json, os, re, shutil
-from typing import NamedTuple
+import dataclasses, json, os, shutil
+from typing import Annotated, NamedTuple
 
-from .cert_inputs import sha256_of
+from .endings import Fault
 from .own_folder import OwnFolder
-from .writing import whole_file
+from .regular import open_regular, sha256_of
+from .schema import Malformed, NotJson
+from .tuning_files import MOST_SETTINGS
 
 
 class Copy(NamedTuple):
@@ -23,6 +28,18 @@ class Copy(NamedTuple):
     kind: str
     name: str
     source: str
+
+
+@dataclasses.dataclass
+class Mark:
+    """What `spread.json` says: of what the pieces are, how many pieces and settings there are, and
+    by kind the fingerprint `of` the inputs."""
+
+    by: str
+    piece: str
+    parts: Annotated[int, range(1, MOST_SETTINGS + 1)] | None = None
+    count: Annotated[int, range(1, MOST_SETTINGS + 1)] | None = None
+    of: dict | None = None
 
 
 def copies_of(args, *others):
@@ -39,9 +56,11 @@ class SpreadFolder(OwnFolder):
     Its subclasses say how a piece is called (`PIECE`), which files of the folder are its own
     (`OWN_FILES`) and which of these a kill may leave (`UNFINISHED_FILES`), and the kinds of files
     that a run of a piece reads beside the copies (`SENT_KINDS`) and writes (`RETURNED_KINDS`).
+    `RESULT` is the schema of what is written of a piece that is done.
     """
 
-    COMMAND, MARK = "cwtune-spread", "spread.json"
+    COMMAND, MARK, SCHEMA, VERSION = "cwtune-spread", "spread.json", Mark, 2
+    RESULT = None
     SENT_KINDS = []
 
     def __init__(self, args, given_path, copies, options, piece_count, setting_count):
@@ -53,54 +72,73 @@ class SpreadFolder(OwnFolder):
         super().__init__(given_path)
         self.copies, self.input_options, self.pid = copies, options, os.getpid()
         self.opponents = [copy.name for copy in copies if copy.kind == "opponents"]
-        mark = self.read_mark(lambda mark: mark.get("piece", "part") == self.PIECE)
-        if args.anew or "of" not in mark:
-            self.remove(self.OWN_FILES)
+        self.is_removed = False
+        mark = self.read_mark()
+        self.refuse_strange()
+        if args.anew or mark is None or mark.of is None or not (mark.parts and mark.count):
             mark = self.fill(piece_count, setting_count)
-        self.refuse_other_inputs(mark["of"], self.inputs_fingerprint(),
+        self.refuse_other_inputs(mark.of, self.inputs_fingerprint(),
                                  f"{self.THROWN} in {given_path} are of other inputs")
-        self.refuse_other_inputs(mark["of"], self.copies_fingerprint(),
+        if mark.count != setting_count:
+            raise Fault(f"{given_path}/{self.MARK}: count: not {setting_count}", 2)
+        self.put_back_copies()
+        self.refuse_other_inputs(mark.of, self.copies_fingerprint(),
                                  f"the copies in {given_path} were changed")
-        self.remove(self.UNFINISHED_FILES)
-        self.piece_count, self.setting_count = mark["parts"], mark["count"]
+        self.top.remove(self.UNFINISHED_FILES)
+        self.piece_count, self.setting_count = mark.parts, mark.count
+
+    def read_mark(self):
+        """Returns the mark. Refuses one of other pieces, too."""
+        mark = super().read_mark()
+        if mark and mark.piece != self.PIECE:
+            raise Fault(f"{self.given_path} has {mark.piece}s, and is not touched", 2)
+        return mark
+
+    def rooms(self):
+        return {"": f"{self.OWN_FILES}|{self.UNFINISHED_FILES}"}
 
     def inputs_fingerprint(self):
         """Returns the fingerprint of the inputs as they are now."""
-        return self.fingerprint(copy.source for copy in self.copies)
+        return self.fingerprint(lambda copy: sha256_of(copy.source))
 
     def copies_fingerprint(self):
         """Returns the fingerprint of the copies in the folder."""
-        return self.fingerprint(self.path / copy.name for copy in self.copies)
+        return self.fingerprint(lambda copy: self.sha256(copy.name))
 
-    def fingerprint(self, paths):
+    def fingerprint(self, digest_of_copy):
         """Returns a value for each kind of input that the pieces depend on."""
         digests = {}
-        for copy, path in zip(self.copies, paths):
-            digests.setdefault(copy.kind, []).append(sha256_of(path))
+        for copy in self.copies:
+            digests.setdefault(copy.kind, []).append(digest_of_copy(copy))
         return digests | self.input_options
 
     def fill(self, piece_count, setting_count):
-        """Copies the inputs, and then writes the mark with their fingerprint, which it returns."""
-        self.write_mark({"piece": self.PIECE})
-        for copy in self.copies:
-            shutil.copyfile(copy.source, self.path / copy.name)
-        (self.path / "cwtune").chmod(0o755)
-        mark = {"piece": self.PIECE, "parts": piece_count, "count": setting_count,
-                "of": self.copies_fingerprint()}
+        """Makes the folder anew: copies the inputs, and then writes the mark with their
+        fingerprint, which it returns."""
+        self.write_mark(Mark(self.maker(), self.PIECE))
+        self.remove_all()
+        self.put_back_copies()
+        mark = Mark(self.maker(), self.PIECE, piece_count, setting_count,
+                    self.copies_fingerprint())
         self.write_mark(mark)
         return mark
 
-    def remove(self, pattern):
-        """Removes the files whose whole names match a pattern."""
-        for name in os.listdir(self.path):
-            if re.fullmatch(pattern, name):
-                (self.path / name).unlink()
+    def put_back_copies(self):
+        """Copies the inputs of which no copy is there."""
+        for copy in self.copies:
+            if not os.access(copy.name, os.F_OK, dir_fd=self.top.descriptor):
+                with open_regular(copy.source) as source, self.whole_file(copy.name, "wb") as file:
+                    shutil.copyfileobj(source, file)
+                    if copy.name == "cwtune":
+                        os.fchmod(file.fileno(), 0o755)
 
     def clean_up(self):
         """Removes the folder, but no file that somebody else put there."""
-        self.remove(self.OWN_FILES)
-        if os.listdir(self.path) == [self.MARK]:
-            (self.path / self.MARK).unlink()
+        self.is_removed = True
+        self.write_mark(Mark(self.maker(), self.PIECE))
+        self.remove_all()
+        if os.listdir(self.top.descriptor) == [self.MARK]:
+            os.unlink(self.MARK, dir_fd=self.top.descriptor)
             self.path.rmdir()
 
     def in_order(self, numbers):
@@ -115,12 +153,16 @@ class SpreadFolder(OwnFolder):
         return self.path / f"{number}.{self.pid}.{kind}"
 
     def write_done(self, number, result):
-        with whole_file(self.path / f"{number}.done") as file:
+        with self.whole_file(f"{number}.done") as file:
             json.dump(result, file)
 
     def read_done(self, number):
-        """Returns what was written of a piece that is done, or None."""
+        """Returns what was written of a piece that is done, or None, also if that was cut. Refuses
+        what is not of its form."""
         try:
-            return json.loads((self.path / f"{number}.done").read_text())
-        except (FileNotFoundError, ValueError):
+            return self.load(f"{number}.done", self.RESULT)
+        except (FileNotFoundError, NotJson):
             return None
+        except Malformed as fault:
+            raise Fault(f"{self.given_path}/{number}.done is malformed ({fault}): remove it to run "
+                        f"{self.PIECE} {number} again", 2) from None

@@ -1,8 +1,8 @@
 """Says how `cwtune-spread` tunes each part, and reads what came of it: in the folder CERT.parts, or
 beside CERT.
 
-In the folder `I.cert` is the certificate of part I, and `I.done` has its report and the digest of
-the certificate: the part is done if the certificate has this digest.
+In the folder `I.cert` is the certificate of part I, and `I.done` has its report, empty without a
+candidate, and the digest of the certificate: the part is done if the certificate has this digest.
 
 START of a part is the setting in it that is the fewest steps from START of the template.
 
@@ -10,21 +10,27 @@ The floor of a part is the best of the totals that are known when it begins, wit
 best of them, or one more if the setting with this total comes before the part. If none of its
 settings reaches its floor, its report and its certificate say so.
 """
-import contextlib, os, pathlib, re, subprocess
-from typing import NamedTuple
+import contextlib, dataclasses, os, pathlib, re, subprocess
+from typing import Annotated, NamedTuple
 
-from .cert_inputs import sha256_of
-from .endings import Fault
+from .endings import Fault, end_with_parent
+from .grid import NAME
 from .program import NO_CANDIDATE, rules_of
+from .regular import read_regular, sha256_of
+from .schema import Sha256
 from .spread_folder import SpreadFolder, copies_of
-from .spread_jobs import end_with_parent
 from .tuning_files import MOST_BYTES, Template
 
-RANK = r"rank \d+ setting (\d+) total (\d+)(?: (.+))?\n"
+# A count that `cwtune` prints, and the values of a setting.
+COUNT, CONSTANTS = r"\d{1,20}", rf"{NAME}=-?\d{{1,5}}(?: {NAME}=-?\d{{1,5}})*"
+# More than a report has that ranks as many as `cwtune` keeps.
+MOST_REPORT_BYTES = 1 << 20
+RANK = rf"rank {COUNT} setting ({COUNT}) total ({COUNT})(?: ({CONSTANTS}))?\n"
 REPORT = re.compile(
-    r"vectors \d+\ncandidates \d+\n"
-    r"(?:best \d+\nconstants .+\ntotal \d+|best -\nconstants -\ntotal below \d+) of \d+\n"
-    rf"fights \d+ of \d+\n(?:{RANK})*")
+    rf"vectors {COUNT}\ncandidates {COUNT}\n"
+    rf"(?:best {COUNT}\nconstants (?:-|{CONSTANTS})\ntotal {COUNT}|"
+    rf"best -\nconstants -\ntotal below {COUNT}) of {COUNT}\n"
+    rf"fights {COUNT} of {COUNT}\n(?:{RANK})*")
 
 
 class Part(NamedTuple):
@@ -69,10 +75,12 @@ def part_of(number, part_count, setting_count, report):
     return Part(settings.start, len(settings), report)
 
 
-def read_report(path):
-    """Returns the lines of a report by their first words, and of the lines `rank` a list. Raises a
-    ValueError if it is not a report, or was cut."""
-    text = path.read_text()
+def read_report(text):
+    """Returns the lines of a report by their first words, and of the lines `rank` a list: nothing
+    for an empty text, as of a part without a candidate. Raises a ValueError if it is not a report,
+    or was cut."""
+    if not text:
+        return {}
     if not REPORT.fullmatch(text):
         raise ValueError
     report = dict(line.split(" ", 1) for line in text.splitlines() if not line.startswith("rank "))
@@ -85,6 +93,14 @@ def part_with(setting, part_count, setting_count):
     """Returns the number of the part that has a setting."""
     return next(number for number in range(1, part_count + 1)
                 if setting in settings_of(number, part_count, setting_count))
+
+
+@dataclasses.dataclass
+class PartResult:
+    """What `I.done` says: the report, and the digest of the certificate, if there is one."""
+
+    report: Annotated[str, re.compile(f"(?:{REPORT.pattern})?")]
+    cert: Sha256 | None
 
 
 class ClusterParts:
@@ -106,9 +122,9 @@ class ClusterParts:
     def result(self, number):
         """Returns what came of a part, or None if it has no result."""
         try:
-            fault = pathlib.Path(f"{self.cert(number)}.fault").read_text(errors="replace")
-            path = pathlib.Path(f"{self.cert(number)}.report")
-            report = read_report(path) if path.stat().st_size else {}
+            fault, report = (read_regular(MOST_REPORT_BYTES, f"{self.cert(number)}.{kind}").decode()
+                             for kind in ["fault", "report"])
+            report = read_report(report)
         except (FileNotFoundError, ValueError):
             return None
         if fault != ("" if report else NO_CANDIDATE):
@@ -120,6 +136,10 @@ class ClusterParts:
         this run has."""
         return pathlib.Path(f"{self.given_path}.whole.{os.getpid()}.new")
 
+    def writing_whole(self):
+        """Opens that file."""
+        return self.whole().open("x")
+
     def clean_up(self):
         """Leaves the files of the jobs where they are."""
 
@@ -128,10 +148,12 @@ class Parts(SpreadFolder):
     """The folder CERT.parts."""
 
     PIECE, THROWN, INSTEAD = "part", "the parts", "CERT"
+    RESULT = PartResult
+    OWN_FILES = r"cwtune|[ts]\.(red|csv)|o\d+\.red|whole\.cert|\d+\.(cert|done)"
     # What a run that was killed may leave: `tune` writes a certificate to a file beside it, and
     # then CERT.inputs.
-    UNFINISHED_FILES = r"(\d+|start)\.\d+\.\w+(\.inputs)?(\.unfinished-\d+)?|.*\.\d+\.new"
-    OWN_FILES = rf"cwtune|[ts]\.(red|csv)|o\d+\.red|whole\.cert|\d+\.(cert|done)|{UNFINISHED_FILES}"
+    UNFINISHED_FILES = (r"(\d+|start)\.\d+\.(red|report|fault|status|cert(\.inputs)?"
+                        rf"(\.unfinished-\d+)?)|({OWN_FILES})\.\d+\.new")
     SENT_KINDS = ["red"]
     RETURNED_KINDS = ["cert", "report", "fault"]
     # What the shell does after a run on another host, which may have no certificate to send back.
@@ -146,6 +168,8 @@ class Parts(SpreadFolder):
         part_count = min(setting_count, args.parts or 16 * args.jobs)
         super().__init__(args, f"{args.cert}.parts", copies_of(args), options, part_count,
                          setting_count)
+        if self.piece_count > self.setting_count:
+            raise Fault(f"{self.given_path}/{self.MARK}: more parts than settings", 2)
         if args.parts and min(args.parts, self.setting_count) != self.piece_count:
             raise Fault(f"{self.given_path} has {self.piece_count} parts: leave out --parts, or "
                         "give --anew to throw them away and begin again", 2)
@@ -170,13 +194,13 @@ class Parts(SpreadFolder):
         tune = ["tune", *rules, f"{name}.red", "s.csv", f"{name}.cert", *self.opponents]
         if self.run(asm, f"{name}.red") == 0 and self.run(tune, f"{name}.report") == 0:
             with contextlib.suppress(ValueError):
-                report = read_report(self.path / f"{name}.report")
+                report = read_report((self.path / f"{name}.report").read_text())
                 self.totals[self.template.start] = part_of(1, 1, 1, report).total()
-        self.remove(self.UNFINISHED_FILES)
+        self.top.remove(self.UNFINISHED_FILES)
 
     def run(self, words, output_name):
         """Runs the program in the folder, with its output in a file there. Returns its status."""
-        with (self.path / output_name).open("wb") as output:
+        with self.create(output_name) as output:
             return subprocess.run(["./cwtune", *words], cwd=self.path, stdin=subprocess.DEVNULL,
                                   stdout=output, stderr=subprocess.DEVNULL,
                                   preexec_fn=end_with_parent).returncode
@@ -201,7 +225,7 @@ class Parts(SpreadFolder):
         text = self.template.with_start(nearest)
         if len(text) > MOST_BYTES:
             text = (self.path / "t.red").read_bytes()
-        self.file(number, "red").write_bytes(text)
+        self.write(f"{number}.{self.pid}.red", text)
 
     def words(self, number):
         """Returns the words that tune a part in the folder."""
@@ -212,11 +236,10 @@ class Parts(SpreadFolder):
     def take_result(self, number, status):
         """Keeps what a run of a part wrote, if that is a result. Returns the fault if it is not."""
         fault = self.file(number, "fault").read_text(errors="surrogateescape")
-        report, cert_digest = {}, None
+        report, cert_digest = "", None
         if status == 0:
-            try:
-                report = read_report(self.file(number, "report"))
-            except ValueError:
+            report = self.file(number, "report").read_text(errors="replace")
+            if not REPORT.fullmatch(report):
                 return "failed: its report is cut, or not a report\n"
             cert_digest = sha256_of(self.file(number, "cert"))
             self.file(number, "cert.inputs").unlink(missing_ok=True)
@@ -234,14 +257,19 @@ class Parts(SpreadFolder):
         """Returns what came of a part, or None if it is not done. Notes its totals."""
         result = self.read_done(number)
         try:
-            if not result or result["cert"] and sha256_of(self.cert(number)) != result["cert"]:
+            if (not result or bool(result.report) != bool(result.cert)
+                    or result.cert and self.sha256(f"{number}.cert") != result.cert):
                 return None
         except FileNotFoundError:
             return None
-        part = part_of(number, self.piece_count, self.setting_count, result["report"])
+        part = part_of(number, self.piece_count, self.setting_count, read_report(result.report))
         self.totals |= {setting: total for setting, (total, _) in part.ranked().items()}
         return part
 
     def whole(self):
         """Returns where the certificate of the whole template is put together."""
         return self.path / "whole.cert"
+
+    def writing_whole(self):
+        """Opens that file, which is there once it is whole."""
+        return self.whole_file("whole.cert")

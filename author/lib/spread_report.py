@@ -94,7 +94,7 @@ def write_whole(folder, parts):
     number = next(number for number, part in parts.items() if part is best)
     with reading(folder, number) as path, path.open() as file:
         _, version, _ = file.readline().split(",")
-    with folder.whole().open("w") as file:
+    with folder.writing_whole() as file:
         file.write(f"cwcert,{version},{folder.setting_count}\n"
                    f"best,{index_of(best)},{best.total()}\n")
         for number, part in parts.items():

@@ -5,15 +5,18 @@ Share I of K of a check looks at all of the certificate's form and, of the rows,
 its own settings. A certificate is accepted exactly if all shares of one K accept it. `I.done` has
 the line that the check of share I printed.
 """
-import csv, pathlib, re
+import csv, re
+from typing import Annotated
 
-from .cert_inputs import sha256_of
 from .endings import Fault
 from .program import rules_of
+from .regular import read_regular, sha256_of
 from .spread_folder import Copy, SpreadFolder, copies_of
+from .spread_parts import COUNT, MOST_REPORT_BYTES, RANK
 
-ACCEPTED = re.compile(r"accepted share (\d+)/(\d+) best (\d+) total (\d+)\n(?P<ranks>(rank .*\n)*)")
-REJECTED = re.compile(r"rejected row (\d+) (\w+)\n")
+ACCEPTED = re.compile(rf"accepted share ({COUNT})/({COUNT}) best ({COUNT}) total ({COUNT})\n"
+                      rf"(?P<ranks>({RANK})*)")
+REJECTED = re.compile(rf"rejected row ({COUNT}) ([A-Za-z]+)\n")
 # The reasons of the form of a certificate and of its best row, which all shares find alike.
 REASONS_OF_ALL_SHARES = {"Malformed", "Version", "RowCount", "BestRow"}
 
@@ -26,6 +29,12 @@ def is_verdict(text, status, number, share_count, keep=1):
         return (status == 0 and accepted.group(1, 2) == (str(number), str(share_count))
                 and (1 <= ranks <= keep if keep > 1 else ranks == 0))
     return status == 1 and REJECTED.fullmatch(text) is not None
+
+
+def verdict_in(text, *share):
+    """Returns a text that a share may have printed, or None if it may not. `share` has the last
+    arguments of `is_verdict`."""
+    return text if is_verdict(text, 0 if ACCEPTED.fullmatch(text) else 1, *share) else None
 
 
 def verdict_of(texts, cert):
@@ -84,16 +93,13 @@ class ClusterShares:
     def result(self, number):
         """Returns what a share printed, or None if its job left nothing for this certificate."""
         try:
-            text = pathlib.Path(f"{self.given_path}.{number}.check").read_text()
+            text = read_regular(MOST_REPORT_BYTES, f"{self.given_path}.{number}.check").decode()
         except (FileNotFoundError, ValueError):
             return None
         lines = text.splitlines(keepends=True)
         if len(lines) < 3 or lines[0] != lines[-1] or not lines[0].startswith(self.digest):
             return None
-        printed = "".join(lines[1:-1])
-        status = 0 if ACCEPTED.fullmatch(printed) else 1
-        is_result = is_verdict(printed, status, number, self.piece_count, self.keep)
-        return printed if is_result else None
+        return verdict_in("".join(lines[1:-1]), number, self.piece_count, self.keep)
 
     def refuse_changed_inputs(self):
         """Does nothing: `piece` takes only what is between two digests of CERT as it is now."""
@@ -106,8 +112,9 @@ class Shares(SpreadFolder):
     """The folder CERT.shares, or another one."""
 
     PIECE, THROWN, INSTEAD = "share", "the shares", "folder by --work"
-    UNFINISHED_FILES = r"\d+\.\d+\.\w+|.*\.\d+\.new"
-    OWN_FILES = rf"cwtune|[ts]\.(red|csv)|o\d+\.red|c\.cert|\d+\.done|{UNFINISHED_FILES}"
+    OWN_FILES = r"cwtune|[ts]\.(red|csv)|o\d+\.red|c\.cert|\d+\.done"
+    UNFINISHED_FILES = rf"\d+\.\d+\.(report|fault|status)|({OWN_FILES})\.\d+\.new"
+    RESULT = Annotated[str, re.compile(f"{ACCEPTED.pattern}|{REJECTED.pattern}")]
     RETURNED_KINDS = ["report", "fault"]
     SHELL_AFTER = ""
 
@@ -139,7 +146,8 @@ class Shares(SpreadFolder):
 
     def result(self, number):
         """Returns what a share printed, or None if it is not done."""
-        return self.read_done(number)
+        text = self.read_done(number)
+        return text and verdict_in(text, number, self.piece_count, self.keep)
 
     def refuse_changed_inputs(self):
         """Refuses a certificate or another input that was changed while it was checked."""

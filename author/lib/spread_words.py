@@ -4,7 +4,7 @@ import os
 from .tuning_files import MOST_KEPT, MOST_SETTINGS
 from .words import add_files, add_program, add_rules, number_from
 
-# The most parts and the most shares that the program takes.
+# The most parts and the most shares that the program takes; more than settings do nothing.
 MOST_PIECES = 2 ** 32 - 1
 
 
@@ -34,7 +34,7 @@ def add_jobs(parser):
                        "[default: the processors of this one]")
     group.add_argument("--parts", type=number_from(1), metavar="K",
                        help="parts to split the settings into [default: 16 for each job]")
-    group.add_argument("--shares", type=number_from(1, MOST_PIECES), metavar="K",
+    group.add_argument("--shares", type=number_from(1, MOST_SETTINGS), metavar="K",
                        help="shares to split a check into [default: 8 for each job]")
     group.add_argument("--hosts", metavar="FILE", help="run on these hosts, a line each, over "
                        "ssh (--sshloginfile of GNU parallel; `:` is this one)")

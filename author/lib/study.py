@@ -200,7 +200,7 @@ def make_parser():
 def main():
     end_by_kill_as_by_interrupt()
     parser = make_parser()
-    args = parser.parse_intermixed_args()
+    args = parser.parse_mixed()
     study = Study(args, study_inputs.read(parser, args))
     try:
         print_end(study.folder, study.go())

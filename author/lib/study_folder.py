@@ -7,104 +7,146 @@
 A stage is done once `study.json` says so, so neither a kill nor a crash leaves half of one. A file
 of a stage that is done has to stay as it was.
 """
-import contextlib, json, os, pathlib, re, shlex, subprocess, sys, time
+import dataclasses, json, os, pathlib, re, shlex, subprocess, sys, time
+from typing import Annotated, Any, TypedDict
 
 from . import spread_parts, spread_shares
-from .cert_inputs import digest_of
-from .endings import Fault, ended_with, status_of
+from .endings import Fault, can_be_shown, end_with_parent, ended_with, shown, status_of
 from .own_folder import OwnFolder
 from .program import DEFAULT
-from .spread_jobs import end_with_parent
-from .writing import naming, whole_file
+from .schema import Malformed, checked
+from .writing import naming
 
 AUTHOR = pathlib.Path(__file__).resolve().parents[1]
-FILES = ("template.red warrior.red start.red schedule.csv box.red best.cert best.cert.inputs "
-         "best.txt winner.red report.json report.html log.txt").split()
-# The names that a study gives in its rooms, and in those that cwtune-spread makes beside best.cert.
-ROOMS = {
+# The names that a study gives in its folder, in its rooms, and those that cwtune-spread gives in
+# the rooms that it makes beside best.cert. `opponents` has the names of the opponents.
+NAMES = {
+    "": r"(template|warrior|start|box|winner)\.red|schedule\.csv|best\.(cert(\.inputs)?|txt)|"
+        r"report\.(json|html)|log\.txt",
     "fresh": r"(\d+|start)(-\d+)?\.(red|cert|cert\.inputs|csv|report|fault)(\.unfinished-\d+)?",
-    "best.cert.parts": rf"spread\.json|{spread_parts.Parts.OWN_FILES}",
-    "best.cert.shares": rf"spread\.json|{spread_shares.Shares.OWN_FILES}",
+    **{f"best.cert.{name}": rf"spread\.json|{kind.OWN_FILES}|{kind.UNFINISHED_FILES}"
+       for name, kind in [("parts", spread_parts.Parts), ("shares", spread_shares.Shares)]},
 }
+# What a kill leaves of these.
+UNFINISHED = r".*(\.\d+\.new|\.unfinished-\d+|\.report|\.fault)"
+Count = Annotated[int, range(1 << 53)]
+# The schemas of the results of stages, by the names of these. That of a stage that has no entry
+# here is not looked at.
+RESULTS = {
+    "inputs|schedule|winner|report": type(None),
+    "box": TypedDict("Box", {"sought": bool, "fights": Count, "start": Count | None}),
+    "best": TypedDict("Best", {"fights": Count, "check": str}),
+    r"fresh \d+": dict[str, list[Annotated[str, re.compile("[013]+")]]],
+}
+
+
+class Command(TypedDict):
+    """A command that ran, as a shell takes it, with its seconds and what it said."""
+
+    command: str
+    seconds: float
+    said: list[str]
+
+
+class Stage(TypedDict):
+    """A stage that is done, with the digests of its files."""
+
+    result: Any
+    commands: list[Command]
+    files: dict[str, str]
+
+
+class Fingerprint(TypedDict):
+    """The fingerprint of what a study depends on; `study_inputs` says what else it has."""
+
+    opponents: list[tuple[Annotated[str, re.compile(r"(?!\.\.?$)[^/\0\n]+")], str]]
+
+
+@dataclasses.dataclass
+class Mark:
+    """What `study.json` says. With `removing` the study is to be removed, and made anew."""
+
+    by: str
+    of: Fingerprint
+    stages: dict[str, Stage]
+    removing: bool = False
 
 
 class StudyFolder(OwnFolder):
     """A folder that `cwtune-study` made. `mark` is what its mark says, and `stage_commands` are the
     commands of the stage that runs."""
 
-    COMMAND, MARK, THROWN, INSTEAD = "cwtune-study", "study.json", "it", "--out"
+    COMMAND, MARK, SCHEMA, THROWN, INSTEAD = "cwtune-study", "study.json", Mark, "it", "--out"
 
     def __init__(self, given_path, program, fingerprint, anew):
-        path = os.path.realpath(given_path)
-        if os.fsencode(path).decode(errors="replace") != path:
+        if os.fsencode(given_path).decode(errors="replace") != str(given_path):
             raise Fault("the name of the folder is not UTF-8, which cwtune wants", 2)
         super().__init__(given_path)
         self.program, self.stage_commands = program, []
-        self.mark = self.read_mark(lambda mark: mark["of"]["opponents"] and "stages" in mark)
-        if self.mark and not anew:
-            self.refuse_other_inputs(self.mark["of"], fingerprint,
-                                     f"{given_path} is of other inputs")
+        mark = self.read_mark()
+        begins = anew or mark is None or mark.removing
+        if not begins:
+            self.refuse_other_inputs(mark.of, fingerprint, f"{given_path} is of other inputs")
+        self.opponents = {name for of in [fingerprint, mark.of if mark else {"opponents": []}]
+                          for name, _ in of["opponents"]}
+        self.refuse_strange()
+        if begins and mark:
+            self.write_mark(dataclasses.replace(mark, stages={}, removing=True))
+            self.remove_all()
         self.remove_unfinished()
-        if self.mark and anew:
-            self.remove_study()
-        if anew or not self.mark:
-            self.mark = {"of": fingerprint, "stages": {}}
+        self.mark = Mark(self.maker(), fingerprint, {}) if begins else mark
         self.write_mark(self.mark)
 
-    def remove_study(self):
-        """Removes all files of the study, but no file that somebody else put there."""
-        opponents = "|".join(re.escape(name) for name, _ in self.mark["of"]["opponents"])
-        for room, names in {"opponents": opponents, **ROOMS}.items():
-            with contextlib.suppress(FileNotFoundError):
-                for name in filter(re.compile(names).fullmatch, os.listdir(self.path / room)):
-                    (self.path / room / name).unlink()
-                with contextlib.suppress(OSError):
-                    (self.path / room).rmdir()
-        for name in FILES:
-            (self.path / name).unlink(missing_ok=True)
+    def rooms(self):
+        return {**NAMES, "opponents": "|".join(map(re.escape, self.opponents))}
+
+    def read_mark(self):
+        """Returns the mark. Refuses one whose stages have results that are none."""
+        mark = super().read_mark()
+        for name, stage in mark.stages.items() if mark else ():
+            for pattern, schema in RESULTS.items():
+                try:
+                    if re.fullmatch(pattern, name):
+                        checked(schema, stage["result"], f"stages.{name}.result")
+                except Malformed as fault:
+                    raise Fault(f"{self.given_path}/{self.MARK}: {fault}", 2) from None
+        return mark
 
     def remove_unfinished(self):
-        """Removes what a run that was killed may leave."""
-        names = "|".join(map(re.escape, [self.MARK, *FILES]))
-        for path in self.path.glob("**/*.new"):
-            if re.fullmatch(rf"({names}|(opponents|fresh)/.*)\.\d+\.new",
-                            str(path.relative_to(self.path))):
-                path.unlink()
-        for path in self.path.glob("fresh/*.unfinished-*"):
-            path.unlink()
-
-    def write(self, name, text):
-        """Writes a file of the folder, whole."""
-        with whole_file(self.path / name, "wb") as file:
-            file.write(text)
+        """Removes what a run that was killed may leave, but for that of `cwtune-spread`."""
+        for name, pattern in self.patterns():
+            with self.room(name) as room:
+                if room and not name.startswith("best.cert."):
+                    room.remove(f"(?=(?:{pattern})$){UNFINISHED}")
 
     def stage(self, name, run_stage, *files):
-        """Returns the result of a stage. If it is not done, `run_stage` does it and writes
-        `files`."""
-        if name not in self.mark["stages"]:
+        """Returns the result of a stage. If it is not done, or a file is missing, `run_stage` does
+        it and writes `files`."""
+        digests = {file: self.digest(file) for file in files}
+        if name not in self.mark.stages or None in digests.values():
             self.stage_commands = []
             result = run_stage()
-            digests = {file: digest_of(self.path / file) for file in files}
-            self.mark["stages"][name] = {"result": result, "commands": self.stage_commands,
-                                         "files": digests}
+            digests = {file: self.digest(file) for file in files}
+            self.mark.stages[name] = {"result": result, "commands": self.stage_commands,
+                                      "files": digests}
             self.write_mark(self.mark)
             self.write_log()
-        for file, digest in self.mark["stages"][name]["files"].items():
-            if not (self.path / file).is_file() or digest_of(self.path / file) != digest:
+        for file, digest in digests.items():
+            if digest is None or self.mark.stages[name]["files"].get(file) != digest:
                 raise Fault(f"{self.given_path}/{file} is not as it was written: give --anew to "
                             "begin again", 2)
         # Through JSON, as a repeated command reads it: lists for tuples, texts for keys.
-        return json.loads(json.dumps(self.mark["stages"][name]["result"]))
+        return json.loads(json.dumps(self.mark.stages[name]["result"]))
 
     def commands(self):
         """Returns the commands that ran, with their seconds and what they said."""
-        return [command for stage in self.mark["stages"].values() for command in stage["commands"]]
+        return [command for stage in self.mark.stages.values() for command in stage["commands"]]
 
     def write_log(self):
         lines = [f"# {self.maker()}: commands to type in this folder"]
         for entry in self.commands():
             lines += [f"{entry['command']}  # {entry['seconds']:.1f} seconds",
-                      *(f"# {line}" for line in entry["said"])]
+                      *(f"# {shown(line)}" for line in entry["said"])]
         self.write("log.txt", "".join(f"{line}\n" for line in lines).encode(
             errors="surrogateescape"))
 
@@ -114,7 +156,8 @@ class StudyFolder(OwnFolder):
         if self.program == DEFAULT:
             words = ["cwtune" if word == self.program else word for word in words
                      if word != f"--program={self.program}"]
-        command = shlex.join(words) + (f" > {shlex.quote(output_name)}" if output_name else "")
+        command = " ".join(map(quoted, words)) + (f" > {quoted(output_name)}" if output_name
+                                                  else "")
         self.stage_commands.append({"command": command, "seconds": round(seconds, 2),
                                     "said": list(messages)})
 
@@ -126,7 +169,7 @@ class StudyFolder(OwnFolder):
         argv = words
         if words[0].startswith("cwtune-"):
             argv = [sys.executable, str(AUTHOR / words[0]), *words[1:]]
-        with whole_file(self.path / output_name, "wb") as file:
+        with self.whole_file(output_name, "wb") as file:
             status, messages = run_in(self.path, argv, file, logs_messages)
             if status < 0:
                 raise ended_with(words[0], status)
@@ -134,6 +177,14 @@ class StudyFolder(OwnFolder):
                 sys.exit(status_of(status))
         self.log_command(words, output_name, time.monotonic() - began_at, messages)
         return messages
+
+
+def quoted(word):
+    """Returns a word as a shell takes it, without a byte that steers a terminal."""
+    if can_be_shown(word):
+        return shlex.quote(word)
+    octal = "".join(f"\\{byte:03o}" for byte in os.fsencode(word))
+    return f"\"$(printf '{octal}')\""
 
 
 def run_in(folder, argv, output, returns_messages):

@@ -1,13 +1,14 @@
 """Reads what `cwtune-study` is given, and refuses what no study can be made of."""
-import argparse, hashlib, json, os, pathlib, re, tempfile
+import argparse, hashlib, json, os, pathlib, re
 from typing import NamedTuple
 
 from . import vary
 from .endings import Fault, fault_of
-from .grid import Grid, is_range_line
+from .grid import NAME, Grid, is_range_line
 from .program import EXPLAIN, rules_of, run_program
 from .series import refuse_distance, refuse_fights, refuse_seed
 from .tuning_files import MOST_OPPONENTS
+from .writing import temporary_folder
 
 # The options that a study depends on.
 OPTIONS = ["rounds", "seed", "exact", "box", "fresh"]
@@ -39,7 +40,7 @@ def sort_words(parser, args):
     """Sorts the words of the command into the warrior, the opponents and the ranges."""
     files, args.ranges = [], []
     for word in [args.warrior, *args.opponents]:
-        if re.match(rf"{vary.NAME}=", word) and not os.path.exists(word):
+        if re.match(rf"{NAME}=", word) and not os.path.exists(word):
             args.ranges.append(range_of(parser, word))
         else:
             files.append(word)
@@ -107,7 +108,7 @@ def refuse_start(args, grid):
 
     For this each constant has its START alone, as `cwtune` takes at most a million settings.
     """
-    with tempfile.TemporaryDirectory() as folder:
+    with temporary_folder() as folder:
         path = pathlib.Path(folder, os.path.basename(args.warrior))
         path.write_bytes(grid.line_through(grid.start_values, ()))
         refuse_text(args, f"START of {args.warrior}", "--setting=start", "--", path.name,

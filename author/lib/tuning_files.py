@@ -4,17 +4,20 @@ A file that is none of these is refused in a few words; what exactly is wrong wi
 says. A setting is its index here, as in the output of `cwtune`; `settings` of a template has the
 values of each.
 """
-import csv, functools, itertools, math
+import array, bisect, collections.abc, csv, functools, itertools, math, os, re
 from typing import NamedTuple
 
-from .endings import Fault
+from .endings import Fault, escaped
 from .grid import Grid
+from .watching import watched
 
 HEADER = ["opponent", "position", "first"]
 # What `cwtune` takes at most: of a template its bytes, constants and settings, of a schedule its
 # fights and their weights, of a tuning its opponents and how many of the ranking it keeps.
 MOST_BYTES, MOST_CONSTANTS, MOST_SETTINGS = 65536, 8, 1000000
 MOST_FIGHTS, MOST_WEIGHT, MOST_OPPONENTS, MOST_KEPT = 10000, 1000, 64, 1000
+# The points of a cap row that lists a fight.
+LISTED = re.compile(r"[0-9]{1,10}:[013](?: [0-9]{1,10}:[013])*")
 
 
 class Fight(NamedTuple):
@@ -30,7 +33,44 @@ class Fights(list):
     @functools.cached_property
     def greatest(self):
         """The total of a setting that wins all fights."""
-        return 3 * sum(fight.weight for fight in self)
+        return 3 * sum(self.weights)
+
+    @functools.cached_property
+    def weights(self):
+        return [fight.weight for fight in self]
+
+
+class Settings(collections.abc.Sequence):
+    """The values of all settings in their order, in which the first constant changes slowest. Each
+    is made when it is asked for: a million would take much memory."""
+
+    def __init__(self, ranges):
+        self.ranges, self.count = ranges, math.prod(map(len, ranges))
+
+    def __len__(self):
+        return self.count
+
+    def __iter__(self):
+        return itertools.product(*self.ranges)
+
+    def __getitem__(self, setting):
+        if not 0 <= setting < self.count:
+            raise IndexError(setting)
+        values = []
+        for of_constant in reversed(self.ranges):
+            setting, index = divmod(setting, len(of_constant))
+            values.append(of_constant[index])
+        return tuple(reversed(values))
+
+    def index(self, values):
+        setting = 0
+        for of_constant, value in zip(self.ranges, values, strict=True):
+            setting = setting * len(of_constant) + of_constant.index(value)
+        return setting
+
+    def __contains__(self, values):
+        return len(values) == len(self.ranges) and all(
+            value in of_constant for of_constant, value in zip(self.ranges, values))
 
 
 class Template(Grid):
@@ -44,14 +84,16 @@ class Template(Grid):
         super().__init__(path)
         if self.count() > MOST_SETTINGS:
             raise Fault(f"{path}: more than {MOST_SETTINGS} settings")
-        self.values_of_settings = list(itertools.product(*self.ranges))
+        self.values_of_settings = Settings(self.ranges)
         self.start = self.values_of_settings.index(self.start_values)
 
     def read(self, path):
         """Returns the text. Refuses one that cannot be that of a template."""
-        text = super().read(path)
-        if len(text) > MOST_BYTES:
-            raise Fault(f"{path}: {len(text)} bytes, more than the {MOST_BYTES} of a template")
+        with open(path, "rb") as file:
+            text = file.read(MOST_BYTES + 1)
+            size = max(len(text), os.fstat(file.fileno()).st_size)
+        if size > MOST_BYTES:
+            raise Fault(f"{path}: {size} bytes, more than the {MOST_BYTES} of a template")
         if b"\0" in text or not text.strip():
             raise Fault(f"{path}: not a template, a schedule or a certificate")
         return text
@@ -64,6 +106,11 @@ class Template(Grid):
             setting, index = divmod(setting, len(values))
             indices.append(index)
         return indices
+
+    def strides(self):
+        """Returns for each constant how many settings lie from one of its values to the next."""
+        sizes = [len(values) for values in self.ranges]
+        return [math.prod(sizes[constant + 1:]) for constant in range(len(sizes))]
 
     def nearest_start(self, settings):
         """Returns which of the settings is the fewest steps from START; of several the first."""
@@ -86,8 +133,8 @@ class Template(Grid):
     def checked_for(self, cert):
         """Returns this template. Refuses it if the certificate has another number of rows than it
         has settings."""
-        if len(self.values_of_settings) != len(cert.rows):
-            raise Fault(f"the certificate is of {len(cert.rows)} settings, and the template "
+        if len(self.values_of_settings) != cert.count:
+            raise Fault(f"the certificate is of {cert.count} settings, and the template "
                         f"has {len(self.values_of_settings)}", 2)
         return self
 
@@ -95,43 +142,117 @@ class Template(Grid):
 class AnyCertificate:
     """A certificate, with a best setting or without: its answer and its rows.
 
-    `rows[setting]` is ("refused", None), ("same", twin) or ("cap", points): the twin is the setting
-    whose fights are shared, and the points are a dict by fight. If no setting reaches the floor of
-    the tuning, `best` is None and `total` is the floor.
+    If no setting reaches the floor of the tuning, `best` is None and `total` is the floor. A
+    certificate may have a million rows, so these are kept in arrays: `twins` has for each setting
+    the one whose fights are its own, itself for a cap row, and -1 for one that does not assemble.
+    What the cap row of a setting lists is in `listed`, the fights, and `made`, the points, from the
+    place `starts[setting]` on.
     """
 
     def __init__(self, path):
         self.path = path
+        self.twins, self.starts = array.array("q"), array.array("Q", [0])
+        self.listed, self.made = array.array("I"), array.array("B")
         try:
             records = read_records(path)
             (mark, version, count), (answer, best, total) = itertools.islice(records, 2)
             self.version, self.total = int(version), int(total)
             self.best = None if (answer, best) == ("none", "-") else int(best)
-            self.rows = [read_row(setting, record) for setting, record in enumerate(records)]
-            named = [content for kind, content in self.rows if kind == "same"]
-            named += [] if self.best is None else [self.best]
-            well_formed = (mark == "cwcert" and int(count) == len(self.rows)
+            for record in watched(records, int(count), f"rows of {escaped(str(path))}"):
+                self.add_row(record)
+            well_formed = (mark == "cwcert" and int(count) == self.count
                            and version in ("1", "2")
                            and answer == ("none" if self.best is None else "best")
-                           and all(map(self.lists_fights, named)))
-        except (ValueError, csv.Error):
+                           and (self.best is None or self.lists_fights(self.best))
+                           and all(twin == -1 or self.lists_fights(twin) for twin in self.twins))
+        except (ValueError, OverflowError, csv.Error):
             well_formed = False
         if not well_formed:
             raise Fault(f"{path}: not a certificate")
 
+    @property
+    def count(self):
+        """The number of settings."""
+        return len(self.twins)
+
+    def add_row(self, record):
+        """Adds the row of the next setting, or raises a ValueError if the record is not one."""
+        kind, index, content = record
+        setting = self.count
+        twin = {"cap": setting, "refused": -1}.get(kind)
+        if kind == "same":
+            twin = int(content)
+        if twin is None or int(index) != setting or kind == "same" and twin in (-1, setting):
+            raise ValueError
+        if kind == "cap" and content != "-":
+            self.add_points(content)
+        self.starts.append(len(self.listed))
+        self.twins.append(twin)
+
+    def add_points(self, text):
+        """Adds what a cap row lists, rising fights with their points."""
+        if not LISTED.fullmatch(text):
+            raise ValueError
+        numbers = list(map(int, text.replace(":", " ").split(" ")))
+        fights = numbers[::2]
+        if fights != sorted(set(fights)):
+            raise ValueError
+        self.listed.fromlist(fights)
+        self.made.fromlist(numbers[1::2])
+
     def lists_fights(self, setting):
         """Returns whether there is this setting, and its row lists fights."""
-        return 0 <= setting < len(self.rows) and self.rows[setting][0] == "cap"
+        return 0 <= setting < self.count and self.twins[setting] == setting
+
+    def assembles(self, setting):
+        return self.twins[setting] >= 0
 
     def twin(self, setting):
         """Returns the setting whose fights a setting shares, or itself."""
-        kind, content = self.rows[setting]
-        return content if kind == "same" else setting
+        return self.twins[setting] if self.assembles(setting) else setting
+
+    def items(self, setting):
+        """Yields the fights that a setting played, with their points."""
+        twin = self.twin(setting)
+        place = slice(self.starts[twin], self.starts[twin + 1])
+        return zip(self.listed[place], self.made[place])
 
     def points(self, setting):
-        """Returns the points that a setting made, by fight, or None if it does not assemble."""
-        kind, content = self.rows[self.twin(setting)]
-        return content if kind == "cap" else None
+        """Returns the points that a setting made, a dict by fight, or None if it does not
+        assemble."""
+        return dict(self.items(setting)) if self.assembles(setting) else None
+
+    def plays_all(self, setting, fights):
+        """Returns whether a setting played all of these fights."""
+        twin = self.twin(setting)
+        return (self.assembles(setting)
+                and self.starts[twin + 1] - self.starts[twin] == len(fights))
+
+    def cap(self, setting, fights):
+        """Returns the greatest total of a setting with its points; its total if all are listed."""
+        weights = fights.weights
+        return fights.greatest - sum((3 - points) * weights[fight]
+                                     for fight, points in self.items(setting))
+
+
+class Ranked(collections.abc.Sequence):
+    """Total and setting of each setting that played all fights, the best first. Each is kept in
+    eight bytes: in a number that is less for a greater total."""
+
+    def __init__(self, keys):
+        self.keys = array.array("q", sorted(keys))
+
+    def __len__(self):
+        return len(self.keys)
+
+    def __getitem__(self, place):
+        if isinstance(place, slice):
+            return [self[index] for index in range(*place.indices(len(self)))]
+        return -(self.keys[place] >> 32), self.keys[place] & 0xffffffff
+
+
+def rank_key(total, setting):
+    return (-total << 32) + setting
 
 
 class Ranking(NamedTuple):
@@ -142,7 +263,7 @@ class Ranking(NamedTuple):
     setting beats them.
     """
 
-    full: list
+    full: Ranked
     dropped: int
     exact: int
 
@@ -160,11 +281,8 @@ class Certificate(AnyCertificate):
         """Returns whether the certificate can be of these fights: there is one, it lists no other
         ones, and its best setting played them all, has its total, and is the first of the
         ranking."""
-        best_points = self.points(self.best)
-        listed = [content for kind, content in self.rows if kind == "cap"]
-        if any(not 0 <= index < len(fights) for points in listed for index in points):
-            return False
-        return (0 < len(best_points) == len(fights) and cap(best_points, fights) == self.total
+        return (len(fights) > 0 and max(self.listed, default=0) < len(fights)
+                and self.total_of(self.best, fights) == self.total
                 and self.ranked(fights).full[0][1] == self.best)
 
     def fights(self, schedule):
@@ -184,22 +302,20 @@ class Certificate(AnyCertificate):
 
     def total_of(self, setting, fights):
         """Returns the total of a setting, or None if it did not play all fights."""
-        points = self.points(setting)
-        return cap(points, fights) if points is not None and len(points) == len(fights) else None
+        return self.cap(setting, fights) if self.plays_all(setting, fights) else None
 
     def ranked(self, fights):
         """Returns the ranking of the settings by these fights."""
-        totals = [(self.total_of(setting, fights), setting) for setting in range(len(self.rows))]
-
-        def order(pair):
-            total, setting = pair
-            return -total, setting
-
-        full = sorted((pair for pair in totals if pair[0] is not None), key=order)
-        dropped = [(cap(self.points(setting), fights), setting) for total, setting in totals
-                   if total is None and self.points(setting) is not None]
-        first_dropped = min(map(order, dropped), default=(math.inf, 0))
-        return Ranking(full, len(dropped), sum(order(pair) < first_dropped for pair in full))
+        keys, dropped, first_dropped = [], 0, math.inf
+        for setting in watched(range(self.count), self.count, "totals"):
+            if self.assembles(setting):
+                key = rank_key(self.cap(setting, fights), setting)
+                if self.plays_all(setting, fights):
+                    keys.append(key)
+                else:
+                    dropped, first_dropped = dropped + 1, min(first_dropped, key)
+        full = Ranked(keys)
+        return Ranking(full, dropped, bisect.bisect_left(full.keys, first_dropped))
 
 
 def read_records(path):
@@ -217,7 +333,7 @@ def read_schedule(path):
                         for record in records)
     except (ValueError, csv.Error):
         header, fights = None, []
-    if not fights or not (has_weights or header == HEADER):
+    if not 0 < len(fights) <= MOST_FIGHTS or not (has_weights or header == HEADER):
         raise Fault(f"{path}: not a schedule")
     return fights
 
@@ -231,34 +347,9 @@ def schedule_text(fights):
 def read_fight(record):
     """Returns a fight, or raises a ValueError if the record is not one."""
     opponent, position, first, weight = record
-    if int(opponent) < 0 or not 1 <= int(weight) <= MOST_WEIGHT:
+    if int(opponent) < 0 or first not in ("c", "o") or not 1 <= int(weight) <= MOST_WEIGHT:
         raise ValueError
     return Fight(int(opponent), int(position), first, int(weight))
-
-
-def read_row(setting, record):
-    """Returns the row of a setting, or raises a ValueError if the record is not one."""
-    kind, index, content = record
-    if kind not in ("cap", "same", "refused") or int(index) != setting:
-        raise ValueError
-    if kind == "refused":
-        return kind, None
-    if kind == "same":
-        return kind, int(content)
-    return kind, read_points(content)
-
-
-@functools.lru_cache(1 << 14)
-def read_points(text):
-    """Returns the points of a row by fight. Equal texts get one dict: callers do not change it."""
-    items = [] if text == "-" else [item.split(":") for item in text.split(" ")]
-    return {int(fight): int(points) for fight, points in items}
-
-
-def cap(points, fights):
-    """Returns the greatest total of a setting with these points; its total if all are listed."""
-    return fights.greatest - sum((3 - fight_points) * fights[index].weight
-                                 for index, fight_points in points.items())
 
 
 def exactness_text(exact, wanted):

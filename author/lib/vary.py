@@ -10,13 +10,12 @@ Example: cwtune-vary my.red STEP=5:4000:10 FIRST=0:20:1 > my-template.red
 import argparse, difflib, math, re, sys
 from typing import NamedTuple
 
-from .endings import Fault
-from .grid import is_range_line
+from .endings import Fault, shown
+from .grid import NAME, is_range_line
 from .program import load_file_of, refuse_other_warrior, rules_of
 from .tuning_files import MOST_CONSTANTS, MOST_SETTINGS
 from .words import add_program, add_rules, command_parser, counted
 
-NAME = r"[A-Za-z_][A-Za-z0-9_]*"
 EQU_LINE = re.compile(rf"\s*({NAME}):?\s+equ\b(.*)", re.IGNORECASE | re.DOTALL)
 NUMBER = re.compile(r"([+-]?[0-9]{1,5})|\(\s*([+-]?[0-9]{1,5})\s*\)")
 
@@ -114,7 +113,7 @@ def equ_of(path, equs, name, values):
         hint = f"; did you mean {near}?" if near else ""
         raise Fault(f"{path}: no line `{name} EQU number`{hint}")
     if equ.value is None:
-        raise Fault(f"{path}, line {equ.line}: {equ.text or 'nothing'} is not a plain number, so "
+        raise Fault(f"{path}, line {equ.line}: {shown(equ.text) or 'nothing'} is not a plain number, so "
                     f"{equ.name} can have no range")
     if equ.value not in values:
         below = [value for value in values if value < equ.value]
@@ -203,7 +202,7 @@ def checked_template(args, text):
 
 def main():
     parser = make_parser()
-    args = parser.parse_intermixed_args()
+    args = parser.parse_mixed()
     text = warrior_text(parser, args)
     if not args.ranges:
         lines = list(lines_of_numbers(text))

@@ -1,6 +1,7 @@
 """Makes the parsers of the commands, with the files, options and numbers that several have."""
-import argparse, shutil
+import argparse, shutil, sys
 
+from .endings import escaped
 from .program import BUILT, DEFAULT, HILLS, Rules, program_of
 
 EXIT_STATUS = ("Exit status: 0 done; 1 a file is refused; 2 usage error, or two files do not fit "
@@ -15,15 +16,41 @@ MEANING = {"core": "the core size", "cycles": "the most cycles of a fight",
            "distance": "the least distance of two warriors"}
 
 
+class Parser(argparse.ArgumentParser):
+    """A parser to which names after `--` are files, whatever they begin with, also where files and
+    options may be mixed."""
+
+    # What stands before a name with a dash while argparse reads it. No word of a command has it.
+    FENCE = "\0"
+
+    def parse_mixed(self):
+        """Returns the words of the command, with options between files."""
+        words = sys.argv[1:]
+        if "--" in words:
+            end = words.index("--")
+            words[end:] = [self.FENCE * word.startswith("-") + word for word in words[end + 1:]]
+        args = self.parse_intermixed_args(words)
+        for name, value in vars(args).items():
+            setattr(args, name, self.without_fence(value))
+        return args
+
+    def without_fence(self, value):
+        if isinstance(value, list):
+            return list(map(self.without_fence, value))
+        return value.removeprefix(self.FENCE) if isinstance(value, str) else value
+
+    def error(self, message):
+        super().error(escaped(message.replace(self.FENCE, "")))
+
+
 def command_parser(docstring):
     """Returns the parser of a command, whose docstring is its help: the first paragraph says what
     the command does; the others, an example last, follow the options. The exit status is added if
     no paragraph has it."""
     about, *more, example = docstring.strip().split("\n\n")
     status = [] if "Exit status" in docstring else [EXIT_STATUS]
-    return argparse.ArgumentParser(description=about, epilog="\n\n".join([*more, *status, example]),
-                                   allow_abbrev=False,
-                                   formatter_class=argparse.RawDescriptionHelpFormatter)
+    return Parser(description=about, epilog="\n\n".join([*more, *status, example]),
+                  allow_abbrev=False, formatter_class=argparse.RawDescriptionHelpFormatter)
 
 
 def module_parser(module, docstring):

@@ -1,5 +1,5 @@
-"""Writes files whole or not at all."""
-import contextlib, os, pathlib, shutil
+"""Writes files whole or not at all, and removes what a kill has left of that."""
+import contextlib, fcntl, os, pathlib, re, shutil, stat, tempfile
 
 from .endings import Fault
 
@@ -26,15 +26,91 @@ def whole_file(path, mode="w"):
             with open(path, mode) as file:
                 yield file
             return
-        new = target.with_name(f"{target.name}.{os.getpid()}.new")
+        remove_left(target.parent, rf"{re.escape(target.name)}(\.whole)?\.(\d+)\.new")
+        folder = os.open(target.parent, os.O_PATH | os.O_DIRECTORY)
         try:
-            with new.open(mode) as file:
+            with replacing(folder, target.name, mode) as file:
                 yield file
-                file.flush()
-                os.fsync(file.fileno())
-            if target.exists():
-                shutil.copymode(target, new)
-            new.replace(target)
         finally:
-            with contextlib.suppress(OSError):
-                new.unlink()
+            os.close(folder)
+
+
+@contextlib.contextmanager
+def replacing(folder, name, mode):
+    """Opens a new file, which replaces the file `name` once all is written. `folder` is the
+    descriptor of theirs. A link is replaced itself, and nothing is written through it."""
+    new = f"{name}.{os.getpid()}.new"
+    try:
+        with open_new(folder, new, mode) as file:
+            with contextlib.suppress(FileNotFoundError):
+                old_mode = os.stat(name, dir_fd=folder, follow_symlinks=False).st_mode
+                os.fchmod(file.fileno(), stat.S_IMODE(old_mode))
+            yield file
+            file.flush()
+            os.fsync(file.fileno())
+        os.replace(new, name, src_dir_fd=folder, dst_dir_fd=folder)
+    except BaseException:
+        with contextlib.suppress(OSError):
+            os.unlink(new, dir_fd=folder)
+        raise
+
+
+def open_new(folder, name, mode):
+    """Opens a file that is not there yet, in the folder of a descriptor, and locks it."""
+    file = open(name, mode, opener=lambda path, flags: os.open(
+        path, flags | os.O_EXCL | os.O_NOFOLLOW, 0o666, dir_fd=folder))
+    with contextlib.suppress(OSError):  # not every file system has locks
+        fcntl.flock(file, fcntl.LOCK_EX | fcntl.LOCK_NB)
+    return file
+
+
+def remove_left(folder, pattern):
+    """Removes what killed runs have left in a folder: what has a name by the pattern, whose last
+    group is the process id of its maker, if it is of this user and its maker is gone. A maker on
+    another host holds a lock."""
+    with contextlib.suppress(OSError):
+        for name in os.listdir(folder):
+            match = re.fullmatch(pattern, name)
+            if match and not is_running(int(match.groups()[-1])):
+                remove_unlocked(os.path.join(folder, name))
+
+
+def remove_unlocked(path):
+    """Removes a file or a folder of this user that nobody has locked."""
+    with contextlib.suppress(OSError):
+        descriptor = os.open(path, os.O_RDONLY | os.O_NOFOLLOW | os.O_NONBLOCK)
+        try:
+            state = os.fstat(descriptor)
+            fcntl.flock(descriptor, fcntl.LOCK_EX | fcntl.LOCK_NB)
+            if state.st_uid == os.geteuid() and stat.S_ISREG(state.st_mode):
+                os.unlink(path)
+            elif state.st_uid == os.geteuid() and stat.S_ISDIR(state.st_mode):
+                shutil.rmtree(path)
+        finally:
+            os.close(descriptor)
+
+
+def is_running(pid):
+    """Returns whether another process of this host has this id."""
+    if pid == os.getpid():
+        return False
+    try:
+        os.kill(pid, 0)
+    except (ProcessLookupError, OverflowError):
+        return False
+    except PermissionError:
+        pass
+    return True
+
+
+@contextlib.contextmanager
+def temporary_folder():
+    """Makes a folder for the block, and removes those of runs that were killed."""
+    remove_left(tempfile.gettempdir(), r"cwtune-(\d+)-\w+")
+    with tempfile.TemporaryDirectory(prefix=f"cwtune-{os.getpid()}-") as folder:
+        lock = os.open(folder, os.O_RDONLY)
+        try:
+            fcntl.flock(lock, fcntl.LOCK_EX | fcntl.LOCK_NB)
+            yield folder
+        finally:
+            os.close(lock)

@@ -39,9 +39,15 @@ NOT_OF_ANY_KIND = {"binary": bytes(range(256)), "empty": b""}
 NOT_SCHEDULES = {
     "weight-0.csv": b"opponent,position,first,weight\n0,3670,c,0\n",
     "weight-1001.csv": b"opponent,position,first,weight\n0,3670,c,1001\n",
+    "first-z.csv": b"opponent,position,first\n0,3670,z\n",
+    "10001-fights.csv": b"opponent,position,first\n" + b"0,3670,c\n" * 10001,
     "opponent-below-0.csv": b"opponent,position,first\n-1,3670,c\n",
 }
 NOT_CERTIFICATES = {
+    "fight-below-0.cert": b"cwcert,1,1\nbest,0,3\ncap,0,-1:3\n",
+    "fight-twice.cert": b"cwcert,1,1\nbest,0,3\ncap,0,0:3 0:3\n",
+    "two-points.cert": b"cwcert,1,1\nbest,0,2\ncap,0,0:2\n",
+    "same-as-itself.cert": b"cwcert,1,2\nbest,0,3\ncap,0,0:3\nsame,1,1\n",
     "row-of-two-fields.cert": b"cwcert,1,1\nbest,0,3\ncap,0\n",
     "same-as-no-setting.cert": b"cwcert,1,2\nbest,0,3\ncap,0,0:3\nsame,1,2\n",
     "best-without-a-row.cert": b"cwcert,1,1\nbest,1,3\ncap,0,0:3\n",
@@ -52,7 +58,7 @@ WRONG_CERTIFICATES = {
     "total-17-and-not-16.cert": (TUNING / "step.cert").read_bytes().replace(b"best,3,16",
                                                                             b"best,3,17"),
     "more-than-the-best.cert": b"cwcert,1,2\nbest,1,3\ncap,0,0:3 1:3\ncap,1,0:3 1:0\n",
-    "no-such-fight.cert": b"cwcert,1,2\nbest,0,4\ncap,0,0:3 1:1\ncap,1,-9:0\n",
+    "no-such-fight.cert": b"cwcert,1,2\nbest,0,4\ncap,0,0:3 1:1\ncap,1,9:0\n",
     "no-fights.cert": b"cwcert,1,2\nbest,0,0\ncap,0,-\nsame,1,0\n",
     "four-rules.cert": b"cwcert,1,1\nbest,0,3\ncap,0,0:3\n",
     "four-rules.cert.inputs": b"rules 8000 80000 8000 100\npart 1/1\nmethod all\ncert 1 x\n"
@@ -79,7 +85,8 @@ CANNOT_BE_READ = [
     Refusal("cwtune-files none", 3, f"failed: none: {NO_FILE}"),
     Refusal("cwtune-landscape none step.cert x.png", 3, f"failed: none: {NO_FILE}"),
     # A symbolic link to itself.
-    Refusal("cwtune-study --out loop two.red plain.red", 3, "failed: loop: File exists"),
+    Refusal("cwtune-study --out loop two.red plain.red", 2,
+            "error: loop is a link, and is not touched"),
 ]
 OF_ANOTHER_KIND = [
     *(Refusal(f"cwtune-files {name}", 1,

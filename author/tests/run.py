@@ -16,8 +16,8 @@ from author.lib.program import program_of
 from author.lib.words import add_built, module_parser
 from gate.tally import compare, tally
 
-from . import (landscapes, merging, origins, refusals, reporting, sharing, spreading, studying,
-               varying, warriors)
+from . import (landscapes, merging, origins, own_folders, refusals, reporting, sharing, spreading,
+               strangers, studying, varying, warriors)
 from .commands import (AUTHOR, SECONDS, TUNING, command, played, printed, run, started,
                        wait_until)
 
@@ -190,8 +190,8 @@ def all_trials(program, python, draws, replaces):
             "without_program": without_program(), "refusals": refusals.trials(python, draws),
             "signals": signals(),
             **{f"{module.__name__.rpartition('.')[2]}.{name}": trial
-               for module in (warriors, varying, origins, landscapes, studying, spreading, merging,
-                              sharing)
+               for module in (warriors, varying, origins, landscapes, strangers, own_folders,
+                              studying, spreading, merging, sharing)
                for name, trial in module.trials(program).items()},
             **{f"reporting.{name}": trial for name, trial in reporting.trials().items()}}
 

@@ -123,8 +123,9 @@ def folders(place):
                        len(list(place.folder.glob("CERT.parts/*")))))
     place.clear()
     place.write("CERT.parts", b"mine\n")
-    yield compare("a file in its place", (3, b"mine\n"),
-                  (place.spread(*DECOY).status, place.read("CERT.parts")))
+    yield compare("a file in its place", (
+        2, "", "error: CERT.parts is a file, and is not touched\n", b"mine\n"),
+        (*place.spread(*DECOY), place.read("CERT.parts")))
     (place.folder / "CERT.parts").unlink()
 
 

@@ -6,7 +6,7 @@ from gate.tally import compare
 from .commands import Refusal, refused, usage_error, wait_until
 from .study_place import TEMPLATE, texts
 
-FOREIGN = "error: mine is not a folder of this cwtune-study, and is not touched\n"
+FOREIGN = "error: mine is not a folder of this cwtune-study, and is not touched{}\n"
 WRONG_WORDS = [
     usage_error("cwtune-study t.red", "OPPONENT is missing: files, or a folder with files *.red"),
     usage_error("cwtune-study STEP=1:2 K=1:2",
@@ -46,7 +46,7 @@ WRONG_FILES = [
     Refusal("cwtune-study --out=none/x t.red all", 3, "failed: none/x: No such file or directory"),
     Refusal("cwtune-study --out=\udcff t.red all", 2,
             "error: the name of the folder is not UTF-8, which cwtune wants"),
-    Refusal("cwtune-study --out=t.red t.red all", 3, "failed: t.red: File exists"),
+    Refusal("cwtune-study --out=t.red t.red all", 2, "error: t.red is a file, and is not touched"),
 ]
 
 
@@ -79,12 +79,22 @@ def others(place):
 def foreign(place):
     """Gives it folders that it did not make, one that is in use, and a command that fails."""
     (place.folder / "mine").mkdir()
-    for name, text in [("notes.txt", "mine\n"), ("study.json", "{}"), ("study.json", "[1]"),
-                       ("study.json", '{"by": "cwtune-study 1", "of": [], "stages": {}}')]:
+    for name, text, why in [
+        ("notes.txt", "mine\n", ""), ("study.json", "{", " (study.json: not JSON)"),
+        ("study.json", "{}", " (study.json: no entry `by`)"),
+        ("study.json", "[1]", " (study.json: not an object)"),
+        ("study.json", "[" * 100000, " (study.json: nested too deep)"),
+        ("study.json", '{"by": "cwtune-study 1", "of": [], "stages": {}}',
+         " (study.json: of: not an object)"),
+        ("study.json", '{"by": "cwtune-study 1", "of": {"opponents": [["..", ""]]}, "stages": {}}',
+         " (study.json: of.opponents[0][0]: not of its form)"),
+        ("study.json", '{"by": "cwtune-study 0", "of": {"opponents": []}, "stages": {}}', ""),
+    ]:
         place.write(f"mine/{name}", text)
         before = texts(place, "mine")
         for options in [[], ["--anew"]]:
-            yield compare(f"a folder of somebody else {options}", (2, "", FOREIGN, before), (
+            yield compare(f"a folder of somebody else {options}", (2, "", FOREIGN.format(why),
+                                                                   before), (
                 *place.study("--out=mine", *options, "t.red", "all"), texts(place, "mine")))
     (place.folder / "t.study").mkdir()
     lock = os.open(place.folder / "t.study", os.O_RDONLY)

@@ -1,0 +1,56 @@
+"""Opens regular files alone: a FIFO would keep a reader waiting, and a device may never end."""
+import errno, hashlib, os, stat
+
+from .endings import Fault
+
+KINDS = {stat.S_IFLNK: "a link", stat.S_IFIFO: "a FIFO", stat.S_IFSOCK: "a socket",
+         stat.S_IFDIR: "a folder", stat.S_IFREG: "a file"}
+
+
+class NotRegular(Fault):
+    """A path that is not of a regular file."""
+
+    def __init__(self, shown):
+        super().__init__(f"{shown} is not a regular file", 2)
+
+
+def kind_of(mode):
+    """Returns what a file of this mode is, in words."""
+    return KINDS.get(stat.S_IFMT(mode), "a device")
+
+
+def open_regular(path, flags=0, folder=None, shown=None):
+    """Opens a regular file to be read, as bytes. `folder` is a descriptor that `path` begins at,
+    and `shown` the name for the fault."""
+    try:
+        descriptor = os.open(path, os.O_RDONLY | os.O_NONBLOCK | flags, dir_fd=folder)
+    except OSError as error:
+        # A link where O_NOFOLLOW refuses it, or a socket.
+        if error.errno in (errno.ELOOP, errno.ENXIO):
+            raise NotRegular(shown or path) from None
+        raise
+    if not stat.S_ISREG(os.fstat(descriptor).st_mode):
+        os.close(descriptor)
+        raise NotRegular(shown or path)
+    return open(descriptor, "rb")
+
+
+def read_regular(most, *place, **more):
+    """Returns what a regular file has, and raises a ValueError if that is more than `most` bytes.
+    `place` and `more` are arguments of `open_regular`."""
+    with open_regular(*place, **more) as file:
+        if os.fstat(file.fileno()).st_size > most or len(text := file.read(most + 1)) > most:
+            raise ValueError(f"more than {most} bytes")
+        return text
+
+
+def sha256_of(*place, **more):
+    with open_regular(*place, **more) as file:
+        return hashlib.file_digest(file, "sha256").hexdigest()
+
+
+def digest_of(*place, **more):
+    """Returns the size and the digest of a file as CERT.inputs has them."""
+    with open_regular(*place, **more) as file:
+        size = os.fstat(file.fileno()).st_size
+        return f"{size} {hashlib.file_digest(file, 'sha256').hexdigest()}"

@@ -1,0 +1,17 @@
+"""Starts a command. Any Python 3 can read this file, so that an old one is told what is wanted."""
+import sys
+
+
+def run(name):
+    """Runs the command of a module."""
+    if sys.version_info < (3, 11):
+        sys.stderr.write("failed: cwtune-%s needs Python 3.11, and this is Python %d.%d\n"
+                         % ((name,) + sys.version_info[:2]))
+        sys.exit(3)
+    try:
+        import importlib
+        from .endings import run_tool
+        run_tool(lambda: importlib.import_module("." + name, __package__).main())
+    except MemoryError:
+        sys.stderr.write("failed: out of memory\n")
+        sys.exit(3)
