@@ -10,7 +10,7 @@
 ; is the stone's. OTHER: where the second one goes; 2 more than a multiple of 8, the free cell.
 ; AWAY: where the stone ends, counted from the last line. PLACE: where the imps begin, likewise.
 ; TRAIL: how far below the stone the decrements begin that run down the core.
-; 188*49*49*59*59*46 are 72278242088 settings.
+; 188*49*49*59*59*46 are 72278954888 settings.
 ;@tune STEP 1000 3992 16 3032
 ;@tune AIM 80 7760 160 2480
 ;@tune OTHER 82 7762 160 6482
