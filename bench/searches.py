@@ -29,11 +29,14 @@ def search_of(kind, asked):
                        [*spread, f"--jobs={asked.jobs}"])}[kind]
 
 
-def kinds(word):
-    """Reads a list of kinds for argparse."""
-    if not set(word.split(",")) <= set(KINDS):
-        raise argparse.ArgumentTypeError(f"{word} is not some of {', '.join(KINDS)}")
-    return word.split(",")
+def some_of(names):
+    """Returns a reader of a list of some of the names for argparse."""
+    def read(word):
+        if not set(word.split(",")) <= set(names):
+            raise argparse.ArgumentTypeError(f"{word} is not some of {', '.join(names)}")
+        return word.split(",")
+
+    return read
 
 
 def run(name, words):
@@ -81,7 +84,7 @@ def main():
                         help="the first K of the ranking [default: 10]")
     parser.add_argument("--jobs", type=number_from(1), default=4, metavar="N",
                         help="processors of cwtune-spread [default: 4]")
-    parser.add_argument("--kinds", type=kinds, default=KINDS, metavar="KIND,..",
+    parser.add_argument("--kinds", type=some_of(KINDS), default=KINDS, metavar="KIND,..",
                         help=f"some of {', '.join(KINDS)} [default: each of them]")
     parser.add_argument("templates", nargs="+", type=pathlib.Path, metavar="TEMPLATE")
     asked = parser.parse_args()
