@@ -32,6 +32,11 @@ class FreshPoints(NamedTuple):
     by_opponent: list
     opponent_weights: list
 
+    @classmethod
+    def of_texts(cls, texts, weights):
+        """Returns the points that a text has for each opponent, a digit for each fight."""
+        return cls([list(map(int, text)) for text in texts], weights)
+
     def mean(self):
         """Returns the points as a part of the greatest total, in percent."""
         means = (sum(points) / (3 * len(points)) for points in self.by_opponent)
@@ -111,6 +116,18 @@ def output_of(*words):
     if completed.returncode != 0:
         raise fault_of(completed)
     return completed.stdout
+
+
+def gain_of(points, weights):
+    """Returns the differences of the points of one player and of another, which are texts as
+    `FreshPoints` takes them, or None if they did not play."""
+    first, second = (FreshPoints.of_texts(texts, weights) for texts in points)
+    return first.minus(second) if first.by_opponent else None
+
+
+def is_gain(difference):
+    """Returns whether differences of points are a gain: by more than two standard errors."""
+    return difference.mean() > 2 * difference.error()
 
 
 def gain_words(difference):

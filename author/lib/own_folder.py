@@ -175,6 +175,13 @@ class OwnFolder:
         """Opens a file that is not there yet."""
         return open_new(self.top.descriptor, name, "wb")
 
+    def open_to_append(self, name):
+        """Opens a file of the folder, or makes it, to read it and to write at its end."""
+        with self.room_of(name) as (room, file_name):
+            descriptor = os.open(file_name, os.O_RDWR | os.O_APPEND | os.O_CREAT | os.O_NOFOLLOW,
+                                 0o666, dir_fd=room.descriptor)
+        return open(descriptor, "r+b", buffering=0)
+
     def write(self, name, text):
         """Writes a file of the folder, whole."""
         with self.whole_file(name, "wb") as file:
@@ -212,7 +219,8 @@ class OwnFolder:
     def refuse_other_inputs(self, recorded, inputs, complaint):
         """Refuses a folder if what it recorded of its inputs differs from `inputs`. `complaint` is
         the text that says so."""
-        others = [kind for kind, value in inputs.items() if recorded.get(kind) != value]
+        others = [f"{kind} was {recorded.get(kind)}" if kind.startswith("--") else kind
+                  for kind, value in inputs.items() if recorded.get(kind) != value]
         if others:
             raise Fault(f"{complaint} ({', '.join(others)}): give --anew to throw {self.THROWN} "
                         f"away and begin again, or another {self.INSTEAD}", 2)

@@ -94,7 +94,7 @@ class Race:
         """Runs the race to its end. Returns the outcome."""
         self.start.add(self.arena.rates([self.start], self.arena.new_blocks(TRIAL_BLOCKS))[0])
         self.start.guess = self.start.rate()
-        self.arena.tell_estimate()
+        self.arena.tell_estimate(f"a race of {self.grid.count()} settings")
         self.explore()
         for number in itertools.count(1):
             if not self.improve(number):

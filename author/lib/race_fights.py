@@ -8,7 +8,7 @@ import argparse, concurrent.futures, operator, os, pathlib, random, resource, su
 from typing import NamedTuple
 
 from .endings import Fault, fault_of
-from .program import NO_CANDIDATE, reading_output
+from .program import NO_CANDIDATE, reading_output, rules_of
 from .tuning_files import Fight, schedule_text
 from .words import counted, number_from
 
@@ -40,7 +40,7 @@ class Budget(NamedTuple):
     """What a race may use: fights, seconds, or both. None is no limit."""
 
     fights: int | None
-    seconds: float | None
+    seconds: float | None = None
 
     def used(self, fights, seconds):
         """Returns which part of it some fights in some seconds are."""
@@ -68,16 +68,16 @@ class Arena:
     """The fights of a race in the settings of a grid: `with` it, they can be played.
 
     `opponents` are the paths of the opponents, and `weights` how much each counts. `records` is a
-    list of what was played: a race that stopped goes on by that of its last run.
+    list of what was played: a race that was stopped goes on by that of its last run.
     """
 
-    def __init__(self, args, grid, rules, opponents, weights, records, folder):
-        self.args, self.grid, self.rules, self.records = args, grid, rules, records
-        self.budget = Budget(args.fights, args.minutes and 60 * args.minutes)
+    def __init__(self, args, budget, grid, opponents, weights, records, folder):
+        self.args, self.budget, self.grid, self.records = args, budget, grid, records
+        self.rules = rules_of(args)
         self.opponents, self.weights = zip(*((path, weight) for path, weight
                                              in zip(opponents, weights) if weight))
         self.folder, dice = pathlib.Path(folder), random.Random(args.seed)
-        self.positions = [Positions(rules, dice) for _ in self.opponents]
+        self.positions = [Positions(self.rules, dice) for _ in self.opponents]
         self.block_count = self.record_count = self.fights = 0
         self.began_at, self.seconds = clock(), 0.0
         self.seconds_of_play, self.seconds_of_jobs = 0.0, 0.0
@@ -136,8 +136,10 @@ class Arena:
             self.records.append({"settings": settings, "points": points,
                                  "seconds": round(clock() - self.began_at, 3)})
         record, plays = self.records[self.record_count], len(settings) * len(blocks)
-        if record["settings"] != settings:
-            raise Fault("what was played before is of another race", 2)
+        if record["settings"] != settings or not all(
+                points is None or [*map(len, points)] == [len(self.opponents)] * len(blocks)
+                for points in record["points"]):
+            raise Fault("what was played before is not of this race: give --anew to begin again", 2)
         self.record_count += 1
         # The budget goes by what is recorded, so that a race that goes on decides as it did.
         self.seconds_of_play = (record["seconds"] - self.seconds) / plays
@@ -186,17 +188,16 @@ class Arena:
         width = len(self.opponents)
         return [digits[first:first + width] for first in range(0, len(digits), width)]
 
-    def tell_estimate(self):
-        """Prints about how long the race takes, by the fights of START."""
+    def tell_estimate(self, what):
+        """Prints about how long the budget lasts, by the fights so far."""
         if not self.seconds_of_jobs:
-            print("the race goes on where it was stopped", file=sys.stderr, flush=True)
+            print(f"{what}: goes on where it was stopped", file=sys.stderr, flush=True)
             return
         rate = self.args.jobs * self.fights / self.seconds_of_jobs
         limits = [self.budget.seconds, self.budget.fights and self.budget.fights / rate]
         seconds = min(filter(None, limits))
-        print(f"race: {self.grid.count()} settings, about {round(seconds * rate, -2):.0f} fights "
-              f"in {duration(seconds)} on {counted(self.args.jobs, 'processor')}",
-              file=sys.stderr, flush=True)
+        print(f"{what}: about {round(seconds * rate, -2):.0f} fights in {duration(seconds)} on "
+              f"{counted(self.args.jobs, 'processor')}", file=sys.stderr, flush=True)
 
     def tell_progress(self):
         """Prints how far the race is, if some seconds have passed since the last line."""
@@ -223,14 +224,12 @@ def duration(seconds):
 def add_budget(parser):
     """Adds the options of a race to the words of a command."""
     group = parser.add_argument_group("race")
-    group.add_argument("--fights", type=number_from(1000), metavar="N", help="end after about N "
-                       f"fights [default: {DEFAULT_FIGHTS}, unless --minutes is given]")
+    group.add_argument("--fights", type=number_from(1000), metavar="N", help="end after N fights "
+                       f"[default: {DEFAULT_FIGHTS}, unless --minutes is given]")
     group.add_argument("--minutes", type=minutes, metavar="N",
                        help="end after N minutes, such as 10 or 0.5")
-    group.add_argument("--seed", type=number_from(0), default=1, metavar="N", help="another number "
-                       "gives other positions and other settings [default: 1]")
     group.add_argument("--jobs", type=number_from(1), default=os.cpu_count(), metavar="N",
-                       help="fights that run side by side [default: the processors]")
+                       help="jobs that run side by side [default: the processors]")
 
 
 def minutes(word):
@@ -241,7 +240,8 @@ def minutes(word):
     return number
 
 
-def settle_budget(args):
-    """Gives the words of a command a budget if they have none."""
+def budget_of(args):
+    """Returns the budget of the words of a command, which has a default."""
     if not (args.fights or args.minutes):
         args.fights = DEFAULT_FIGHTS
+    return Budget(args.fights, args.minutes and 60 * args.minutes)

@@ -19,19 +19,11 @@ import math, sys
 from . import holdout
 from .endings import Fault, end_by_kill_as_by_interrupt
 from .grid import Grid
-from .program import rules_of
 from .race import Race
-from .race_fights import Arena, add_budget, settle_budget
+from .race_fights import Arena, add_budget, budget_of
 from .tuning_files import MOST_SETTINGS
 from .words import add_files, add_program, add_rules, command_parser, number_from
 from .writing import temporary_folder
-
-
-def gain_of(points, weights):
-    """Returns the gain of a winner over START. `points` are theirs, by opponent, in texts."""
-    winner, start = (holdout.FreshPoints([list(map(int, text)) for text in texts], weights)
-                     for texts in points)
-    return winner.minus(start)
 
 
 def print_outcome(grid, outcome, weights):
@@ -45,7 +37,7 @@ def print_outcome(grid, outcome, weights):
         print("note: no fights were left to measure the gain: give more --fights or --minutes",
               file=sys.stderr)
     else:
-        gain = gain_of(outcome.points, weights)
+        gain = holdout.gain_of(outcome.points, weights)
         luck = 100 * outcome.rise - gain.mean()
         print(f"note: in the fights that picked it, it was {100 * outcome.rise:+.1f}% over START; "
               f"{luck:+.1f}% of that was luck", file=sys.stderr)
@@ -70,6 +62,8 @@ def ranges_of(args, grid, values):
 def make_parser():
     parser = command_parser(__doc__)
     add_budget(parser)
+    parser.add_argument("--seed", type=number_from(0), default=1, metavar="N",
+                        help="another number gives other settings and positions [default: 1]")
     parser.add_argument("--box", type=number_from(0), metavar="N",
                         help="cut each range to N values on both sides of the winner's")
     add_program(parser)
@@ -81,7 +75,7 @@ def make_parser():
 def seek(args, grid, weights):
     """Runs the race. Returns the values of the winner, or after Ctrl-C of the best so far."""
     with (temporary_folder() as folder,
-          Arena(args, grid, rules_of(args), args.opponent, weights, [], folder) as arena):
+          Arena(args, budget_of(args), grid, args.opponent, weights, [], folder) as arena):
         race = Race(grid, arena, args.seed)
         try:
             outcome = race.run()
@@ -98,7 +92,6 @@ def seek(args, grid, weights):
 def main():
     end_by_kill_as_by_interrupt()
     args = make_parser().parse_args()
-    settle_budget(args)
     grid = Grid(args.template)
     if not grid.names:
         raise Fault(f"{args.template}: no range line, which begins `;@tune` at the left margin "

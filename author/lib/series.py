@@ -2,8 +2,10 @@
 
 Example: cwtune-series 4321 20 3 > fights.csv
 """
+import argparse
+
 from .program import Rules, rules_of
-from .tuning_files import MOST_FIGHTS, MOST_OPPONENTS, Fight, schedule_text
+from .tuning_files import MOST_FIGHTS, MOST_OPPONENTS, MOST_WEIGHT, Fight, schedule_text
 from .words import MEANING, add_hill, command_parser, counted, number_from
 
 
@@ -13,6 +15,21 @@ def series(seed, rounds, core, distance):
     for index in range(rounds):
         yield distance + state % (core + 1 - 2 * distance), "co"[index % 2]
         state = state * 16807 % 2147483647
+
+
+def series_fights(seed, rounds, rules, weights):
+    """Returns the fights of a series against each opponent, of the opponents' weights."""
+    rounds_of_each = list(series(seed, rounds, rules.core, rules.distance))
+    return [Fight(opponent, position, first, weight) for opponent, weight in enumerate(weights)
+            for position, first in rounds_of_each]
+
+
+def weights_of(word):
+    """Reads a list of weights for argparse."""
+    weights = [int(part) if part.isdecimal() else 0 for part in word.split(",")]
+    if not all(1 <= weight <= MOST_WEIGHT for weight in weights):
+        raise argparse.ArgumentTypeError(f"{word} is not a list of 1 to {MOST_WEIGHT}, as 2,1,1")
+    return weights
 
 
 def refuse_fights(parser, name, rounds, opponents):
@@ -44,6 +61,8 @@ def make_parser():
                         help="the number after -r")
     parser.add_argument("opponents", metavar="OPPONENTS", type=number_from(1, MOST_OPPONENTS),
                         help="how many opponents: the series for each")
+    parser.add_argument("--weights", type=weights_of, metavar="W,..", help="how much the fights "
+                        "against each opponent count, 1 to 1000 [default: 1 each]")
     add_hill(parser)
     for name, low, high in [("core", 8, 65535), ("distance", 1, 32767)]:
         default = f"that of the hill, else {getattr(Rules(), name)}"
@@ -59,6 +78,8 @@ def main():
     refuse_distance(parser, rules)
     refuse_seed(parser, "SEED", args.seed, rules)
     refuse_fights(parser, "ROUNDS", args.rounds, args.opponents)
-    fights = list(series(args.seed, args.rounds, rules.core, rules.distance))
-    print(schedule_text(Fight(opponent, position, first) for opponent in range(args.opponents)
-                        for position, first in fights), end="")
+    weights = args.weights or [1] * args.opponents
+    if len(weights) != args.opponents:
+        parser.error(f"--weights has {counted(len(weights), 'weight')} for "
+                     f"{counted(args.opponents, 'opponent')}")
+    print(schedule_text(series_fights(args.seed, args.rounds, rules, weights)), end="")

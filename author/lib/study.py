@@ -1,34 +1,46 @@
-"""Improves a warrior: schedule, tuning, fresh fights and report, in one folder.
+"""Improves a warrior: tuning or race, fresh fights and report, in one folder.
 
 WARRIOR is a template, or an ordinary text with words NAME=LOW:HIGH:STEP, as cwtune-vary takes them.
-An opponent is a file, or a folder whose files *.red are taken by their names. If the template has
-more than --exact settings, cwtune-seek climbs in it and leaves a box around what it finds; of
-settings outside the box nothing is exact. All fights of the box are played and the certificate is
-checked, so its ranking is exact. The first ten then play fresh fights, the better half more, and so
-on; the winner is the one with the most points. It and START play other fights for the gain.
+An opponent is a file, or a folder whose files *.red are taken by their names; with `=N` behind it,
+as in papers/=2, its fights count N times.
 
-FOLDER gets winner.red, report.html, report.json, the template, the schedule, the certificate, and
-log.txt with the commands, each of which can be typed there. After Ctrl-C or a crash repeat the
-command, and it goes on. A folder made of other inputs is refused.
+A template with at most --exact settings is tuned whole: all fights of all settings are played and
+the certificate is checked, so the ranking is exact. The first ten then play fresh fights, the
+better half more, and so on; the winner is the one with the most points. It and START play other
+fights for the gain.
 
-Example: cwtune-study my.red opponents/ STEP=5:7995:10 GATE=-3500:-500:500
+In a larger template settings race: many play a few fights and the better ones more, at new
+positions in each heat. The winner and START play fights that picked nothing for the gain. If it
+gains, the settings around it are tuned, and the first ten of them play against it.
+
+FOLDER gets winner.red, report.html, report.json, the template, what was played, and log.txt with
+the commands. After Ctrl-C or a crash repeat the command, and it goes on. A folder made of other
+inputs is refused.
+
+Example: cwtune-study --minutes 10 my.red opponents/ STEP=5:7995:10 GATE=-3500:-500:500
 """
-import json, math, os, pathlib, sys
+import json, os, pathlib, sys
 
-from . import seek, study_fresh, study_inputs, study_report
-from .endings import Fault, end_by_kill_as_by_interrupt
+from . import study_fresh, study_inputs, study_report
+from .endings import end_by_kill_as_by_interrupt
 from .grid import Grid
 from .program import Rules, rules_of
+from .race import TRIAL_BLOCKS, Contender
+from .race_fights import Arena, Budget, add_budget
+from .series import series_fights
 from .study_folder import StudyFolder
+from .study_race import RaceOfStudy
 from .study_result import report_numbers
-from .tuning_files import MOST_FIGHTS, MOST_SETTINGS, Certificate, read_schedule
+from .tuning_files import MOST_FIGHTS, MOST_SETTINGS, Certificate, read_schedule, schedule_text
 from .words import add_program, add_rules, command_parser, number_from
+from .writing import temporary_folder
 
 fight_count = number_from(1, MOST_FIGHTS)
 
 
 class Study:
-    """A study: its words, inputs and folder. Each stage but the heats is a method."""
+    """A study: its words, inputs and folder. Each stage of an exact tuning but the heats is a
+    method."""
 
     def __init__(self, args, inputs):
         self.args, self.inputs = args, inputs
@@ -44,11 +56,21 @@ class Study:
         """Returns the words of a command for authors that takes the program and the rules."""
         return [name, *words, f"--program={self.args.program}", *self.rules]
 
+    def spread_words(self, *words):
+        """Returns the words by which cwtune-spread tunes the box."""
+        return self.author_words("cwtune-spread", *words, f"--jobs={self.args.jobs}", "--progress",
+                                 "box.red", "schedule.csv", "best.cert", *self.opponents)
+
     def write_series(self, seed, rounds, name):
-        """Writes a schedule by cwtune-series."""
-        rules = [word for word in self.rules if word.startswith(("--core", "--distance"))]
-        self.folder.run(["cwtune-series", *rules, str(seed), str(rounds), str(len(self.names))],
-                        name)
+        """Writes the schedule that `cwtune-series` writes, which the log has."""
+        weights = self.args.weights
+        fights = series_fights(seed, rounds, rules_of(self.args), weights)
+        self.folder.write(name, schedule_text(fights).encode())
+        words = [word for word in self.rules if word.startswith(("--core", "--distance"))]
+        if set(weights) != {1}:
+            words.append(f"--weights={','.join(map(str, weights))}")
+        self.folder.log_command(
+            ["cwtune-series", *words, str(seed), str(rounds), str(len(weights))], name, 0)
 
     def copy_inputs(self):
         """Copies the inputs, and makes the template of a warrior."""
@@ -66,31 +88,10 @@ class Study:
         grid = Grid(folder.path / "template.red")
         folder.write("start.red", grid.line_through(grid.start_values, ()))
 
-    def make_box(self):
-        """Makes box.red. Returns whether a climb sought it, the fights of the climb, and the total
-        of START, if that is known."""
-        grid = Grid(self.folder.path / "template.red")
-        if grid.count() <= self.args.exact:
-            self.folder.run(["cat", "template.red"], "box.red")
-            return {"sought": False, "fights": 0, "start": None}
-        box = math.prod(min(2 * self.args.box + 1, len(values)) for values in grid.ranges)
-        reach = self.args.box if box <= self.args.exact else 1
-        words = self.author_words("cwtune-seek", f"--box={reach}", f"--jobs={self.args.jobs}")
-        messages = "\n".join(self.folder.run(
-            [*words, "template.red", "schedule.csv", *self.opponents], "box.red"))
-        start_line, found_line = (line.search(messages)
-                                  for line in (seek.START_LINE, seek.FOUND_LINE))
-        if not found_line:
-            raise Fault("cwtune-seek did not say what it found", 3)
-        return {"sought": True, "fights": int(found_line[1]),
-                "start": start_line and int(start_line[1])}
-
-    def tune_box(self):
+    def tune_all(self):
         """Plays every fight of the box, and has the certificate checked. Returns how many fights
         that were, and the line of the check."""
-        words = self.author_words("cwtune-spread", "--all", "--check", f"--jobs={self.args.jobs}")
-        self.folder.run([*words, "box.red", "schedule.csv", "best.cert", *self.opponents],
-                        "best.txt", logs_messages=False)
+        self.folder.run(self.spread_words("--all", "--check"), "best.txt", logs_messages=False)
         lines = (self.folder.path / "best.txt").read_text().splitlines()
         fights = next(line.split()[1] for line in lines if line.startswith("fights "))
         return {"fights": int(fights), "check": lines[-1]}
@@ -106,61 +107,90 @@ class Study:
         args, stage = self.args, self.folder.stage
         warrior = ["warrior.red"] if args.ranges else []
         stage("inputs", self.copy_inputs, "template.red", "start.red", *warrior, *self.opponents)
-        stage("schedule", lambda: self.write_series(args.seed, args.rounds, "schedule.csv"),
-              "schedule.csv")
-        box_result = stage("box", self.make_box, "box.red")
-        print_box(self.folder.path, box_result["sought"])
-        tuning_result = stage("best", self.tune_box, "best.cert", "best.txt")
-        fresh_results = study_fresh.find_winner(self, self.first_settings())
-        stage("winner", lambda: self.write_winner(fresh_results[0]), "winner.red")
-        stage("report", lambda: self.write_report(box_result, tuning_result, *fresh_results),
-              "report.json", "report.html")
+        grid = Grid(self.folder.path / "template.red")
+        results = self.tune(grid) if grid.count() <= args.exact else RaceOfStudy(self, grid).go()
+        stage("report", lambda: self.write_report(results), "report.json", "report.html")
         self.folder.write_log()
         return json.loads((self.folder.path / "report.json").read_text())
 
-    def write_winner(self, winner):
+    def tune(self, grid):
+        """Tunes the whole template, and finds the winner in fresh fights. Returns the results."""
+        args, stage = self.args, self.folder.stage
+        print(f"all {grid.count()} settings are tuned: their ranking is exact", flush=True)
+        if "best" not in self.folder.mark.stages:
+            self.tell_estimate(grid)
+        stage("schedule", lambda: self.write_series(args.seed, args.rounds, "schedule.csv"),
+              "schedule.csv")
+        stage("box", lambda: self.folder.run(["cat", "template.red"], "box.red") and None, "box.red")
+        tuning = stage("best", self.tune_all, "best.cert", "best.txt")
+        winner, points, last_points = study_fresh.find_winner(self, self.first_settings())
+        stage("winner", lambda: self.write_winner(winner, "box.red"), "winner.red")
+        return {"tuning": tuning, "winner": winner, "points": points, "last_points": last_points}
+
+    def tell_estimate(self, grid):
+        """Prints about how long the tuning and its check take, by some fights of START."""
+        fights = 2 * grid.count() * self.args.rounds * len(self.names)
+        paths = [str(self.folder.path / path) for path in self.opponents]
+        with (temporary_folder() as folder,
+              Arena(self.args, Budget(fights), grid, paths, self.args.weights, [],
+                    folder) as arena):
+            arena.play([Contender(grid.start_values)], arena.new_blocks(TRIAL_BLOCKS))
+            arena.tell_estimate("the tuning and its check")
+
+    def write_winner(self, setting, template):
         """Writes the text of the winner."""
-        words = self.author_words("cwtune-warrior", f"--setting={winner}", "box.red")
+        words = self.author_words("cwtune-warrior", f"--setting={setting}", template)
         self.folder.run(words, "winner.red")
 
-    def write_report(self, *results):
-        """Writes report.json and report.html from `results`, the other arguments of
-        `report_numbers`."""
-        report = report_numbers(self, *results)
+    def write_report(self, results):
+        """Writes report.json and report.html."""
+        report = report_numbers(self, results)
         self.folder.write("report.json", (json.dumps(report, indent=1) + "\n").encode())
         self.folder.write("report.html", study_report.html_of(report).encode(errors="replace"))
 
 
-def print_box(folder, was_sought):
-    """Prints what will be exact, and what was only sought."""
-    count, box = Grid(folder / "template.red").count(), Grid(folder / "box.red").count()
-    if was_sought:
-        print(f"of {count} settings a box of {box} is tuned, around what the climb found: exact "
-              "within the box, only sought outside of it", flush=True)
-    else:
-        print(f"all {count} settings are tuned: their ranking is exact", flush=True)
+def constants_text(values):
+    """Returns the values of a setting as they are printed."""
+    return " ".join(f"{constant}={value}" for constant, value in values.items())
 
 
 def print_fresh(name, player):
     """Prints what a player made in its fresh fights, and its values."""
     fresh = player["fresh"]
-    constants = " ".join(f"{constant}={value}" for constant, value in player["values"].items())
     print(f"fresh: {name}: {fresh['points']} of {3 * fresh['fights']} ({fresh['percent']:.1f}% "
-          f"+- {fresh['error']:.1f}) {constants}")
+          f"+- {fresh['error']:.1f}) {constants_text(player['values'])}")
+
+
+def print_tuned(report):
+    """Prints what the tuning of a whole template found."""
+    best, winner, start = report["ranking"][0], report["winner"], report["start"]
+    print(f"tuned: setting {best['setting']} is best, total {best['tuned']} of "
+          f"{report['schedule']['greatest']}, START {start['tuned']} ({report['check']})")
+    print_fresh(f"setting {winner['setting']}, rank {winner['rank']}", winner)
+    print_fresh("START", start)
+
+
+def print_raced(report):
+    """Prints what the race found."""
+    race, box = report["race"], report["box"]
+    print(f"race: {race['settings']} of {report['settings']} settings in {race['fights']} fights")
+    if box:
+        print(f"box: {box['settings']} settings around the race's winner, "
+              + ("one of them is better" if box["replaces"] else "none of them is better"))
+    if report["gain"]:
+        print_fresh("winner", report["winner"])
+        print_fresh("START", report["start"])
+        print(f"luck: the winner was {race['rise']:+.1f}% over START in the fights that picked it")
 
 
 def print_end(folder, report):
     """Prints what the study found, and where its files are."""
-    best, winner, start = report["ranking"][0], report["winner"], report["start"]
-    greatest, gain = report["schedule"]["greatest"], report["gain"]
-    print(f"tuned: setting {best['setting']} is best, total {best['tuned']} of {greatest}, START "
-          f"{start['tuned']} ({report['check']})")
-    print_fresh(f"setting {winner['setting']}, rank {winner['rank']}", winner)
-    print_fresh("START", start)
-    if winner["values"] == start["values"]:
-        print("the winner is START: nothing better was found")
-    else:
+    gain = report["gain"]
+    print_raced(report) if report["race"] else print_tuned(report)
+    if gain and report["winner"]["values"] != report["start"]["values"]:
         print(f"over START: {gain['percent']:+.1f}% +- {gain['error']:.1f}, {gain['words']}")
+    else:
+        print("the winner is START: nothing better was found")
     for name in ["winner.red", "report.html"]:
         print(os.path.join(folder.given_path, name))
 
@@ -172,26 +202,31 @@ def make_parser():
     parser.add_argument("--rounds", type=fight_count, default=20, metavar="R",
                         help="fights of the tuning against each opponent [default: 20]")
     parser.add_argument("--seed", type=number_from(1, 65535), metavar="S",
-                        help="the first position, as SEED of cwtune-series [default: 4321, or less "
-                        "in a small core]")
+                        help="the seed of a race, and the first position of a tuning, as SEED of "
+                        "cwtune-series [default: 4321, or less in a small core]")
     parser.add_argument("--exact", type=number_from(1, MOST_SETTINGS), default=1000, metavar="N",
-                        help="tune all settings of a template with at most N; of a larger one "
-                        "climb first, and tune a box [default: 1000]")
-    parser.add_argument("--box", type=number_from(1), default=2, metavar="N",
-                        help="values on both sides of what the climb finds; 1 if the box would "
-                        "have more than --exact settings [default: 2]")
+                        help="tune a template of at most N settings whole, and race in a larger "
+                        "one [default: 1000]")
     parser.add_argument("--fresh", type=fight_count, default=100, metavar="F",
-                        help="fresh fights of a heat against each opponent [default: 100]")
-    parser.add_argument("--jobs", type=number_from(1), default=os.cpu_count(), metavar="N",
-                        help="jobs that run side by side [default: the processors]")
+                        help="fresh fights of a heat against each opponent, in a template that is "
+                        "tuned whole [default: 100]")
+    parser.add_argument("--box", type=number_from(1), default=2, metavar="N",
+                        help="values on both sides of a race's winner that are tuned; 1 if these "
+                        "are more than --exact settings [default: 2]")
+    parser.add_argument("--certify", action="store_true", help="tune the box around a race's "
+                        "winner with all fights, check the certificate, and draw its totals")
+    parser.add_argument("--by-kind", action="store_true",
+                        help="have each folder of opponents count as much as the others")
     parser.add_argument("--anew", action="store_true",
                         help="throw away what is done, and begin again")
+    add_budget(parser)
     add_program(parser)
     add_rules(parser)
     parser.add_argument("warrior", metavar="WARRIOR", help="a template, or with words "
                         "NAME=LOW:HIGH:STEP a Redcode text with EQU lines")
     parser.add_argument("opponents", metavar="OPPONENT", nargs="*", default=[],
-                        help="the opponents: files, or folders with files *.red")
+                        help="the opponents: files, or folders with files *.red; `=N` behind one "
+                        "has its fights count N times, 1 to 1000")
     parser.add_argument("ranges", metavar="NAME=LOW:HIGH:STEP", nargs="*", default=[],
                         help="a constant and its values, as for cwtune-vary")
     return parser

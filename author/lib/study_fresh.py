@@ -10,7 +10,6 @@ The points of a player are a text for each opponent, with a digit for each fight
 """
 import itertools, sys, time
 
-from . import holdout
 from .endings import end_as
 from .program import rules_of
 from .spread_jobs import LocalJobs
@@ -104,15 +103,15 @@ def play_heat(study, number, players, fights):
                         *(f"fresh/{player}.red" for player in new_players))
 
 
-def better_half(players, points):
+def better_half(players, points, weights):
     """Returns the better half of the players, two at least. Of equal ones the first go on."""
-    ranked = sorted(players, key=lambda player: -total_of(points[player]))
+    ranked = sorted(players, key=lambda player: -total_of(points[player], weights))
     better = ranked[:max(2, (len(players) + 1) // 2)]
     return [player for player in players if player in better]
 
 
-def total_of(points):
-    return sum(int(digit) for text in points for digit in text)
+def total_of(points, weights):
+    return sum(weight * sum(map(int, text)) for text, weight in zip(points, weights))
 
 
 def halve(study, settings):
@@ -125,7 +124,7 @@ def halve(study, settings):
             points[player] = [text + new_text for text, new_text in zip(before, new_points)]
         if len(players) <= 2:
             return number, points
-        players = better_half(players, points)
+        players = better_half(players, points, study.args.weights)
 
 
 def find_winner(study, settings):
@@ -135,12 +134,7 @@ def find_winner(study, settings):
     fights_of = {player: len(texts[0]) for player, texts in points.items()}
     most_fights = max(fights_of.values())
     finalists = [player for player in points if fights_of[player] == most_fights]
-    winner = max(finalists, key=lambda player: total_of(points[player]))
+    winner = max(finalists, key=lambda player: total_of(points[player],
+                                                                study.args.weights))
     fights = min(most_fights, MOST_FIGHTS // len(study.opponents))
     return winner, points, play_heat(study, heats + 1, [winner, START], fights)
-
-
-def fresh_points(points):
-    """Returns the points of a player as cwtune-holdout has them, each opponent counting alike."""
-    by_opponent = [[int(digit) for digit in text] for text in points]
-    return holdout.FreshPoints(by_opponent, [1] * len(by_opponent))

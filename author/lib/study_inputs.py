@@ -1,5 +1,5 @@
 """Reads what `cwtune-study` is given, and refuses what no study can be made of."""
-import argparse, hashlib, json, os, pathlib, re
+import argparse, hashlib, json, math, os, pathlib, re
 from typing import NamedTuple
 
 from . import vary
@@ -7,11 +7,11 @@ from .endings import Fault, fault_of
 from .grid import NAME, Grid, is_range_line
 from .program import EXPLAIN, rules_of, run_program
 from .series import refuse_distance, refuse_fights, refuse_seed
-from .tuning_files import MOST_OPPONENTS
+from .tuning_files import MOST_OPPONENTS, MOST_WEIGHT
 from .writing import temporary_folder
 
 # The options that a study depends on.
-OPTIONS = ["rounds", "seed", "exact", "box", "fresh"]
+OPTIONS = ["rounds", "seed", "exact", "box", "fresh", "fights", "minutes", "certify"]
 
 
 class Inputs(NamedTuple):
@@ -24,34 +24,66 @@ class Inputs(NamedTuple):
 
     def fingerprint(self, args):
         """Returns a fingerprint of all that the study depends on, as JSON gives it back."""
-        options = {name: getattr(args, name) for name in OPTIONS}
+        options = {f"--{name}": getattr(args, name) for name in OPTIONS}
         return json.loads(json.dumps({
             "program": sha256_of_text(pathlib.Path(args.program).read_bytes()),
             "template": [sha256_of_text(self.warrior), sha256_of_text(self.template)],
             "opponents": [[name, sha256_of_text(text)] for name, text in self.opponents],
-            "rules": rules_of(args)._asdict(), "options": options}))
+            "weights": args.weights, "rules": rules_of(args)._asdict(), **options}))
 
 
 def sha256_of_text(text):
     return hashlib.sha256(text).hexdigest()
 
 
+class OpponentWord(NamedTuple):
+    """A word that names opponents: their files, and how much the fights against each count."""
+
+    paths: list
+    weight: int
+
+
 def sort_words(parser, args):
     """Sorts the words of the command into the warrior, the opponents and the ranges."""
-    files, args.ranges = [], []
+    words, args.ranges = [], []
     for word in [args.warrior, *args.opponents]:
-        if re.match(rf"{NAME}=", word) and not os.path.exists(word):
+        is_range = re.match(rf"{NAME}=", word) and not os.path.exists(word.rpartition("=")[0])
+        if is_range and not os.path.exists(word):
             args.ranges.append(range_of(parser, word))
         else:
-            files.append(word)
-    if not files:
+            words.append(word)
+    if not words:
         parser.error("WARRIOR is missing: a template, or a warrior with words NAME=LOW:HIGH:STEP")
-    args.warrior, paths = files[0], [path for word in files[1:] for path in paths_of(word)]
-    if not paths:
+    args.warrior, opponents = words[0], [opponents_named(parser, word) for word in words[1:]]
+    args.opponents = [path for word in opponents for path in word.paths]
+    if not opponents:
         parser.error("OPPONENT is missing: files, or a folder with files *.red")
-    if len(paths) > MOST_OPPONENTS:
-        parser.error(f"{len(paths)} opponents; at most {MOST_OPPONENTS}")
-    args.opponents = paths
+    if len(args.opponents) > MOST_OPPONENTS:
+        parser.error(f"{len(args.opponents)} opponents; at most {MOST_OPPONENTS}")
+    args.weights = weights_of(parser, opponents, args.by_kind)
+
+
+def opponents_named(parser, word):
+    """Returns the opponents that a word names: a file, or of a folder all *.red by their names;
+    with `=N` behind it, their fights count N times."""
+    path, _, weight = word.rpartition("=")
+    if os.path.exists(word) or not os.path.exists(path):
+        path, weight = word, "1"
+    if not (weight.isdecimal() and 1 <= int(weight) <= MOST_WEIGHT):
+        parser.error(f"{word}: the weight of {path} is not 1 to {MOST_WEIGHT}")
+    return OpponentWord(paths_of(path), int(weight))
+
+
+def weights_of(parser, opponents, by_kind):
+    """Returns the weight of each opponent. With `by_kind` those of a word have the same sum as
+    those of another of its weight."""
+    whole = math.lcm(*(len(word.paths) for word in opponents)) if by_kind else 1
+    weights = [word.weight * whole // (len(word.paths) if by_kind else 1)
+               for word in opponents for _ in word.paths]
+    weights = [weight // math.gcd(*weights) for weight in weights] if by_kind else weights
+    if max(weights) > MOST_WEIGHT:
+        parser.error(f"--by-kind gives a fight the weight {max(weights)}, more than {MOST_WEIGHT}")
+    return weights
 
 
 def range_of(parser, word):

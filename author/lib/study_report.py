@@ -22,7 +22,9 @@ def html_of(report):
     """Returns the page of a report, a string that UTF-8 can hold."""
     return page(f"{report['title']}: a study by cwtune", [
         *opening(report), *exactness(report), *comparison(report), *opponents(report),
-        *landscape(report), *ranking(report), *making(report), *winner_text(report)])
+        *(landscape(report) if report["landscape"] else ()),
+        *(finalists(report) if report["race"] else ranking(report)),
+        *making(report), *winner_text(report)])
 
 
 def section(heading, *pieces):
@@ -36,6 +38,9 @@ def paragraph(piece, style=""):
 def opening(report):
     """Returns the title, and what was gained, in a sentence."""
     start, winner, gain = report["start"], report["winner"], report["gain"]
+    title = f"<h1>{escaped(report['title'])}</h1>"
+    if gain is None:
+        return [title, paragraph("Nothing better than START was found.", "lead")]
     more = "more" if gain["percent"] >= 0 else "less"
     sentence = (
         f"In {integer(winner['fresh']['fights'])} fresh fights the winner made "
@@ -43,34 +48,47 @@ def opening(report):
         f"{decimal(start['fresh']['percent'])}%: <strong class=\"winner\">"
         f"{with_error(abs(gain['percent']), gain['error'])}</strong> percentage points {more}, "
         f"{escaped(gain['words'])}.")
-    notes = ["Fresh fights follow series of positions that the tuning did not use.", ERROR_NOTE]
+    notes = ["These fights picked nothing: they were played once the winner was known.", ERROR_NOTE]
     if start["values"] == winner["values"]:
         notes.insert(0, "The winner is START itself.")
-    return [f"<h1>{escaped(report['title'])}</h1>", paragraph(sentence, "lead"),
-            paragraph(" ".join(notes), "soft")]
+    return [title, paragraph(sentence, "lead"), paragraph(" ".join(notes), "soft")]
 
 
 def exactness(report):
-    """Returns what is exact, what is not, and what is an estimate."""
-    settings, schedule = report["settings"], report["schedule"]
-    exact = (f"<strong>Exact:</strong> the ranking of the box. Of its {integer(settings['box'])} "
-             f"settings, each that assembles played all {integer(schedule['fights'])} fights of "
-             "the schedule, and the certificate was checked: "
-             f"<code>{escaped(report['check'])}</code>.")
-    if settings["sought"]:
-        box = ("<strong>Not exact:</strong> where the box is. A climb from START, in "
-               f"{integer(settings['seek_fights'])} fights, chose these {integer(settings['box'])} "
-               f"of the template's {integer(settings['template'])} settings. A better one may lie "
-               "outside the box.")
-    else:
-        box = ("<strong>Exact, too:</strong> the best setting. The box is the whole template of "
-               f"{integer(settings['template'])} settings, so none has a greater tuned total than "
-               "the first of the ranking.")
-    fresh = ("<strong>An estimate:</strong> the percent in fresh fights. The winner did best in "
-             "the fresh fights of the ranking below; then it and START played others, which alone "
-             "count here.")
-    items = "".join(f"<li>{item}</li>" for item in (exact, box, fresh))
-    return section("What is exact", f"<ul>{items}</ul>")
+    """Returns what is proved, and what is measured."""
+    items = raced_items(report) if report["race"] else tuned_items(report)
+    return section("What is proved, and what is measured",
+                   f"<ul>{''.join(f'<li>{item}</li>' for item in items)}</ul>")
+
+
+def tuned_items(report):
+    """Yields what is proved of a template that was tuned whole, and what is not."""
+    yield (f"<strong>Proved:</strong> the ranking of all {integer(report['settings'])} settings. "
+           f"Each that assembles played all {integer(report['schedule']['fights'])} fights of the "
+           "schedule, and the certificate was checked: "
+           f"<code>{escaped(report['check'])}</code>.")
+    yield ("<strong>Measured:</strong> the percent in fresh fights. The winner did best in the "
+           "fresh fights of the ranking below; then it and START played others, which alone count "
+           "here.")
+
+
+def raced_items(report):
+    """Yields what is proved after a race, and what is measured."""
+    race, box, gain = report["race"], report["box"], report["gain"]
+    yield (f"<strong>Measured:</strong> the winner. {integer(race['settings'])} of the template's "
+           f"{integer(report['settings'])} settings raced, in {integer(race['fights'])} fights. A "
+           "better one may be anywhere.")
+    if box:
+        checked = f": <code>{escaped(box['check'])}</code>" if box["check"] else ""
+        yield (f"<strong>Proved:</strong> the first {integer(box['first'])} of the "
+               f"{integer(box['settings'])} settings around the race's winner, in "
+               f"{integer(box['schedule']['fights'])} fights each{checked}. In other fights "
+               + ("one of them was better than the race’s winner, and took its place."
+                  if box["replaces"] else "none of them was better than the race’s winner."))
+    if gain and race["rise"] is not None and not (box and box["replaces"]):
+        yield (f"<strong>Luck:</strong> in the fights that picked it, the winner was "
+               f"{decimal(race['rise'])} percentage points over START; "
+               f"{decimal(race['rise'] - gain['percent'])} of these were luck.")
 
 
 def tuned_rows(sides, greatest):
@@ -87,35 +105,46 @@ def comparison(report):
     start, winner = sides = report["start"], report["winner"]
     rows = [[escaped(name), *(escaped(side["values"][name]) for side in sides)]
             for name in winner["values"]]
-    rows += [*tuned_rows(sides, report["schedule"]["greatest"]),
-             ["fresh fights", *(integer(side["fresh"]["fights"]) for side in sides)],
-             ["fresh points", *(integer(side["fresh"]["points"]) for side in sides)],
-             ["fresh percent", *(fresh_percent(side["fresh"]) for side in sides)]]
-    notes = [f"The winner is setting {escaped(winner['setting'])} of the box, of rank "
-             f"{escaped(winner['rank'])} in the tuning."]
-    if start["tuned"] is None:
-        notes.append("START is not in the box, and has no tuned total.")
+    notes = []
+    if not report["race"]:
+        rows += tuned_rows(sides, report["schedule"]["greatest"])
+        notes = [paragraph(f"The winner is setting {escaped(winner['setting'])}, of rank "
+                           f"{escaped(winner['rank'])} in the tuning.", "soft")]
+    if report["gain"]:
+        rows += [["fresh fights", *(integer(side["fresh"]["fights"]) for side in sides)],
+                 ["fresh points", *(integer(side["fresh"]["points"]) for side in sides)],
+                 ["fresh percent", *(fresh_percent(side["fresh"]) for side in sides)]]
     return section("START and the winner",
-                   table("Values, tuning and fresh fights", ["", START, WINNER], rows),
-                   paragraph(" ".join(notes), "soft"))
+                   table("Values and fights", ["", START, WINNER], rows), *notes)
 
 
-def opponent_row(sides):
-    """Returns the fresh fights of START and of the winner against one opponent, as cells."""
-    percents = (with_error(side["percent"], study_charts.error_of(side)) for side in sides)
-    return [escaped(sides[1]["name"]), *percents,
+def opponent_row(gain, sides):
+    """Returns the gain against one opponent, and the fresh fights of START and of the winner, as
+    cells."""
+    lost = " (lost)" if gain["words"] == "a loss" else ""
+    signed = ("+" if gain["percent"] >= 0 else "") + with_error(gain["percent"], gain["error"])
+    percents = (f"{decimal(side['percent'])}%" for side in sides)
+    return [escaped(gain["name"]), signed + lost, *percents,
             *(integer(side[name]) for side in sides for name in OUTCOMES)]
 
 
 def opponents(report):
-    """Returns the fresh fights against each opponent."""
+    """Returns the fresh fights against each opponent, the greatest gain first."""
+    if not report["gain"]:
+        return []
     start, winner = (report[side]["fresh"]["opponents"] for side in ("start", "winner"))
-    heads = ["opponent", START, WINNER, *OUTCOMES, *OUTCOMES]
-    rows = [opponent_row(sides) for sides in zip(start, winner)]
+    lines = sorted(zip(report["gain"]["opponents"], zip(start, winner)),
+                   key=lambda line: -line[0]["percent"])
+    heads = ["opponent", "gain", START, WINNER, *OUTCOMES, *OUTCOMES]
+    rows = [opponent_row(gain, sides) for gain, sides in lines]
+    bars = study_charts.draw_bars(*zip(*(sides for _, sides in lines)))
     return section(
-        "Opponent by opponent", f"<figure>{study_charts.draw_bars(start, winner)}</figure>",
+        "Opponent by opponent", f"<figure>{bars}</figure>",
         table("Fresh fights against each opponent", heads, rows,
-              groups=[("", 1), ("percent", 2), (START, 3), (WINNER, 3)]))
+              marked=[index for index, (gain, _) in enumerate(lines) if gain["words"] == "a loss"],
+              groups=[("", 1), ("percent", 3), (START, 3), (WINNER, 3)]),
+        paragraph("Marked: the winner lost against this opponent, by more than two standard "
+                  "errors.", "soft"))
 
 
 def landscape(report):
@@ -131,7 +160,8 @@ def landscape(report):
         notes.append(f"Each {shown} is the greatest total among {step} values of each constant.")
     if study_map.is_outside(start_values, winner_values, box):
         notes.append(f"START is not in this picture: {values_text(start_values)}.")
-    return section("Landscape", paragraph("Tuned totals of the box."),
+    tuned = "all settings" if not report["race"] else "the settings around the race’s winner"
+    return section("Landscape", paragraph(f"Totals of {tuned}, in the fights of the schedule."),
                    f"<figure>{picture}</figure>",
                    *([paragraph(" ".join(notes), "soft")] if notes else []),
                    totals_table(box, is_small), *effects(report))
@@ -200,6 +230,23 @@ def ranking(report):
                          groups=[("", 3 + len(names)), ("in fresh fights", 3)]))
 
 
+def finalists(report):
+    """Returns the final of the race."""
+    names, found = list(report["winner"]["values"]), report["race"]["finalists"]
+    marked = [index for index, one in enumerate(found)
+              if one["values"] == report["winner"]["values"]]
+    rows = [[str(place) + (f" {WINNER}" if place - 1 in marked else "")
+             + (f" {START}" if one["values"] == report["start"]["values"] else ""),
+             *(escaped(one["values"][name]) for name in names),
+             f"{decimal(one['percent'])}%", integer(one["fights"])]
+            for place, one in enumerate(found, 1)]
+    return section("The final of the race", paragraph(
+        "Fresh fights picked the winner among these. The better ones played more, so the percents "
+        "of the first are too high by some luck, and are no gain.", "soft"),
+        table("The final of the race", ["place", *map(escaped, names), "percent", "fights"], rows,
+              marked=marked))
+
+
 def some_of(values):
     """Returns values as words, only the ends of many."""
     shown = list(map(escaped, values))
@@ -221,22 +268,20 @@ def constants_table(report):
 
 def facts(report):
     """Returns what the study was made of, in words."""
-    settings, schedule = report["settings"], report["schedule"]
-    fights = [f"{integer(settings['box_fights'])} for the ranking of the box"]
-    if settings["sought"]:
-        fights.insert(0, f"{integer(settings['seek_fights'])} to seek the box")
-    rules = values_text(report["rules"])
+    race, box = report["race"], report["box"]
+    if race:
+        fights = [f"{integer(race['fights'])} in the race"]
+        fights += [f"{integer(box['fights'])} for the settings around its winner"] if box else []
+    else:
+        fights = [f"{integer(report['fights'])} for the ranking"]
+    opponents = ", ".join(escaped(opponent["name"]) + (
+        f" (counts {integer(opponent['weight'])} times)" if opponent["weight"] != 1 else "")
+                          for opponent in report["opponents"])
     return name_list([
         ("Made", f"{escaped(report['made'])} by {escaped(report['program'])}"),
-        ("Rules", rules),
-        ("Schedule", f"{integer(schedule['fights'])} fights: {integer(schedule['rounds'])} against "
-                     f"each of {len(report['opponents'])} opponents, "
-                     f"seed {escaped(schedule['seed'])}; "
-                     f"the greatest total is {integer(schedule['greatest'])}"),
-        ("Settings", f"{integer(settings['template'])} of the template, "
-                     f"{integer(settings['box'])} of the box"),
-        ("Fights", ", ".join(fights)),
-        ("Check", f"<code>{escaped(report['check'])}</code>")])
+        ("Rules", values_text(report["rules"])), ("Opponents", opponents),
+        ("Settings", integer(report["settings"])), ("Seed", escaped(report["seed"])),
+        ("Fights", ", ".join(fights))])
 
 
 def digests(caption, files):

@@ -1,11 +1,11 @@
 """Collects what `cwtune-study` found: the numbers of `report.json`."""
 import datetime, math, re
 
-from . import holdout, landscape
-from .cert_inputs import digest_of
+from . import landscape
 from .grid import Grid
+from .holdout import FreshPoints, gain_of, gain_words
 from .program import rules_of, run_program
-from .study_fresh import START, fresh_points
+from .study_fresh import START
 from .tuning_files import Certificate, Template, read_schedule
 
 FILES = ["template.red", "schedule.csv", "box.red", "best.cert", "winner.red"]
@@ -49,22 +49,31 @@ class Box:
         return effects
 
 
-def fresh_fights(points, names):
-    """Returns the fresh fights of a player as the report has them."""
-    fresh = fresh_points(points)
+def fresh_fights(points, study):
+    """Returns the fresh fights of a player as the report has them, None if there are none."""
+    if not points:
+        return None
+    fresh = FreshPoints.of_texts(points, study.args.weights)
     opponents = [{"name": name, "wins": text.count("3"), "ties": text.count("1"),
                   "losses": text.count("0"),
                   "percent": 100 * sum(map(int, text)) / (3 * len(text))}
-                 for name, text in zip(names, points)]
+                 for name, text in zip(study.names, points)]
     return {"fights": sum(map(len, points)), "points": sum(map(sum, fresh.by_opponent)),
             "percent": fresh.mean(), "error": fresh.error(), "opponents": opponents}
 
 
-def gain_of(winner_points, start_points):
-    """Returns the gain of the winner over START as the report has it."""
-    difference = fresh_points(winner_points).minus(fresh_points(start_points))
+def gain(points, study):
+    """Returns the gain over START as the report has it, whole and by opponent. `points` are those
+    of the winner and of START; without them there is no gain."""
+    difference = points and gain_of(points, study.args.weights)
+    if not difference:
+        return None
+    opponents = [{"name": name, "percent": alone.mean(), "error": alone.error(),
+                  "words": gain_words(alone)}
+                 for name, differences in zip(study.names, difference.by_opponent)
+                 for alone in [FreshPoints([differences], [1])]]
     return {"percent": difference.mean(), "error": difference.error(),
-            "words": holdout.gain_words(difference)}
+            "words": gain_words(difference), "opponents": opponents}
 
 
 def title_of(text, name):
@@ -73,65 +82,88 @@ def title_of(text, name):
     return match[1].decode(errors="replace") if match else name
 
 
-def constants_of(grid, box, winner_values):
-    """Returns the constants: the ranges of the template, and the values of the box."""
+def constants_of(grid, winner_values, box):
+    """Returns the constants: the ranges of the template, and the values of the box, if any."""
+    ranges = box.template.ranges if box else [[]] * len(grid.names)
     return [{"name": name, "low": values[0], "high": values[-1], "step": values.step,
              "start": start, "best": winner_values[name], "box": list(box_values)}
             for name, values, start, box_values in zip(grid.names, grid.ranges, grid.start_values,
-                                                       box.template.ranges)]
+                                                       ranges)]
 
 
-def ranking_of(box, points, names):
-    """Returns the first of the ranking, each with its fresh fights."""
-    return [{"rank": rank, "setting": setting, "values": box.values(setting), "tuned": total,
-             "fresh": fresh_fights(points[str(setting)], names)}
-            for rank, (total, setting) in enumerate(box.ranking.full[:len(points)], 1)]
-
-
-def digests_of(folder, names):
-    """Returns the digests of files of the study as the report has them."""
-    return [{"name": name, "digest": digest_of(folder / name)} for name in names]
-
-
-def start_total(grid, box, box_result):
-    """Returns the total of START in the tuning: that of the climb, or of the box."""
-    if grid.start_values in box.template.values_of_settings:
-        start = box.template.values_of_settings.index(grid.start_values)
-        return box.cert.total_of(start, box.fights)
-    return box_result["start"]
-
-
-def report_numbers(study, box_result, tuning_result, winner, points, last_points):
-    """Returns the report.
-
-    `box_result` and `tuning_result` are the results of their stages. The points are those of the
-    fresh fights: `points` of the heats that picked the winner, by setting, and `last_points` of the
-    last heat, by player.
-    """
-    folder, args, names = study.folder.path, study.args, study.names
-    grid, box = Grid(folder / "template.red"), Box(folder)
-    ranking = ranking_of(box, points, names)
-    ranked_winner = next(ranked for ranked in ranking if ranked["setting"] == int(winner))
+def common_numbers(study, grid, box, winner_values, points):
+    """Returns what each report has. `points` are those of the winner and of START in the fights
+    that picked nothing, or None."""
+    folder, args = study.folder, study.args
     version = run_program(args.program, "--version").stdout.decode(errors="replace").strip()
+    winner_points, start_points = points or (None, None)
+    digests = {name: folder.digest(name) for name in FILES}
     return {
         "title": title_of(study.inputs.template, study.title),
         "made": datetime.date.today().isoformat(), "program": version,
-        "rules": rules_of(args)._asdict(),
-        "constants": constants_of(grid, box, ranked_winner["values"]),
-        "settings": {"template": grid.count(), "box": len(box.template.values_of_settings),
-                     "sought": box_result["sought"], "seek_fights": box_result["fights"],
-                     "box_fights": tuning_result["fights"]},
-        "opponents": [{"name": name, "digest": digest_of(folder / "opponents" / name)}
-                      for name in names],
-        "schedule": {"fights": len(box.fights), "rounds": args.rounds, "seed": args.seed,
-                     "greatest": box.fights.greatest},
+        "rules": rules_of(args)._asdict(), "seed": args.seed,
+        "constants": constants_of(grid, winner_values, box), "settings": grid.count(),
+        "opponents": [{"name": name, "digest": folder.digest(f"opponents/{name}"),
+                       "weight": weight} for name, weight in zip(study.names, args.weights)],
         "start": {"values": dict(zip(grid.names, grid.start_values)),
-                  "tuned": start_total(grid, box, box_result),
-                  "fresh": fresh_fights(last_points[START], names)},
-        "winner": {**ranked_winner, "fresh": fresh_fights(last_points[winner], names)},
-        "ranking": ranking, "gain": gain_of(last_points[winner], last_points[START]),
-        "landscape": box.landscape(int(winner)), "effects": box.effects(),
-        "check": tuning_result["check"],
-        "commands": [entry["command"] for entry in study.folder.commands()],
-        "files": digests_of(folder, FILES),
-        "winner_text": (folder / "winner.red").read_bytes().decode(errors="replace")}
+                  "fresh": fresh_fights(start_points, study)},
+        "winner": {"values": winner_values, "fresh": fresh_fights(winner_points, study)},
+        "gain": gain(points, study),
+        "commands": [entry["command"] for entry in folder.commands()],
+        "files": [{"name": name, "digest": digest} for name, digest in digests.items() if digest],
+        "winner_text": (folder.path / "winner.red").read_bytes().decode(errors="replace")}
+
+
+def ranking_of(box, points, study):
+    """Returns the first of the ranking, each with its fresh fights."""
+    return [{"rank": rank, "setting": setting, "values": box.values(setting), "tuned": total,
+             "fresh": fresh_fights(points[str(setting)], study)}
+            for rank, (total, setting) in enumerate(box.ranking.full[:len(points)], 1)]
+
+
+def schedule_numbers(box):
+    """Returns the numbers of the schedule of a box."""
+    return {"fights": len(box.fights), "greatest": box.fights.greatest}
+
+
+def tuned_numbers(study, results):
+    """Returns the report of a template that was tuned whole."""
+    folder, winner = study.folder.path, int(results["winner"])
+    grid, box, last_points = Grid(folder / "template.red"), Box(folder), results["last_points"]
+    report = common_numbers(study, grid, box, box.values(winner),
+                            (last_points[results["winner"]], last_points[START]))
+    ranking = ranking_of(box, results["points"], study)
+    ranked_winner = next(ranked for ranked in ranking if ranked["setting"] == winner)
+    start = box.template.values_of_settings.index(grid.start_values)
+    report["winner"] = ranked_winner | report["winner"]
+    report["start"]["tuned"] = box.cert.total_of(start, box.fights)
+    return report | {
+        "race": None, "box": None, "ranking": ranking, "schedule": schedule_numbers(box),
+        "landscape": box.landscape(winner), "effects": box.effects(), **results["tuning"]}
+
+
+def raced_numbers(study, results):
+    """Returns the report of a template in which settings raced."""
+    folder, race = study.folder.path, results["race"]
+    grid = Grid(folder / "template.red")
+    box, found, challenge = results["box"], None, results["challenge"]
+    if box:
+        found = Box(folder)
+        box = {**box, "first": found.ranking.exact, "replaces": bool(challenge["points"]),
+               "schedule": schedule_numbers(found)}
+    winner_values = dict(zip(grid.names, results["winner"]))
+    report = common_numbers(study, grid, found, winner_values, results["points"])
+    finalists = [{**one, "values": dict(zip(grid.names, one["values"]))}
+                 for one in race["finalists"]]
+    rise = race["rise"] and 100 * race["rise"]
+    report |= {"race": {"settings": race["settings"], "fights": race["fights"], "rise": rise,
+                        "finalists": finalists}, "box": box, "landscape": None, "effects": []}
+    if box and box["check"]:
+        middle = found.template.values_of_settings.index(tuple(race["winner"]))
+        report |= {"landscape": found.landscape(middle), "effects": found.effects()}
+    return report
+
+
+def report_numbers(study, results):
+    """Returns the report, of what the stages of the study found."""
+    return (raced_numbers if "race" in results else tuned_numbers)(study, results)

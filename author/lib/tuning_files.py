@@ -339,9 +339,11 @@ def read_schedule(path):
 
 
 def schedule_text(fights):
-    """Returns the text of a plain schedule."""
-    records = (f"{fight.opponent},{fight.position},{fight.first}\n" for fight in fights)
-    return ",".join(HEADER) + "\n" + "".join(records)
+    """Returns the text of a schedule, with weights if one is not 1."""
+    fights = list(fights)
+    columns = len(HEADER) + any(fight.weight != 1 for fight in fights)
+    records = ([*HEADER, "weight"], *fights)
+    return "".join(",".join(map(str, record[:columns])) + "\n" for record in records)
 
 
 def read_fight(record):
