@@ -121,7 +121,7 @@ class Study:
             self.tell_estimate(grid)
         stage("schedule", lambda: self.write_series(args.seed, args.rounds, "schedule.csv"),
               "schedule.csv")
-        stage("box", lambda: self.folder.run(["cat", "template.red"], "box.red") and None, "box.red")
+        stage("template", lambda: self.folder.run(["cat", "template.red"], "box.red") and None, "box.red")
         tuning = stage("best", self.tune_all, "best.cert", "best.txt")
         winner, points, last_points = study_fresh.find_winner(self, self.first_settings())
         stage("winner", lambda: self.write_winner(winner, "box.red"), "winner.red")

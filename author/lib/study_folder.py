@@ -21,8 +21,8 @@ AUTHOR = pathlib.Path(__file__).resolve().parents[1]
 # The names that a study gives in its folder, in its rooms, and those that cwtune-spread gives in
 # the rooms that it makes beside best.cert. `opponents` has the names of the opponents.
 NAMES = {
-    "": r"(template|warrior|start|box|winner)\.red|schedule\.csv|best\.(cert(\.inputs)?|txt)|"
-        r"report\.(json|html)|log\.txt",
+    "": r"(template|warrior|start|box|found|winner)\.red|schedule\.csv|best\.(cert(\.inputs)?|txt)|"
+        r"(race|challenge)\.jsonl|report\.(json|html)|log\.txt",
     "fresh": r"(\d+|start)(-\d+)?\.(red|cert|cert\.inputs|csv|report|fault)(\.unfinished-\d+)?",
     **{f"best.cert.{name}": rf"spread\.json|{kind.OWN_FILES}|{kind.UNFINISHED_FILES}"
        for name, kind in [("parts", spread_parts.Parts), ("shares", spread_shares.Shares)]},
@@ -30,13 +30,22 @@ NAMES = {
 # What a kill leaves of these.
 UNFINISHED = r".*(\.\d+\.new|\.unfinished-\d+|\.report|\.fault)"
 Count = Annotated[int, range(1 << 53)]
+Points = Annotated[str, re.compile("[013]+")]
 # The schemas of the results of stages, by the names of these. That of a stage that has no entry
 # here is not looked at.
 RESULTS = {
-    "inputs|schedule|winner|report": type(None),
-    "box": TypedDict("Box", {"sought": bool, "fights": Count, "start": Count | None}),
+    "inputs|schedule|template|winner|report": type(None),
     "best": TypedDict("Best", {"fights": Count, "check": str}),
-    r"fresh \d+": dict[str, list[Annotated[str, re.compile("[013]+")]]],
+    r"fresh \d+": dict[str, list[Points]],
+    "race": TypedDict("Race", {
+        "winner": list[int], "rise": float | None, "points": list[list[Points]] | None,
+        "finalists": list[TypedDict("Finalist", {"values": list[int], "percent": float,
+                                                 "fights": Count})],
+        "settings": Count, "blocks": Count, "fights": Count, "seconds": float}),
+    "box": TypedDict("Box", {"settings": Count, "blocks": Count, "fights": Count,
+                             "seconds": float, "check": str | None}),
+    "challenge": TypedDict("Challenge", {"best": list[int], "compared": list[list[Points]],
+                                         "points": list[list[Points]] | None}),
 }
 
 
@@ -160,6 +169,11 @@ class StudyFolder(OwnFolder):
                                                   else "")
         self.stage_commands.append({"command": command, "seconds": round(seconds, 2),
                                     "said": list(messages)})
+
+    def log_note(self, text, seconds):
+        """Adds to the log what no command does."""
+        self.stage_commands.append({"command": f"# {text}", "seconds": round(seconds, 2),
+                                    "said": []})
 
     def run(self, words, output_name, logs_messages=True):
         """Runs a command in the folder, with its output in a file there. Its fault is this

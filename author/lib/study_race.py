@@ -6,65 +6,22 @@ fights that picked nothing show that it is better. `race.jsonl` and `challenge.j
 played, so that a race that was stopped goes on.
 """
 import contextlib, math, sys, time
-from typing import TypedDict
 
 from .holdout import gain_of, is_gain
 from .race import Race
 from .race_fights import Arena, budget_of
-from .race_journal import Block, Journal
+from .race_journal import Journal
 from .study_fresh import FIRST_HEAT_PLAYERS
 from .tuning_files import Certificate, Template, read_schedule, schedule_text
 from .writing import temporary_folder
 
 # Which part of the budget is used when the race ends, if a box is to follow; the most that the box
 # takes; and the parts used when its first have played, and when the best was compared.
-RACED, BOX_PART, CHALLENGED, COMPARED = 0.70, 0.12, 0.86, 0.94
+RACED, BOX_PART, CHALLENGED, COMPARED = 0.78, 0.10, 0.90, 0.95
 # The fewest fights against each opponent in which a box is tuned.
 LEAST_ROUNDS = 5
 # How many play in the heats against the race's winner.
 CHALLENGERS = FIRST_HEAT_PLAYERS, 4, 2
-
-
-class Finalist(TypedDict):
-    """A setting of the final: its rate there, in percent, and its fights."""
-
-    values: list[int]
-    percent: float
-    fights: int
-
-
-class RaceResult(TypedDict):
-    """What came of the race. `rise` and `points` are as in an `Outcome`; the budget that it used is
-    `blocks`, `fights` and `seconds`."""
-
-    winner: list[int]
-    rise: float | None
-    points: list[list[Block]] | None
-    finalists: list[Finalist]
-    settings: int
-    blocks: int
-    fights: int
-    seconds: float
-
-
-class BoxResult(TypedDict):
-    """How the box was tuned: its settings; the fights of each against each opponent, `blocks`; the
-    fights that were played, and the seconds; and what the check said, if there was one."""
-
-    settings: int
-    blocks: int
-    fights: int
-    seconds: float
-    check: str | None
-
-
-class ChallengeResult(TypedDict):
-    """The best of the box's first; its points and those of the race's winner in fights that did not
-    pick it; and if it takes the winner's place, its points and START's in others."""
-
-    best: list[int]
-    compared: list[list[Block]]
-    points: list[list[Block]] | None
 
 
 class RaceOfStudy:
@@ -101,18 +58,16 @@ class RaceOfStudy:
                 arena.block_count += result["blocks"]
             yield arena
 
-    def note(self, words, seconds):
-        """Adds to the log what no command does."""
-        self.folder.log_command([f"# {words}"], "", seconds)
-
     def race(self):
-        """Races, and returns what came of it."""
+        """Races. Returns the winner, its `rise` and `points` as in an `Outcome`, the final, and
+        what the race used of the budget."""
         has_box = self.rounds(self.grid.start_values, budget_of(self.args).fights)
         with self.arena("race.jsonl") as arena:
             race = Race(self.grid, arena, self.args.seed, RACED if has_box else 1)
             outcome = race.run()
             settings, opponents = len(race.contenders), len(arena.opponents)
-            self.note(f"a race of {settings} settings, {arena.fights} fights", arena.seconds)
+            self.folder.log_note(f"a race of {settings} settings, {arena.fights} fights",
+                                 arena.seconds)
             return {"winner": outcome.winner, "rise": outcome.rise, "points": outcome.points,
                     "finalists": [{"values": one.values, "percent": 100 * one.rate(),
                                    "fights": one.blocks * opponents}
@@ -135,7 +90,8 @@ class RaceOfStudy:
         return min(self.args.rounds, int(plays)) if plays >= LEAST_ROUNDS else 0
 
     def tune_box(self, race):
-        """Tunes the box around the race's winner, in fights that the race did not play."""
+        """Tunes the box around the race's winner, in fights that the race did not play. Returns
+        its settings, and what that used of the budget; `check` is what the check said, if any."""
         folder, began_at, winner = self.folder, time.monotonic(), race["winner"]
         ranges, rounds = self.box(winner), self.rounds(winner, race["fights"])
         print(f"the {settings_of(ranges)} settings around the winner are tuned", file=sys.stderr,
@@ -145,7 +101,7 @@ class RaceOfStudy:
             fights = sorted(fight for block in arena.new_blocks(rounds) for fight in block)
         weighted = (fight._replace(weight=self.args.weights[fight.opponent]) for fight in fights)
         folder.write("schedule.csv", schedule_text(weighted).encode())
-        self.note("box.red and schedule.csv: the settings around the winner, and new fights", 0)
+        folder.log_note("box.red and schedule.csv: the settings around the winner, and fights", 0)
         words = ["--all", "--check"] if self.args.certify else [f"--keep={CHALLENGERS[0]}"]
         folder.run(self.study.spread_words(*words), "best.txt", logs_messages=False)
         lines = (folder.path / "best.txt").read_text().splitlines()
@@ -162,7 +118,9 @@ class RaceOfStudy:
         return [values[setting] for _, setting in ranking.full[:CHALLENGERS[0]]]
 
     def challenge(self, race, box):
-        """Has the first of the box play against the race's winner."""
+        """Has the first of the box play against the race's winner. Returns the best of them; its
+        points and the winner's in fights that did not pick it; and if it is better by these, its
+        points and START's in others."""
         winner = tuple(race["winner"])
         others = [values for values in self.first_of_box() if values != winner]
         with self.arena("challenge.jsonl", race, box) as arena:
@@ -174,8 +132,7 @@ class RaceOfStudy:
             gain = gain_of(compared, self.args.weights)
             points = (match.measure("gain", best, self.grid.start_values, 1)
                       if gain and is_gain(gain) else None)
-            self.note(f"the first of the box against the winner, {arena.fights} fights",
-                      arena.seconds)
+            self.folder.log_note("the first of the box against the race's winner", arena.seconds)
         return {"best": best, "compared": compared, "points": points}
 
     def write_winner(self, winner):
