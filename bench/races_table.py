@@ -33,7 +33,8 @@ class Race(NamedTuple):
     seed: int
 
     def __str__(self):
-        return f"{self.template} {self.search} {self.seconds} s seed {self.seed}"
+        run = f" {self.seconds} s seed {self.seed}" if self.search != START else ""
+        return f"{self.template} {self.search}{run}"
 
 
 class Run(NamedTuple):
@@ -182,8 +183,8 @@ def honesty_line(results, runs):
     if not errors:
         return "- printed gain less pMARS's: no run printed one"
     greatest = max(errors, key=abs)
-    return (f"- printed gain less pMARS's, in errors: mean {statistics.mean(errors):+.2f}, greatest "
-            f"{greatest:+.1f}, {len(errors)} runs")
+    return (f"- printed gain less pMARS's, in errors: mean {statistics.mean(errors):+.2f}, "
+            f"greatest {greatest:+.1f}, {len(errors)} runs")
 
 
 def budget_line(runs):
