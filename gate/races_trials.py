@@ -50,13 +50,20 @@ TABLE = """\
 """
 
 
-def table_trials(folder):
-    path = folder / "by-hand.jsonl"
+def table(path, runs):
+    """Returns the table of the results in a file, which is made of some of RUNS."""
     path.write_text("".join(
         json.dumps({"race": [template, search, 60 if seed else 0, seed], "used": used, "said": said,
                     "values": [], "counts": [[won, 500 - won, 0]]}) + "\n"
-        for template, search, seed, used, said, won in RUNS))
-    yield compare("the table", TABLE, "\n".join(table_of(Results(path))) + "\n")
+        for template, search, seed, used, said, won in runs))
+    return "\n".join(table_of(Results(path))) + "\n"
+
+
+def table_trials(folder):
+    path = folder / "by-hand.jsonl"
+    yield compare("the table", TABLE, table(path, RUNS))
+    first_seeds = [run for run in RUNS if run[2] < 2]
+    yield compare("one pair has no error", False, "exceeds" in table(path, first_seeds))
     for line in ("no", "[]", '{"race": ["stone", "naive", 60, 1]}', path.read_text()[:40]):
         path.write_text(path.read_text().partition("\n")[0] + f"\n{line}\n")
         yield compare(line, (1, "", f"refused: {path}: line 2 is not a result\n"),
