@@ -244,10 +244,10 @@ def settle(parser, asked):
     if asked.climb and not (asked.climb / "cwtune-seek").is_file():
         raise Fault(f"{asked.climb}: no cwtune-seek in it", 2)
     asked.climb = asked.climb and asked.climb.resolve()
+    asked.pmars = asked.pmars and program_of(asked.pmars, "make pmars")
     asked.program = program_of(asked.program)
     if not asked.pmars:
         asked.pmars = processor_time(["sh", HERE.parent / "pmars/pmars.sh"])[1].strip()
-    asked.pmars = program_of(asked.pmars, "make pmars")
 
 
 def main():
