@@ -73,7 +73,8 @@ class Naive:
         return processor_seconds() >= self.seconds * part
 
     def play(self, values, rounds, least=0.0):
-        """Plays a setting. Its share is below 0 if it does not assemble, or is less than `least`."""
+        """Plays a setting. Its share is below 0 if it does not assemble, or if it is less than
+        `least`."""
         greatest = 3 * rounds * len(self.opponents)
         floor = max(0, math.ceil(least * greatest - 1e-6))
         self.played += 1

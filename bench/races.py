@@ -4,7 +4,7 @@ The search is `cwtune-seek`; it races `bench.naive`, and with --climb the climb 
 checkout, on the templates and opponents of `bench/races`. A run that is judged is a line of the
 results, and is not repeated. The exit status is 3 if a search fails.
 """
-import argparse, concurrent.futures, math, os, pathlib, re, subprocess, sys, tempfile, time
+import concurrent.futures, math, os, pathlib, re, subprocess, sys, tempfile, time
 from typing import NamedTuple
 
 from author.lib.endings import Fault, run_tool
@@ -179,7 +179,7 @@ def play_once(asked, race):
     with naming(asked.results), open(asked.results, "a", encoding="utf-8") as file:
         file.write(new.line())
     if race.search == START:
-        return f"{race.template} START: {new.judged().value:.2f}%"
+        return f"{race}: {new.judged().value:.2f}%"
     return f"{race}: {results.gain(new)}, {new.used:.1f} s"
 
 
@@ -244,10 +244,10 @@ def settle(parser, asked):
     if asked.climb and not (asked.climb / "cwtune-seek").is_file():
         raise Fault(f"{asked.climb}: no cwtune-seek in it", 2)
     asked.climb = asked.climb and asked.climb.resolve()
+    asked.pmars = asked.pmars and program_of(asked.pmars, "make pmars")
     asked.program = program_of(asked.program)
     if not asked.pmars:
         asked.pmars = processor_time(["sh", HERE.parent / "pmars/pmars.sh"])[1].strip()
-    asked.pmars = program_of(asked.pmars, "make pmars")
 
 
 def main():

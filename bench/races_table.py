@@ -33,7 +33,8 @@ class Race(NamedTuple):
     seed: int
 
     def __str__(self):
-        return f"{self.template} {self.search} {self.seconds} s seed {self.seed}"
+        run = f" {self.seconds} s seed {self.seed}" if self.search != START else ""
+        return f"{self.template} {self.search}{run}"
 
 
 class Run(NamedTuple):
@@ -135,8 +136,8 @@ def lines_of(path):
 
 
 def mean_of(numbers):
-    """Returns the mean with its standard error, None if there are no numbers."""
-    return Measured(statistics.mean(numbers), error_of_mean(numbers)) if numbers else None
+    """Returns the mean with its standard error, which takes two numbers: else None."""
+    return Measured(statistics.mean(numbers), error_of_mean(numbers)) if numbers[1:] else None
 
 
 def cell(gains):
@@ -154,15 +155,16 @@ def mean_lines(results, templates, budgets):
 
 
 def pair_lines(results, templates, budgets):
-    """Yields how the search does beside the others, in pairs of one template and seed."""
+    """Yields how the search does beside the others, in pairs of one template and seed; nothing
+    until a template has two pairs."""
     for seconds, other in [(seconds, other) for seconds in budgets for other in SEARCHES[1:]]:
-        all_pairs = results.differences(other, seconds)
-        if all_pairs:
-            by_template = {template: mean_of(pairs) for template in templates
-                           if (pairs := results.differences(other, seconds, template))}
+        pairs = results.differences(other, seconds)
+        by_template = {template: mean for template in templates
+                       if (mean := mean_of(results.differences(other, seconds, template)))}
+        if by_template:
             least = min(by_template, key=lambda template: by_template[template].errors())
-            yield (f"- {seconds} s: the search exceeds {other} by {mean_of(all_pairs)} in "
-                   f"{len(all_pairs)} pairs; least, in errors, in {least}: {by_template[least]}")
+            yield (f"- {seconds} s: the search exceeds {other} by {mean_of(pairs)} in "
+                   f"{len(pairs)} pairs; least, in errors, in {least}: {by_template[least]}")
 
 
 def start_line(results, runs):
@@ -182,8 +184,8 @@ def honesty_line(results, runs):
     if not errors:
         return "- printed gain less pMARS's: no run printed one"
     greatest = max(errors, key=abs)
-    return (f"- printed gain less pMARS's, in errors: mean {statistics.mean(errors):+.2f}, greatest "
-            f"{greatest:+.1f}, {len(errors)} runs")
+    return (f"- printed gain less pMARS's, in errors: mean {statistics.mean(errors):+.2f}, "
+            f"greatest {greatest:+.1f}, {len(errors)} runs")
 
 
 def budget_line(runs):

@@ -16,6 +16,7 @@ shares           damaged certificates, checked at once and in shares
 cert_inputs_trials
                  the file CERT.inputs
 ranking_trials   searches for the first of the ranking and with a floor
+races_trials     the races of bench, with stand-ins, and their table
 scripts          the scripts of examples/
 runners          the modules of all rooms: their help, and programs that do not exist or fail
 loop_place       where the hot loop lies in the program

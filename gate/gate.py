@@ -13,8 +13,8 @@ ROOT = pathlib.Path(__file__).resolve().parent.parent
 EDITS = "gate.edits"
 STEPS = [EDITS, "gate.loop_place", "author.tests.run --plain", "gate.documents",
          "gate.play_cases", "gate.pipes", "gate.terminals", "gate.cert_inputs_trials",
-         "gate.cuts", "gate.shares", "gate.ranking_trials", "gate.scripts", "gate.runners",
-         "release.try_release", "gate.refuse.two_devices", "gate.refuse.memory",
+         "gate.cuts", "gate.shares", "gate.ranking_trials", "gate.races_trials", "gate.scripts",
+         "gate.runners", "release.try_release", "gate.refuse.two_devices", "gate.refuse.memory",
          "gate.refuse.writes", "gate.refuse.growth"]
 # Ends a step and its children after an hour, with a traceback of where it was. The edits are not
 # ended: a round of those of cwtune is one long check on one processor.

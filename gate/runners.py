@@ -25,10 +25,12 @@ REFUSED = {
     "make build": ["author.tests.run", "gate.play_cases", "gate.cuts", "gate.pipes",
                    "gate.terminals", "gate.documents", "gate.loop_place", "gate.ranking_trials",
                    "gate.scripts", "gate.shares", "gate.cert_inputs_trials",
-                   "gate.refuse.memory", "gate.refuse.writes", "gate.refuse.two_devices",
-                   "release.try_release", "bench.measure --program",
-                   "bench.searches none --program"],
-    "make pmars": ["pmars.compare", "bench.measure --pmars", "bench.random_pairs --pmars"],
+                   "gate.races_trials", "gate.refuse.memory", "gate.refuse.writes",
+                   "gate.refuse.two_devices", "release.try_release", "bench.measure --program",
+                   "bench.searches none --program", "bench.races --results=none --program",
+                   "bench.naive 1 1 none none --program"],
+    "make pmars": ["pmars.compare", "bench.measure --pmars", "bench.random_pairs --pmars",
+                   "bench.races --results=none --pmars"],
     "rt test": ["gate.refuse.growth"],
 }
 FAILING = "/bin/false"
