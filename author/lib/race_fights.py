@@ -234,7 +234,10 @@ def add_budget(parser):
 
 def minutes(word):
     """Reads a number of minutes for argparse."""
-    number = float(word)
+    try:
+        number = float(word)
+    except ValueError:
+        raise argparse.ArgumentTypeError(f"{word} is not a number of minutes") from None
     if not 0.01 <= number <= 100000:
         raise argparse.ArgumentTypeError(f"{word} is not 0.01 to 100000")
     return number

@@ -3,7 +3,8 @@
 run              the stored results (expected/), helps, closed streams, Ctrl-C; and all below
 refusals         files and words that the commands refuse
 warriors         `cwtune-warrior` and `cwtune-holdout`
-varying          `cwtune-vary` and `cwtune-seek`
+varying          `cwtune-vary`
+racing           `cwtune-seek`, and races with made-up fights
 origins          certificates with their CERT.inputs, and inputs of another tuning
 landscapes       `cwtune-landscape --effects`
 studying         `cwtune-study`

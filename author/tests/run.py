@@ -16,8 +16,8 @@ from author.lib.program import program_of
 from author.lib.words import add_built, module_parser
 from gate.tally import compare, tally
 
-from . import (landscapes, merging, origins, own_folders, refusals, reporting, sharing, spreading,
-               strangers, studying, varying, warriors)
+from . import (landscapes, merging, origins, own_folders, racing, refusals, reporting, sharing,
+               spreading, strangers, studying, varying, warriors)
 from .commands import (AUTHOR, SECONDS, TUNING, command, played, printed, run, started,
                        wait_until)
 

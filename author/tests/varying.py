@@ -1,13 +1,8 @@
-"""Plays `cwtune-vary` and `cwtune-seek` with the program."""
-import itertools, os, re, signal, subprocess
-from typing import NamedTuple
-
-from author.lib import grid
+"""Plays `cwtune-vary` with the program."""
 from gate.play import Place
 from gate.tally import compare
 
-from .commands import (EXAMPLES, SECONDS, TUNING, Refusal, command, in_folders, refused, run,
-                       started, usage_error, wait_until)
+from .commands import Refusal, in_folders, refused, run, usage_error
 
 TEXT = """;redcode-94
 ;name Two Numbers
@@ -27,10 +22,6 @@ late    EQU  7
 """
 TEMPLATE = TEXT.replace("STEP EQU 5 ; of the bombs", "; of the bombs\n;@tune STEP 1 9 4 5")
 FAR = ";@tune far -30 10 10 -20"
-LARGE = ";@tune A 0 9999 1 2\n;@tune B 0 9999 1 2\nDAT A, B\n"
-OPPONENTS = [str(EXAMPLES / "warriors" / f"{name}.red")
-            for name in ["dwarf", "imp-ring", "scanner", "replicator", "core-clear"]]
-SCHEDULE = str(TUNING / "schedule.csv")
 WRONG_RANGES = [
     Refusal("cwtune-vary two.red both=1:9", 1, "refused: two.red, line 6: STEP+1 is not a plain "
             "number, so both can have no range"),
@@ -103,154 +94,6 @@ def refusals(place):
     yield compare("a missing file", 3, vary(place, "none").status)
 
 
-def seek(place, *words, template=TUNING / "stone.red", opponents=OPPONENTS):
-    """Returns the result of `cwtune-seek`."""
-    return run("cwtune-seek", "--program", place.program, *words, str(template), SCHEDULE,
-               *opponents, folder=place.folder)
-
-
-class Found(NamedTuple):
-    """What the line `found` of `cwtune-seek` says."""
-
-    total: int
-    fights: int
-
-
-def found_by(result):
-    """Returns what a climb found."""
-    match = re.search(r"^found: total (\d+) of .*, (\d+) fights in", result.err, re.MULTILINE)
-    if not match:
-        raise ValueError(f"no line `found`: {result}")
-    return Found(int(match[1]), int(match[2]))
-
-
-def climbs(place):
-    """Climbs in the template of a stone, and compares with what tunings find there."""
-    result = seek(place)
-    total = found_by(result).total
-    place.write("found.red", result.out)
-    found, whole = grid.Grid(place.folder / "found.red"), grid.Grid(TUNING / "stone.red")
-    yield compare("only START differs in the template", (0, whole.ranges),
-                  (result.status, found.ranges))
-    yield compare("what is said of the others", "note: no setting of a line through it has a "
-                  "greater total; one elsewhere, of all 273 settings, may",
-                  result.err.splitlines()[-1])
-    yield compare("START of the template has that total", total,
-                  best_total(place, found.line_through(found.start_values, ())))
-    yield compare("no tuning of a line through it has a better one", [total] * 2, [
-        best_total(place, found.line_through(found.start_values, (constant,)))
-        for constant in range(2)])
-    yield compare("with two jobs the same is found", result.out, seek(place, "--jobs=2").out)
-    more_starts = seek(place, "--starts=2", "--seed=3")
-    yield compare("more starts find no less", (0, True),
-                  (more_starts.status, found_by(more_starts).total >= total))
-    boxed = seek(place, "--box=2")
-    place.write("box.red", boxed.out)
-    box = grid.Grid(place.folder / "box.red")
-    yield compare("a box is around it", (0, found.start_values, True), (
-        boxed.status, box.start_values, all(len(values) <= 5 for values in box.ranges)))
-
-
-def pairs(place):
-    """Climbs in a template of three constants, two at a time, and in one of two."""
-    result = seek(place, "--pairs", template=TUNING / "decoy.red")
-    total = found_by(result).total
-    place.write("found.red", result.out)
-    found = grid.Grid(place.folder / "found.red")
-    planes = list(itertools.combinations(range(3), 2))
-    yield compare("what is said of the other planes", (
-        0, "note: no setting of a plane through it has a greater total; one elsewhere, of all 126 "
-        "settings, may"), (result.status, result.err.splitlines()[-1]))
-    yield compare("it tunes planes", {"DECOY,PLACE", "DECOY,STEP", "PLACE,STEP"}, {
-        line.partition(":")[0] for line in result.err.splitlines() if line.endswith(" fights")})
-    yield compare("no tuning of a plane through it has a better one", [total] * 3, [
-        best_total(place, found.line_through(found.start_values, free)) for free in planes])
-    result = seek(place, "--pairs")
-    yield compare("two constants are one plane", (
-        0, best_total(place, (TUNING / "stone.red").read_bytes()),
-        "note: none of all 273 settings has a greater total"),
-        (result.status, found_by(result).total, result.err.splitlines()[-1]))
-
-
-def ended_climbs(place):
-    """Climbs until --fights N are reached."""
-    place.write("large.red", LARGE)
-    status, out, err = seek(place, "--fights=1", "--box=9999", template=place.folder / "large.red")
-    yield compare("a box of too many settings is not cut", (
-        0, LARGE, "note: --box=9999 would leave 100000000 settings, more than the 1000000 that "
-        "`cwtune tune` takes, so the ranges are not cut"), (status, out, err.splitlines()[-1]))
-    status, _, err = seek(place, "--fights=1")
-    yield compare("--fights ends it after a tuning", (
-        0, ["found: total 12 of 30 STEP=3045 FIRST=3000, 10 fights in 1 tuning, ended after 10 "
-            "fights (--fights)", "note: it is START, so nothing was gained",
-            "note: it is the best setting that was seen, and more may be gained"]),
-        (status, err.splitlines()[-3:]))
-
-
-def kinds(place):
-    """Tunes the templates of other kinds, and climbs in them."""
-    for name, settings in [("paper", 2304), ("quick-scan", 1080), ("spiral", 1820)]:
-        template = TUNING / f"{name}.red"
-        tuned = place.run(["tune", str(template), SCHEDULE, "CERT", *OPPONENTS]).out.decode()
-        report = dict(line.split(" ", 1) for line in tuned.splitlines())
-        greatest, fights = int(report["total"].split()[0]), int(report["fights"].split()[0])
-        result = seek(place, template=template)
-        found = found_by(result)
-        yield compare(f"settings of {name}.red", str(settings), report["vectors"])
-        yield compare(f"a climb in {name}.red has a third of the fights, and no better setting",
-                      (0, True, True),
-                      (result.status, found.total <= greatest, 3 * found.fights <= fights))
-
-
-def best_total(place, text):
-    """Returns the best total of a template, which `cwtune tune` finds."""
-    place.write("line.red", text)
-    report = place.run(["tune", "line.red", SCHEDULE, "CERT", *OPPONENTS]).out.decode()
-    return int(report.split("total ")[1].split()[0])
-
-
-def refused_climbs(place):
-    """Gives `cwtune-seek` what it refuses."""
-    place.write("one.red", "MOV 0, 1\n")
-    place.write("no-candidate.red", ";@tune K 0 5 1 2\nDAT 1/0\n")
-    place.write("large.red", LARGE)
-    for words, expected in [
-        (["one.red"], (1, "", "refused: one.red: no range line, which begins `;@tune` at the left "
-                       "margin (cwtune-vary makes a template of a text with EQU lines)\n")),
-        (["no-candidate.red"], (1, "", "start: does not assemble: K=2\n"
-                                "refused: no setting that was tried assembles; `cwtune asm "
-                                "--setting start` says why of START\n")),
-        (["--pairs", "large.red"], (2, "", "error: A,B: 100000000 settings, more than the 1000000 "
-                                    "that `cwtune tune` takes\n")),
-        (["none"], (3, "", "failed: none: No such file or directory\n")),
-    ]:
-        *options, template = words
-        yield compare(f"cwtune-seek {' '.join(words)}", expected,
-                      seek(place, *options, template=template))
-    place.write("bad.red", ";@tune K 0 5 1 2\nMOV 1\n")
-    status, out, _ = seek(place, template="bad.red")
-    yield compare("a template that tune refuses", (1, ""), (status, out))
-
-
-def stopped_climbs(place):
-    """Stops `cwtune-seek` while a stand-in for `cwtune` plays START."""
-    place.write("slow", "#!/bin/sh\ntouch begun\nexec sleep 99\n")
-    os.chmod(place.folder / "slow", 0o755)
-    words = command("cwtune-seek", "--program=./slow", str(TUNING / "step.red"), SCHEDULE,
-                    *OPPONENTS)
-    begun = place.folder / "begun"
-    for signal_number in [signal.SIGINT, signal.SIGTERM]:
-        with started(words, cwd=place.folder, stdout=subprocess.PIPE,
-                     stderr=subprocess.PIPE) as job:
-            wait_until(begun.exists, job)
-            job.send_signal(signal_number)
-            out, err = job.communicate(timeout=SECONDS)
-        begun.unlink(missing_ok=True)
-        yield compare(f"signal {signal_number} before START was played", (
-            -signal.SIGINT, b"", b"stopped: before START or another setting was played\n"),
-            (job.returncode, out, err))
-
-
 def trials(program):
     return in_folders(lambda folder: Place(program, folder, {}), [
-        templates, refusals, climbs, pairs, ended_climbs, kinds, refused_climbs, stopped_climbs])
+        templates, refusals])
