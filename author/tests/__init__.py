@@ -6,6 +6,8 @@ warriors         `cwtune-warrior` and `cwtune-holdout`
 varying          `cwtune-vary` and `cwtune-seek`
 origins          certificates with their CERT.inputs, and inputs of another tuning
 landscapes       `cwtune-landscape --effects`
+strangers        names, texts and files that a stranger chose, and what commands leave running
+own_folders      work folders of a stranger, and kills at what is removed
 studying         `cwtune-study`
 study_refused    what it refuses, for `studying`
 spreading        `cwtune-spread`

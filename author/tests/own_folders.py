@@ -340,7 +340,8 @@ def in_process(module, words, folder):
             os.chdir(folder)
             os.dup2(out.fileno(), 1)
             os.dup2(err.fileno(), 2)
-            sys.argv, endings.PID = [f"cwtune-{module.__name__.rpartition('.')[2]}", *words], os.getpid()
+            sys.argv = [f"cwtune-{module.__name__.rpartition('.')[2]}", *words]
+            endings.PID = os.getpid()
             try:
                 run_tool(module.main)
             except SystemExit as end:

@@ -126,6 +126,36 @@ def hostile_inputs(place):
                   run_in(place, "cwtune-scores", "cert", "s.csv").err)
 
 
+def endless(place):
+    """Gives the commands FIFOs and devices among files of others."""
+    (place.folder / "all").mkdir()
+    os.mkfifo(place.folder / "all/a.red")
+    os.symlink("/dev/zero", place.folder / "zero.red")
+    for words, name in [
+        (["cwtune-study", *STUDY, "t.red", "all"], "all/a.red"),
+        (["cwtune-study", *STUDY, "t.red", "zero.red"], "zero.red"),
+        (["cwtune-study", *STUDY, "zero.red", "dat.red"], "zero.red"),
+        (["cwtune-spread", "t.red", "s.csv", "CERT", "all/a.red"], "all/a.red"),
+        (["cwtune-spread", "--check-only", "t.red", "s.csv", "zero.red", "dat.red"], "zero.red"),
+    ]:
+        yield compare(" ".join(words), (2, "", f"error: {name} is not a regular file\n"),
+                      run_in(place, *words))
+    place.write("C.1.report", "vectors 2\ncandidates 2\nbest 0\nconstants K=0\ntotal 1 of 3\n"
+                "fights 2 of 2\n")
+    place.write("C.1.fault", "")
+    for name in ["C.1", "C.1.report", "C.1.fault"]:
+        path = place.folder / name
+        text = path.read_bytes() if path.exists() else None
+        path.unlink(missing_ok=True)
+        os.mkfifo(path)
+        yield compare(f"cwtune-spread --merge with a FIFO {name}", (
+            2, "", f"error: {name} is not a regular file\n"),
+            run_in(place, "cwtune-spread", "--merge=1", "t.red", "s.csv", "C", "dat.red"))
+        path.unlink()
+        if text is not None:
+            path.write_bytes(text)
+
+
 def big_certificate(place, rows=40000):
     """Writes a certificate of as many settings, with 20 fights each, and its template."""
     def row(setting):
@@ -354,5 +384,5 @@ def schemas(place):
 def trials(program):
     return in_folders(lambda folder: Place(program, folder, {
         **FILES, "step.cert": (TUNING / "step.cert").read_bytes()}), [
-        dashes, terminals, hostile_inputs, memory, shown_while_read, unforeseen, old_pythons,
+        dashes, terminals, hostile_inputs, endless, memory, shown_while_read, unforeseen, old_pythons,
         encodings, orphans, hang_ups, left_files, settings, schemas])
