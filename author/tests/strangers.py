@@ -182,11 +182,13 @@ def memory(place):
     """Reads a certificate of 4 MB, and with too little memory for it."""
     big_certificate(place)
     size = (place.folder / "big.cert").stat().st_size
-    *_, least = peak("cwtune-files", "t.red", folder=place.folder)
-    for words in [["cwtune-files", "big.cert"],
-                  ["cwtune-scores", "big.cert", "big.csv", "--template", "big.red"]]:
-        status, _, most = peak(*words, folder=place.folder)
-        yield compare(f"{words[0]} takes three times the size of a certificate at most",
+    for name, small, big in [
+        ("cwtune-files", ["t.red"], ["big.cert"]),
+        ("cwtune-scores", ["step.cert", str(TUNING / "schedule.csv")],
+         ["big.cert", "big.csv", "--template", "big.red"])]:
+        (*_, least), (status, _, most) = (peak(name, *words, folder=place.folder)
+                                          for words in (small, big))
+        yield compare(f"{name} takes three times the size of a certificate at most",
                       (0, True), (status, most - least < 3 * size))
     refused = {peak("cwtune-files", "big.cert", folder=place.folder, megabytes=megabytes)[:2]
                for megabytes in range(16, 64, 8)}
