@@ -8,7 +8,13 @@ another value that only equal warriors have in common.
 import collections
 from typing import NamedTuple
 
-from author.lib.tuning_files import Fights, cap as cap_of
+from author.lib import tuning_files
+from author.lib.tuning_files import Fights
+
+
+def cap_of(points, fights):
+    """Returns the greatest total of a setting with these points, a dict by fight."""
+    return tuning_files.cap(points.items(), fights)
 
 
 class Table(NamedTuple):
@@ -49,7 +55,7 @@ class Aim(NamedTuple):
 
 
 class Search:
-    """A search of a table. `rows[v]` is as in a `tuning_files.Certificate`."""
+    """A search of a table. `rows[v]` is ("refused", None), ("same", twin) or ("cap", points)."""
 
     def __init__(self, table, aim):
         self.table, self.aim, self.played = table, aim, 0

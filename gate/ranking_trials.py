@@ -103,7 +103,7 @@ class Trial:
         template, points = Template(folder / "t.red"), [None] * len(self.warriors)
         if self.place.read("CERT"):
             found = Certificate(folder / "CERT")
-            points = [found.points(v) for v in range(len(found.rows))]
+            points = [found.points(v) for v in range(found.count)]
         self.see("what assembles", [warrior is not None for warrior in self.warriors],
                  [own is not None for own in points])
         self.table = Table(read_schedule(folder / "s.csv"), points, self.warriors,

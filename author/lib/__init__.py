@@ -3,9 +3,12 @@
 The modules of commands are files, holdout, landscape, scores, seek, series, spread, study, vary and
 warrior. Several commands use
 
-- endings: how a command ends after a fault or a signal;
+- start: what each command begins with, which any Python 3 can read;
+- endings: how a command ends after a fault or a signal, and what it prints of a stranger's text;
 - words: parsers, and the files, options and numbers that several commands have;
-- writing: files that are written whole or not at all;
+- writing: files that are written whole or not at all, and temporary folders;
+- regular, schema: how files are read that may be anything, and JSON by a schema;
+- watching: how far a long loop is;
 - program: how `cwtune` is found and run, and its rules;
 - tuning_files, grid: schedules, certificates, templates and their settings;
 - cert_inputs: which inputs a certificate is for, by CERT.inputs;

@@ -70,7 +70,8 @@ class Totals:
             return math.nan, None
         counted = [(points, self.weights[fight]) for fight, points in cert.items(setting)
                    if fight in self.counted]
-        return self.greatest - sum((3 - points) * weight for points, weight in counted), len(counted)
+        lost = sum((3 - points) * weight for points, weight in counted)
+        return self.greatest - lost, len(counted)
 
     def greys(self):
         """Returns the scale of the greys of dropped settings, or nothing if there are none."""
@@ -80,7 +81,7 @@ class Totals:
         low, high = min(caps), max(caps)
         # The least cap is a middle grey, and the greatest a light one.
         span = max(1, high - low)
-        return {"vmin": low - 2 * span, "vmax": low + 1.3 * span, "cmap": "Greys_r"}
+        return {"vmin": low - 2 * span, "vmax": low + 2 * span, "cmap": "Greys_r"}
 
 
 def draw_line(plot, totals):

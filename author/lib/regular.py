@@ -35,6 +35,13 @@ def open_regular(path, flags=0, folder=None, shown=None):
     return open(descriptor, "rb")
 
 
+def refuse_endless(paths):
+    """Refuses what is there and can keep a reader waiting for ever."""
+    for path in paths:
+        if os.path.exists(path) and not (os.path.isfile(path) or os.path.isdir(path)):
+            raise NotRegular(path)
+
+
 def read_regular(most, *place, **more):
     """Returns what a regular file has, and raises a ValueError if that is more than `most` bytes.
     `place` and `more` are arguments of `open_regular`."""

@@ -24,6 +24,7 @@ import contextlib, os, shutil, sys, time
 from . import cert_inputs, spread_parts, spread_shares, tuning_files
 from .endings import Fault, end_as
 from .program import EXPLAIN, reading_output, rules_of, run_program
+from .regular import refuse_endless
 from .spread_folder import SpreadFolder
 from .spread_jobs import HostJobs, LocalJobs
 from .spread_parts import Part
@@ -293,6 +294,7 @@ def main():
     parser = make_parser()
     args = parser.parse_args()
     refuse_idle(parser, args)
+    refuse_endless([args.template, args.schedule, *args.opponent, *[args.cert] * args.check_only])
     if not args.check_only:
         refuse_faults(args)
         return tune(args, *count_settings(args))

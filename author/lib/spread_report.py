@@ -2,9 +2,13 @@
 import contextlib
 
 from .endings import Fault
-from .spread_parts import Part
+from .regular import open_regular, read_regular
+from .spread_parts import MOST_REPORT_BYTES, Part
 from .words import counted
 from .writing import naming
+
+# The most that `cwtune check` reads of a certificate.
+MOST_CERT_BYTES = 1 << 30
 
 
 def best_of(parts):
@@ -79,7 +83,7 @@ def rows_of(folder, number, part):
         yield from (f"refused,{setting},-" for setting in settings)
         return
     with reading(folder, number) as path:
-        header, _, *rows = path.read_text().splitlines()
+        header, _, *rows = read_regular(MOST_CERT_BYTES, path).decode().splitlines()
         _, _, count = header.split(",")
         if {count, part.report["vectors"], str(len(rows))} != {str(part.count)}:
             raise Fault(f"the certificate of part {number} has {counted(len(rows), 'row')}, and "
@@ -92,8 +96,8 @@ def write_whole(folder, parts):
     """Writes the certificate of the whole template. `parts` are the parts by number."""
     best = best_of(parts.values())
     number = next(number for number, part in parts.items() if part is best)
-    with reading(folder, number) as path, path.open() as file:
-        _, version, _ = file.readline().split(",")
+    with reading(folder, number) as path, open_regular(path) as file:
+        _, version, _ = file.readline(MOST_REPORT_BYTES).decode().split(",")
     with folder.writing_whole() as file:
         file.write(f"cwcert,{version},{folder.setting_count}\n"
                    f"best,{index_of(best)},{best.total()}\n")

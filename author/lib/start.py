@@ -11,7 +11,7 @@ def run(name):
     try:
         import importlib
         from .endings import run_tool
-        run_tool(lambda: importlib.import_module("." + name, __package__).main())
-    except MemoryError:
-        sys.stderr.write("failed: out of memory\n")
+    except (MemoryError, ImportError, OSError) as error:  # without memory it may be any of them
+        sys.stderr.write("failed: %s\n" % (str(error) or "out of memory"))
         sys.exit(3)
+    run_tool(lambda: importlib.import_module("." + name, __package__).main())

@@ -225,8 +225,9 @@ def make_parser():
     parser.add_argument("warrior", metavar="WARRIOR", help="a template, or with words "
                         "NAME=LOW:HIGH:STEP a Redcode text with EQU lines")
     parser.add_argument("opponents", metavar="OPPONENT", nargs="*", default=[],
-                        help="the opponents: files, or folders with files *.red; `=N` behind one "
-                        "has its fights count N times, 1 to 1000")
+                        help="the opponents: folders with files *.red, or files (write ./*.red: a "
+                        "name in *.red may be an option); `=N` behind one has its fights count N "
+                        "times, 1 to 1000")
     parser.add_argument("ranges", metavar="NAME=LOW:HIGH:STEP", nargs="*", default=[],
                         help="a constant and its values, as for cwtune-vary")
     return parser

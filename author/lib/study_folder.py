@@ -12,7 +12,7 @@ from typing import Annotated, Any, TypedDict
 
 from . import spread_parts, spread_shares
 from .endings import Fault, can_be_shown, end_with_parent, ended_with, shown, status_of
-from .own_folder import OwnFolder
+from .own_folder import OwnFolder, real_parent
 from .program import DEFAULT
 from .schema import Malformed, checked
 from .writing import naming
@@ -88,7 +88,8 @@ class StudyFolder(OwnFolder):
     COMMAND, MARK, SCHEMA, THROWN, INSTEAD = "cwtune-study", "study.json", Mark, "it", "--out"
 
     def __init__(self, given_path, program, fingerprint, anew):
-        if os.fsencode(given_path).decode(errors="replace") != str(given_path):
+        path = str(real_parent(given_path))
+        if os.fsencode(path).decode(errors="replace") != path:
             raise Fault("the name of the folder is not UTF-8, which cwtune wants", 2)
         super().__init__(given_path)
         self.program, self.stage_commands = program, []

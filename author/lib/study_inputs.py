@@ -6,8 +6,9 @@ from . import vary
 from .endings import Fault, fault_of
 from .grid import NAME, Grid, is_range_line
 from .program import EXPLAIN, rules_of, run_program
+from .regular import read_regular
 from .series import refuse_distance, refuse_fights, refuse_seed
-from .tuning_files import MOST_OPPONENTS, MOST_WEIGHT
+from .tuning_files import MOST_BYTES, MOST_OPPONENTS, MOST_WEIGHT
 from .writing import temporary_folder
 
 # The options that a study depends on.
@@ -120,7 +121,7 @@ def read(parser, args):
     sort_words(parser, args)
     settle_options(parser, args)
     args.program = os.path.abspath(args.program)
-    warrior = pathlib.Path(args.warrior).read_bytes()
+    warrior = read_text(args.warrior)
     is_template = any(map(is_range_line, warrior.split(b"\n")))
     if args.ranges or not is_template:
         text = vary.warrior_text(parser, args)
@@ -133,6 +134,14 @@ def read(parser, args):
         refuse_start(args, Grid(args.warrior))
         template = warrior
     return Inputs(warrior, template, opponents_of(args))
+
+
+def read_text(path):
+    """Returns the bytes of a text. Refuses one that `cwtune` does not take, before it is read."""
+    try:
+        return read_regular(MOST_BYTES, path)
+    except ValueError as fault:
+        raise Fault(f"{path}: {fault}") from None
 
 
 def refuse_start(args, grid):
@@ -162,7 +171,7 @@ def opponents_of(args):
     for path in args.opponents:
         if "\n" in path:
             raise Fault("the name of an opponent has a line end", 2)
-        texts[free_name(os.path.basename(path), texts)] = pathlib.Path(path).read_bytes()
+        texts[free_name(os.path.basename(path), texts)] = read_text(path)
         refuse_text(args, path, "--", path)
     return list(texts.items())
 

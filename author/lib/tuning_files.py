@@ -230,9 +230,7 @@ class AnyCertificate:
 
     def cap(self, setting, fights):
         """Returns the greatest total of a setting with its points; its total if all are listed."""
-        weights = fights.weights
-        return fights.greatest - sum((3 - points) * weights[fight]
-                                     for fight, points in self.items(setting))
+        return cap(self.items(setting), fights)
 
 
 class Ranked(collections.abc.Sequence):
@@ -352,6 +350,13 @@ def read_fight(record):
     if int(opponent) < 0 or first not in ("c", "o") or not 1 <= int(weight) <= MOST_WEIGHT:
         raise ValueError
     return Fight(int(opponent), int(position), first, int(weight))
+
+
+def cap(listed, fights):
+    """Returns the greatest total of a setting that made the points `listed`, pairs of a fight and
+    its points; its total if all fights are listed."""
+    weights = fights.weights
+    return fights.greatest - sum((3 - points) * weights[fight] for fight, points in listed)
 
 
 def exactness_text(exact, wanted):

@@ -10,7 +10,8 @@ EXIT_STATUS = ("Exit status: 0 done; 1 a file is refused; 2 usage error, or two 
 # What the help of the commands says of each file, and of each rule.
 FILE_HELP = {"template": "a Redcode text with range lines",
              "cert": "the certificate of a tuning", "schedule": "the fights of the tuning",
-             "opponent": "the opponents, in the tuning's order"}
+             "opponent": "the opponents, in the tuning's order (write ./*.red: a name in *.red may "
+             "be an option)"}
 MEANING = {"core": "the core size", "cycles": "the most cycles of a fight",
            "tasks": "the most tasks of a warrior", "length": "the most instructions of a warrior",
            "distance": "the least distance of two warriors"}

@@ -7,6 +7,8 @@ varying          `cwtune-vary`
 racing           `cwtune-seek`, and races with made-up fights
 origins          certificates with their CERT.inputs, and inputs of another tuning
 landscapes       `cwtune-landscape --effects`
+strangers        names, texts and files that a stranger chose, and what commands leave running
+own_folders      work folders of a stranger, and kills at what is removed
 studying         `cwtune-study`
 study_refused    what it refuses, for `studying`
 spreading        `cwtune-spread`

@@ -8,13 +8,21 @@ from gate.tally import compare
 
 from .commands import TUNING, in_folders, run
 
-# The modules of the stand-in. A picture is the text of the calls that drew it.
-STAND_IN = {"__init__.py": """rcParams = {}
+# The modules of the stand-in. A picture is the text of the calls that drew it. As matplotlib does, it
+# looks for settings in the current folder, and for formulas unless it is told not to.
+STAND_IN = {"__init__.py": """import os
+
+if os.path.exists("matplotlibrc") or os.environ.get("MATPLOTLIBRC") != os.devnull:
+    raise ValueError("a matplotlibrc is read")
+rcParams = {"text.parse_math": True}
 
 
 def use(_):
     pass
-""", "pyplot.py": """class Axes:
+""", "pyplot.py": """import matplotlib
+
+
+class Axes:
     def __init__(self, calls):
         self.calls = calls
 
@@ -24,6 +32,8 @@ def use(_):
 
 class Figure(Axes):
     def savefig(self, file, **_):
+        if matplotlib.rcParams["text.parse_math"]:
+            raise ValueError("a text may be a formula")
         file.write("\\n".join(self.calls).encode())
 
 
@@ -56,6 +66,7 @@ def effects(place):
     (place.folder / "matplotlib").mkdir()
     for name, text in STAND_IN.items():
         place.write(f"matplotlib/{name}", text)
+    place.write("matplotlibrc", "text.usetex: True\n")
     place.run(["tune", "--all", "t.red", "s.csv", "cert", "imp.red"], keep=True)
     with mock.patch.dict(os.environ, {"PYTHONPATH": str(place.folder)}):
         result = run("cwtune-landscape", "t.red", "cert", "x.svg", "--effects", "y.svg",

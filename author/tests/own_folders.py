@@ -178,13 +178,13 @@ def missing_files(place):
 
 
 def at_unlink(place, number, signal_name, name, words):
-    """Sends a command a signal at the unlink of this number. Returns whether it came that far."""
+    """Sends a command a signal at the unlink of this number. Returns whether that ended it."""
     inject = f"inject=unlink,unlinkat:signal={signal_name}:when={number}"
     argv = ["strace", "-o", "/dev/null", "-e", "trace=unlink,unlinkat", "-e", inject,
             *command(name, "--program", place.program, *words)]
     with subprocess.Popen(argv, cwd=place.folder, stdin=subprocess.DEVNULL,
                           stdout=subprocess.DEVNULL, stderr=subprocess.DEVNULL) as job:
-        return job.wait(SECONDS) != 0
+        return job.wait(SECONDS) < 0
 
 
 def kills_of_spreads(place):
@@ -340,7 +340,8 @@ def in_process(module, words, folder):
             os.chdir(folder)
             os.dup2(out.fileno(), 1)
             os.dup2(err.fileno(), 2)
-            sys.argv, endings.PID = [f"cwtune-{module.__name__.rpartition('.')[2]}", *words], os.getpid()
+            sys.argv = [f"cwtune-{module.__name__.rpartition('.')[2]}", *words]
+            endings.PID = os.getpid()
             try:
                 run_tool(module.main)
             except SystemExit as end:

@@ -1,5 +1,5 @@
 """Gives the commands names, texts and files that a stranger chose, and looks what they leave."""
-import ast, contextlib, os, pathlib, re, resource, signal, subprocess, sys, tempfile, time
+import ast, contextlib, os, pathlib, re, signal, subprocess, sys, tempfile, time
 from unittest import mock
 
 from author.lib import regular, tuning_files, writing
@@ -20,6 +20,18 @@ FILES = {
     "x.red": "#!/bin/sh\ntouch ran\n",
 }
 STUDY = ["--hill=nano", "--rounds=1", "--fresh=2", "--jobs=1"]
+# Runs a command with a limit of its memory, and prints its status and its greatest memory. A child
+# of this process would begin with the memory of this one.
+MEASURE = """import os, resource, sys
+limit, *words = sys.argv[1:]
+if not (pid := os.fork()):
+    os.dup2(os.open(os.devnull, os.O_WRONLY), 1)
+    if int(limit):
+        resource.setrlimit(resource.RLIMIT_AS, (int(limit), int(limit)))
+    os.execv(words[0], words)
+status = os.waitstatus_to_exitcode(os.waitpid(pid, 0)[1])
+print(status, resource.getrusage(resource.RUSAGE_CHILDREN).ru_maxrss << 10)
+"""
 # The process id of nobody.
 NOBODY = 2 ** 22 + 1
 
@@ -114,42 +126,72 @@ def hostile_inputs(place):
                   run_in(place, "cwtune-scores", "cert", "s.csv").err)
 
 
-def big_certificate(place, rows=100000):
+def endless(place):
+    """Gives the commands FIFOs and devices among files of others."""
+    (place.folder / "all").mkdir()
+    os.mkfifo(place.folder / "all/a.red")
+    os.symlink("/dev/zero", place.folder / "zero.red")
+    for words, name in [
+        (["cwtune-study", *STUDY, "t.red", "all"], "all/a.red"),
+        (["cwtune-study", *STUDY, "t.red", "zero.red"], "zero.red"),
+        (["cwtune-study", *STUDY, "zero.red", "dat.red"], "zero.red"),
+        (["cwtune-spread", "t.red", "s.csv", "CERT", "all/a.red"], "all/a.red"),
+        (["cwtune-spread", "--check-only", "t.red", "s.csv", "zero.red", "dat.red"], "zero.red"),
+    ]:
+        yield compare(" ".join(words), (2, "", f"error: {name} is not a regular file\n"),
+                      run_in(place, *words))
+    place.write("C.1.report", "vectors 2\ncandidates 2\nbest 0\nconstants K=0\ntotal 1 of 3\n"
+                "fights 2 of 2\n")
+    place.write("C.1.fault", "")
+    for name in ["C.1", "C.1.report", "C.1.fault"]:
+        path = place.folder / name
+        text = path.read_bytes() if path.exists() else None
+        path.unlink(missing_ok=True)
+        os.mkfifo(path)
+        yield compare(f"cwtune-spread --merge with a FIFO {name}", (
+            2, "", f"error: {name} is not a regular file\n"),
+            run_in(place, "cwtune-spread", "--merge=1", "t.red", "s.csv", "C", "dat.red"))
+        path.unlink()
+        if text is not None:
+            path.write_bytes(text)
+
+
+def big_certificate(place, rows=40000):
     """Writes a certificate of as many settings, with 20 fights each, and its template."""
-    fights = " ".join(f"{index}:{(0, 1, 3)[index % 3]}" for index in range(20))
-    total = sum((0, 1, 3)[index % 3] for index in range(20))
-    place.write("big.cert", f"cwcert,1,{rows}\nbest,0,{total}\n" + "".join(
-        f"cap,{setting},{fights}\n" for setting in range(rows)))
+    def row(setting):
+        points = "3" * 20 if setting == 0 else str(setting * 7919 ** 4)[:20].translate(
+            str.maketrans("0123456789", "0130130130"))
+        return " ".join(f"{index}:{digit}" for index, digit in enumerate(points))
+
+    place.write("big.cert", f"cwcert,1,{rows}\nbest,0,60\n" + "".join(
+        f"cap,{setting},{row(setting)}\n" for setting in range(rows)))
     place.write("big.csv", "opponent,position,first\n" + "0,400,c\n" * 20)
     place.write("big.red", f";@tune A 0 {rows // 100 - 1} 1 0\n;@tune B 0 99 1 0\nDAT A, B\n")
 
 
-def peak(*words, folder, megabytes=None):
-    """Returns status and standard error of a command, and its greatest memory in bytes."""
-    def limit():
-        if megabytes:
-            resource.setrlimit(resource.RLIMIT_AS, (megabytes << 20,) * 2)
-    with tempfile.TemporaryFile() as err:
-        job = subprocess.Popen(command(*words), cwd=folder, stdout=subprocess.DEVNULL, stderr=err,
-                               preexec_fn=limit)
-        _, status, usage = os.wait4(job.pid, 0)
-        job.returncode = os.waitstatus_to_exitcode(status)
-        err.seek(0)
-        return job.returncode, err.read().decode(), usage.ru_maxrss << 10
+def peak(*words, folder, megabytes=0):
+    """Returns status and standard error of a command, and its greatest memory in bytes. With
+    `megabytes` it has no more."""
+    completed = subprocess.run([sys.executable, "-c", MEASURE, str(megabytes << 20),
+                                *command(*words)], cwd=folder, capture_output=True, text=True)
+    status, most = completed.stdout.split()
+    return int(status), completed.stderr, int(most)
 
 
 def memory(place):
-    """Reads a certificate of 10 MB, and with too little memory for it."""
+    """Reads a certificate of 4 MB, and with too little memory for it."""
     big_certificate(place)
     size = (place.folder / "big.cert").stat().st_size
-    *_, least = peak("cwtune-files", "t.red", folder=place.folder)
-    for words in [["cwtune-files", "big.cert"],
-                  ["cwtune-scores", "big.cert", "big.csv", "--template", "big.red"]]:
-        status, _, most = peak(*words, folder=place.folder)
-        yield compare(f"{words[0]} takes three times the size of a certificate at most",
+    for name, small, big in [
+        ("cwtune-files", ["t.red"], ["big.cert"]),
+        ("cwtune-scores", ["step.cert", str(TUNING / "schedule.csv")],
+         ["big.cert", "big.csv", "--template", "big.red"])]:
+        (*_, least), (status, _, most) = (peak(name, *words, folder=place.folder)
+                                          for words in (small, big))
+        yield compare(f"{name} takes three times the size of a certificate at most",
                       (0, True), (status, most - least < 3 * size))
     refused = {peak("cwtune-files", "big.cert", folder=place.folder, megabytes=megabytes)[:2]
-               for megabytes in range(8, 80, 4)}
+               for megabytes in range(16, 64, 8)}
     yield compare("without memory", True, (3, "failed: out of memory\n") in refused)
     yield compare("and never else", [], [end for end in refused if end[0] not in (0, 3, 127)
                                          and "Traceback" in end[1]])
@@ -344,5 +386,5 @@ def schemas(place):
 def trials(program):
     return in_folders(lambda folder: Place(program, folder, {
         **FILES, "step.cert": (TUNING / "step.cert").read_bytes()}), [
-        dashes, terminals, hostile_inputs, memory, shown_while_read, unforeseen, old_pythons,
+        dashes, terminals, hostile_inputs, endless, memory, shown_while_read, unforeseen, old_pythons,
         encodings, orphans, hang_ups, left_files, settings, schemas])
