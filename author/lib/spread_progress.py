@@ -5,12 +5,12 @@ from .spread_parts import settings_of
 from .spread_report import best_of, index_of, summed
 
 # Seconds from a line in a log to the next.
-PAUSE = 60
+PAUSE = 20
 
 
 class Progress:
     """What came of the pieces of a folder, by number, None for one that is not done, and the line
-    of what is done: at a terminal, and with `in_log` once a minute elsewhere."""
+    of what is done: at a terminal, and with `in_log` every PAUSE seconds elsewhere."""
 
     def __init__(self, folder, in_log):
         self.folder, self.in_log, self.shown, self.last_line_at = folder, in_log, "", -PAUSE

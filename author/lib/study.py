@@ -88,6 +88,10 @@ class Study:
         grid = Grid(folder.path / "template.red")
         folder.write("start.red", grid.line_through(grid.start_values, ()))
 
+    def copy_template(self):
+        """Makes box.red, the settings that are tuned: here all of the template."""
+        self.folder.run(["cat", "template.red"], "box.red")
+
     def tune_all(self):
         """Plays every fight of the box, and has the certificate checked. Returns how many fights
         that were, and the line of the check."""
@@ -121,7 +125,7 @@ class Study:
             self.tell_estimate(grid)
         stage("schedule", lambda: self.write_series(args.seed, args.rounds, "schedule.csv"),
               "schedule.csv")
-        stage("template", lambda: self.folder.run(["cat", "template.red"], "box.red") and None, "box.red")
+        stage("template", self.copy_template, "box.red")
         tuning = stage("best", self.tune_all, "best.cert", "best.txt")
         winner, points, last_points = study_fresh.find_winner(self, self.first_settings())
         stage("winner", lambda: self.write_winner(winner, "box.red"), "winner.red")

@@ -65,19 +65,15 @@ def rounds(place):
              for block in blocks]
     yield compare("no setting plays a block twice", len(plays), len(set(plays)))
     yield compare("no more fights than the budget", True, 19000 < arena.fights <= 20000)
-    heats = {}
-    for settings, blocks in arena.calls:
-        heats.setdefault(tuple(blocks), set()).update(settings)
-    new = {settings_of_first for settings_of_first in map(frozenset, heats.values())}
     yield compare("START plays from the first heat to the last", (True, True), (
         (0, 0) in arena.calls[0][0], (0, 0) in arena.calls[-1][0]))
-    yield compare("the gain is of the winner and START, in new blocks", ([(3, 4), (0, 0)], True), (
-        arena.calls[-1][0], not set(arena.calls[-1][1]) & {block for _, blocks in arena.calls[:-1]
-                                                           for block in blocks}))
-    fights = 2 * len(outcome.points[0][0])
-    last = sum(len(blocks) for settings, blocks in arena.calls
-               if settings == [(3, 4), (0, 0)] and len(settings) == 2)
-    yield compare("which alone count in it", True, fights <= 2 * last and bool(new))
+    pair = [(3, 4), (0, 0)]
+    gain = [call for call in arena.calls if call[0] == pair]
+    others = {block for settings, blocks in arena.calls if settings != pair for block in blocks}
+    yield compare("the winner and START end it, in blocks of their own", (pair, False), (
+        arena.calls[-1][0], any(block in others for _, blocks in gain for block in blocks)))
+    yield compare("and these alone are the gain", sum(len(blocks) for _, blocks in gain),
+                  len(outcome.points[0][0]))
 
 
 def goes_on(place):
@@ -107,11 +103,11 @@ def finds(place):
     found, whole = (grid.Grid(place.folder / name) for name in ["found.red", "plane.red"])
     yield compare("only START differs in the template", (0, whole.ranges),
                   (status, found.ranges))
-    lines = err.splitlines()
-    yield compare("what it says", ["a race of 45 settings", f"found: {found.constants_of(
-        found.start_values)}", "note", "over START"], [
-        lines[0].partition(": about")[0], lines[-3], *(line.partition(":")[0]
-                                                       for line in lines[-2:])])
+    lines, constants = err.splitlines(), found.constants_of(found.start_values)
+    yield compare("what it says", ["a race of 45 settings", f"found: {constants}", "note",
+                                   "over START"],
+                  [lines[0].partition(": about")[0], lines[-3],
+                   *(line.partition(":")[0] for line in lines[-2:])])
     yield compare("one job finds the same", (out, lines[-3:]), (
         seek(place, "--jobs=1").out, seek(place, "--jobs=1").err.splitlines()[-3:]))
     yield compare("a box is cut around it", (0, found.start_values, True), boxed(place))

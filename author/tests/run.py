@@ -190,8 +190,8 @@ def all_trials(program, python, draws, replaces):
             "without_program": without_program(), "refusals": refusals.trials(python, draws),
             "signals": signals(),
             **{f"{module.__name__.rpartition('.')[2]}.{name}": trial
-               for module in (warriors, varying, origins, landscapes, strangers, own_folders,
-                              studying, spreading, merging, sharing)
+               for module in (warriors, varying, racing, origins, landscapes, strangers,
+                              own_folders, studying, spreading, merging, sharing)
                for name, trial in module.trials(program).items()},
             **{f"reporting.{name}": trial for name, trial in reporting.trials().items()}}
 

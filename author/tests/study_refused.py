@@ -58,8 +58,9 @@ def others(place):
         ("opponents", ["t.red", "all/imp.red", "all/dat.red"]),
         ("template", ["--out=t.study", "more.red", "all"]),
         ("rules", ["--cycles=799", "t.red", "all"]),
-        ("options", ["--fresh=11", "t.red", "all"]),
-        ("options", ["--exact=4", "t.red", "all"]),
+        ("--fresh was 10", ["--fresh=11", "t.red", "all"]),
+        ("--exact was 1000", ["--exact=4", "t.red", "all"]),
+        ("weights", ["t.red", "all=2"]),
     ]:
         line = (f"error: t.study is of other inputs ({kind}): give --anew to throw it away and "
                 "begin again, or another --out\n")

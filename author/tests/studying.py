@@ -1,16 +1,16 @@
 """Plays `cwtune-study`: compares its report with the other commands, kills it and starts it again,
 and gives it what it has to refuse.
 """
-import os, random, shutil, signal, subprocess, time
+import json, os, random, shutil, signal, subprocess, time
 
 from author.lib import grid, tuning_files
 from gate.tally import compare
 
 from . import study_refused
 from .commands import AUTHOR, SECONDS, in_folders, run, wait_until
-from .study_place import OPPONENTS, TEMPLATE, StudyPlace
+from .study_place import OPPONENTS, PLANE, TEMPLATE, StudyPlace
 
-STAGES = ["inputs", "schedule", "box", "best", "fresh 1", "fresh 2", "fresh 3", "fresh 4",
+STAGES = ["inputs", "schedule", "template", "best", "fresh 1", "fresh 2", "fresh 3", "fresh 4",
           "winner", "report"]
 
 
@@ -123,39 +123,71 @@ def typed(place):
         name for name in names if place.read(f"typed/{name}") != place.read(f"w.study/{name}")])
 
 
-def seeks(place):
+def races(place):
     """Makes a study of more settings than are tuned."""
-    status, out, err = place.study("--exact=9", "p.red", "all")
-    report, box = place.report("p"), grid.Grid(place.folder / "p.study/box.red")
-    yield compare("a box is tuned", (0, {"template": 45, "box": 6, "sought": True}), (
-        status, {name: report["settings"][name] for name in ["template", "box", "sought"]}))
-    found_lines = [line for line in err.splitlines() if line.startswith("found: total ")]
-    yield compare("it is around what the climb found", [True], [
-        f" of 27 {box.constants_of(box.start_values)}, " in line for line in found_lines])
-    log = place.read("p.study/log.txt").decode()
-    yield compare("the log has the climb", (True, True), (
-        "\ncwtune-seek --box=1 --jobs=1 " in log, "\n# found: total " in log))
-    yield compare("what is exact is said", "of 45 settings a box of 6 is tuned, around what the "
-                  "climb found: exact within the box, only sought outside of it",
-                  out.splitlines()[0])
-    yield compare("START has the total of its fights",
-                  tuned(place, "p.study/start.red", "p.study")["total"],
-                  f"{report['start']['tuned']} of 27")
-    totals = report["landscape"]["totals"]
-    yield compare("the landscape has a list for each value of the first constant", (2, 3),
-                  (len(totals), len(totals[0])))
-    yield compare("the effects are means", [sum(row) / 3 for row in totals],
-                  report["effects"][0]["means"])
-    yield from after_kills(place)
+    place.write("p.red", PLANE.replace("2 5", "2 3").replace("1 0", "1 4"))
+    words = ["--exact=9", "--fights=4000", "--certify", "p.red", "all"]
+    status, out, _ = place.study(*words)
+    report, folder = place.report("p"), place.folder / "p.study"
+    race, box, gain = (report[name] for name in ["race", "box", "gain"])
+    yield compare("settings race", (0, True, True), (
+        status, 9 < race["settings"] <= 45, race["fights"] <= 4000))
+    yield compare("the settings around the winner are tuned, and checked", (9, "accepted best"), (
+        box["settings"], " ".join(box["check"].split()[:2])))
+    yield compare("the page has their totals", (3, 3), (
+        len(report["landscape"]["totals"]), len(report["landscape"]["totals"][0])))
+    percents = [report[side]["fresh"]["percent"] for side in ["winner", "start"]]
+    yield compare("the gain is the difference of fights that picked nothing",
+                  round(percents[0] - percents[1], 9), round(gain["percent"], 9))
+    by_opponent = [opponent["percent"] for opponent in gain["opponents"]]
+    yield compare("and the mean of those against each opponent", round(gain["percent"], 9),
+                  round(sum(by_opponent) / 3, 9))
+    yield compare("what is printed", (f"race: {race['settings']} of 45 settings in "
+                  f"{race['fights']} fights", "p.study/report.html"),
+                  (out.splitlines()[0], out.splitlines()[-1]))
+    text = grid.Grid(folder / "found.red")
+    yield compare("the winner's text is the winner", tuple(report["winner"]["values"].values()),
+                  text.start_values)
+    place.study("--anew", "--jobs=2", *words)
+    yield compare("two jobs find the same", (race, gain), (
+        place.report("p")["race"], place.report("p")["gain"]))
+    yield from after_kills(place, words)
 
 
-def after_kills(place):
-    """Kills a study after each stage, and compares what it makes with an unbroken one."""
+def after_kills(place, words):
+    """Kills a race at random times, and compares what it makes with an unbroken one."""
+    unbroken, dice = place.report("p"), random.Random(69)
+    shutil.rmtree(place.folder / "p.study")
+    for count in range(20):
+        with place.begin(*words) as job:
+            time.sleep(dice.uniform(0.1, 0.5 + count / 10))
+            job.send_signal([signal.SIGKILL, signal.SIGTERM, signal.SIGHUP][count % 3])
+            job.communicate(timeout=SECONDS)
+    status = place.study(*words).status
+    report = place.report("p")
+    for of_box in unbroken["box"], report["box"]:
+        del of_box["seconds"]
+    names = ["race", "box", "winner", "gain", "landscape"]
+    yield compare("20 kills change nothing", (0, {name: unbroken[name] for name in names}),
+                  (status, {name: report[name] for name in names}))
+    mark = json.loads(place.read("p.study/study.json"))
+    mark["stages"] = {"inputs": mark["stages"]["inputs"]}
+    place.write("p.study/study.json", json.dumps(mark))
+    place.write("p.study/race.jsonl", "{}\n")
+    yield compare("a file of what was played that is none", (
+        2, "error: p.study/race.jsonl: line 1: no entry `settings`\n"),
+        place.study(*words)[::2])
+
+
+def whole(place):
+    """Kills a study of a whole template after each stage, and compares what it makes with an
+    unbroken one."""
+    place.study("p.red", "all")
     unbroken, log = place.read("p.study/report.json"), place.read("p.study/log.txt")
     shutil.rmtree(place.folder / "p.study")
     dice = random.Random(69)
     for count, name in enumerate(STAGES, 1):
-        with place.begin("--exact=9", "p.red", "all") as job:
+        with place.begin("p.red", "all") as job:
             wait_until(lambda: len(place.stages("p")) >= count, job)
             time.sleep(dice.uniform(0, 0.15))
             job.send_signal([signal.SIGKILL, signal.SIGTERM][count % 2])
@@ -165,7 +197,7 @@ def after_kills(place):
         if count == 1:
             yield compare("a stop says how to go on", True, err.endswith(
                 "stopped: what is done is kept in p.study: repeat the command to go on\n"))
-    status = place.study("--exact=9", "p.red", "all").status
+    status = place.study("p.red", "all").status
     yield compare("kills change nothing", (0, unbroken),
                   (status, place.read("p.study/report.json")))
     yield compare("nor the log", without_seconds(log),
@@ -179,4 +211,4 @@ def without_seconds(log):
 
 def trials(program):
     return in_folders(lambda folder: StudyPlace(program, folder), [
-        finds, varies, seeks, study_refused.foreign, study_refused.refusals])
+        finds, varies, whole, races, study_refused.foreign, study_refused.refusals])
