@@ -102,7 +102,7 @@ class Study:
         return [setting for _, setting in ranking.full[:study_fresh.FIRST_HEAT_PLAYERS]]
 
     def go(self):
-        """Goes through all stages. Returns the report."""
+        """Goes through all stages."""
         args, stage = self.args, self.folder.stage
         warrior = ["warrior.red"] if args.ranges else []
         stage("inputs", self.copy_inputs, "template.red", "start.red", *warrior, *self.opponents)
@@ -116,7 +116,6 @@ class Study:
         stage("report", lambda: self.write_report(box_result, tuning_result, *fresh_results),
               "report.json", "report.html")
         self.folder.write_log()
-        return json.loads((self.folder.path / "report.json").read_text())
 
     def write_winner(self, winner):
         """Writes the text of the winner."""
@@ -204,7 +203,9 @@ def main():
     args = parser.parse_mixed()
     study = Study(args, study_inputs.read(parser, args))
     try:
-        print_end(study.folder, study.go())
+        study.go()
+        with study.folder.reading("report.json") as report:
+            print_end(study.folder, report)
     except KeyboardInterrupt:
         print(f"stopped: what is done is kept in {study.folder.given_path}: repeat the command to "
               "go on", file=sys.stderr)
