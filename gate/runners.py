@@ -22,9 +22,9 @@ MAIN = '\nif __name__ == "__main__":\n'
 HELPED = ["gate.gate", "gate.edits", "gate.runners", "release.dist", "release.manual"]
 # The others, which take a program as their last word, by the command that builds it.
 REFUSED = {
-    "make build": ["author.tests.run", "gate.play_cases", "gate.cuts", "gate.pipes",
-                   "gate.terminals", "gate.documents", "gate.loop_place", "gate.ranking_trials",
-                   "gate.scripts", "gate.shares", "gate.cert_inputs_trials",
+    "make build": ["author.tests.run", "author.tests.own_folders", "gate.play_cases", "gate.cuts",
+                   "gate.pipes", "gate.terminals", "gate.documents", "gate.loop_place",
+                   "gate.ranking_trials", "gate.scripts", "gate.shares", "gate.cert_inputs_trials",
                    "gate.races_trials", "gate.refuse.memory", "gate.refuse.writes",
                    "gate.refuse.two_devices", "release.try_release", "bench.measure --program",
                    "bench.searches none --program", "bench.races --results=none --program",

@@ -14,7 +14,7 @@ from author.lib.words import add_built, module_parser
 NAME = "cwtune"
 AUTHOR = pathlib.Path(__file__).resolve().parents[1] / "author"
 # The commands for authors, and the modules of author/lib/ that they are made of.
-COMMANDS = {path.name: re.search(r"import (\w+)", path.read_text())[1]
+COMMANDS = {path.name: path.name.removeprefix(f"{NAME}-")
             for path in sorted(AUTHOR.glob(f"{NAME}-*"))}
 # The files for a command: its manual page, and its completions for bash, zsh and fish.
 FILE_NAMES = ["{}.1", "{}.bash", "_{}", "{}.fish"]

@@ -107,7 +107,7 @@ class Study:
         return [setting for _, setting in ranking.full[:study_fresh.FIRST_HEAT_PLAYERS]]
 
     def go(self):
-        """Goes through all stages. Returns the report."""
+        """Goes through all stages."""
         args, stage = self.args, self.folder.stage
         warrior = ["warrior.red"] if args.ranges else []
         stage("inputs", self.copy_inputs, "template.red", "start.red", *warrior, *self.opponents)
@@ -115,7 +115,6 @@ class Study:
         results = self.tune(grid) if grid.count() <= args.exact else RaceOfStudy(self, grid).go()
         stage("report", lambda: self.write_report(results), "report.json", "report.html")
         self.folder.write_log()
-        return json.loads((self.folder.path / "report.json").read_text())
 
     def tune(self, grid):
         """Tunes the whole template, and finds the winner in fresh fights. Returns the results."""
@@ -243,7 +242,9 @@ def main():
     args = parser.parse_mixed()
     study = Study(args, study_inputs.read(parser, args))
     try:
-        print_end(study.folder, study.go())
+        study.go()
+        with study.folder.reading("report.json") as report:
+            print_end(study.folder, report)
     except KeyboardInterrupt:
         print(f"stopped: what is done is kept in {study.folder.given_path}: repeat the command to "
               "go on", file=sys.stderr)

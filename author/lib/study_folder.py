@@ -7,7 +7,7 @@
 A stage is done once `study.json` says so, so neither a kill nor a crash leaves half of one. A file
 of a stage that is done has to stay as it was.
 """
-import dataclasses, json, os, pathlib, re, shlex, subprocess, sys, time
+import contextlib, dataclasses, json, os, pathlib, re, shlex, subprocess, sys, time
 from typing import Annotated, Any, TypedDict
 
 from . import spread_parts, spread_shares
@@ -147,6 +147,16 @@ class StudyFolder(OwnFolder):
                             "begin again", 2)
         # Through JSON, as a repeated command reads it: lists for tuples, texts for keys.
         return json.loads(json.dumps(self.mark.stages[name]["result"]))
+
+    @contextlib.contextmanager
+    def reading(self, name):
+        """Gives a block what a file of JSON says, an object. If the block cannot use it, the fault
+        names the file."""
+        try:
+            yield self.load(name, dict)
+        except (LookupError, TypeError, ValueError, ArithmeticError):
+            raise Fault(f"{self.given_path}/{name} is malformed: give --anew to begin again",
+                        2) from None
 
     def commands(self):
         """Returns the commands that ran, with their seconds and what they said."""

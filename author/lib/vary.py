@@ -113,8 +113,9 @@ def equ_of(path, equs, name, values):
         hint = f"; did you mean {near}?" if near else ""
         raise Fault(f"{path}: no line `{name} EQU number`{hint}")
     if equ.value is None:
-        raise Fault(f"{path}, line {equ.line}: {shown(equ.text) or 'nothing'} is not a plain number, "
-                    f"so {equ.name} can have no range")
+        text = shown(equ.text) or "nothing"
+        raise Fault(f"{path}, line {equ.line}: {text} is not a plain number, so {equ.name} can have "
+                    "no range")
     if equ.value not in values:
         below = [value for value in values if value < equ.value]
         above = [value for value in values if value > equ.value]

@@ -8,8 +8,8 @@ from gate.tally import compare
 
 from .commands import TUNING, in_folders, run
 
-# The modules of the stand-in. A picture is the text of the calls that drew it. As matplotlib does, it
-# looks for settings in the current folder, and for formulas unless it is told not to.
+# The modules of the stand-in. A picture is the text of the calls that drew it. As matplotlib does,
+# it looks for settings in the current folder, and for formulas unless it is told not to.
 STAND_IN = {"__init__.py": """import os
 
 if os.path.exists("matplotlibrc") or os.environ.get("MATPLOTLIBRC") != os.devnull:

@@ -9,6 +9,7 @@ import json, os, random, shutil, signal, subprocess, sys, tempfile
 from author.lib import endings, spread, study
 from author.lib.endings import run_tool
 from author.lib.program import program_of
+from author.lib.regular import digest_of
 from author.lib.words import add_built, module_parser, number_from
 from gate.tally import compare, tally
 
@@ -152,6 +153,31 @@ def forged(place):
         status, out, err = place.spread(*PARTS)
         yield compare(f"{name} is a FIFO", (2, "", True), (
             status, out, err.startswith("error: ") and name in err))
+
+
+def forged_reports(place):
+    """Writes into the report and the results of a study what no study writes."""
+    place.study(*STUDY)
+    mark = json.loads(place.read("t.study/study.json"))
+    for text in ["1", "{}", "[" * 100000, json.dumps({"ranking": [1]})]:
+        place.write("t.study/report.json", text)
+        digest = digest_of(place.folder / "t.study/report.json")
+        mark["stages"]["report"]["files"]["report.json"] = digest
+        place.write("t.study/study.json", json.dumps(mark))
+        status, _, err = place.study(*STUDY)
+        yield compare(f"a report.json that is {text[:40]}", (
+            2, "error: t.study/report.json is malformed: give --anew to begin again\n"),
+            (status, err))
+    for name, result, fault in [
+        ("box", {"sought": 1, "fights": 0, "start": None}, ".sought: not true or false"),
+        ("best", {"fights": "9", "check": ""}, ".fights: not a whole number"),
+        ("fresh 1", {"0": ["2"]}, ".0[0]: not of its form"), ("winner", [], ": not null"),
+    ]:
+        stages = mark["stages"] | {name: mark["stages"][name] | {"result": result}}
+        place.write("t.study/study.json", json.dumps(mark | {"stages": stages}))
+        yield compare(f"a stage {name} with {result}", (
+            2, "", f"error: t.study/study.json: stages.{name}.result{fault}\n"),
+            place.study(*STUDY))
 
 
 def missing_copies(place):
@@ -384,7 +410,7 @@ def trials(program, count=300):
     return (in_folders(lambda folder: SpreadPlace(program, folder), [
                 links_of_spreads, forged, missing_copies, kills_of_spreads])
             | in_folders(lambda folder: StudyPlace(program, folder), [
-                links_of_studies, missing_files, kills_of_studies])
+                links_of_studies, forged_reports, missing_files, kills_of_studies])
             | {"fuzz": fuzz(program, count)})
 
 

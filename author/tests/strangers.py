@@ -386,5 +386,5 @@ def schemas(place):
 def trials(program):
     return in_folders(lambda folder: Place(program, folder, {
         **FILES, "step.cert": (TUNING / "step.cert").read_bytes()}), [
-        dashes, terminals, hostile_inputs, endless, memory, shown_while_read, unforeseen, old_pythons,
-        encodings, orphans, hang_ups, left_files, settings, schemas])
+        dashes, terminals, hostile_inputs, endless, memory, shown_while_read, unforeseen,
+        old_pythons, encodings, orphans, hang_ups, left_files, settings, schemas])
