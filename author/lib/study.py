@@ -119,12 +119,12 @@ class Study:
     def tune(self, grid):
         """Tunes the whole template, and finds the winner in fresh fights. Returns the results."""
         args, stage = self.args, self.folder.stage
-        print(f"all {grid.count()} settings are tuned: their ranking is exact", flush=True)
-        if "best" not in self.folder.mark.stages:
-            self.tell_estimate(grid)
         stage("schedule", lambda: self.write_series(args.seed, args.rounds, "schedule.csv"),
               "schedule.csv")
         stage("template", self.copy_template, "box.red")
+        print(f"all {grid.count()} settings are tuned: their ranking is exact", flush=True)
+        if "best" not in self.folder.mark.stages:
+            self.tell_estimate(grid)
         tuning = stage("best", self.tune_all, "best.cert", "best.txt")
         winner, points, last_points = study_fresh.find_winner(self, self.first_settings())
         stage("winner", lambda: self.write_winner(winner, "box.red"), "winner.red")

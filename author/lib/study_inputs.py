@@ -30,7 +30,8 @@ class Inputs(NamedTuple):
             "program": sha256_of_text(pathlib.Path(args.program).read_bytes()),
             "template": [sha256_of_text(self.warrior), sha256_of_text(self.template)],
             "opponents": [[name, sha256_of_text(text)] for name, text in self.opponents],
-            "weights": args.weights, "rules": rules_of(args)._asdict(), **options}))
+            "weights": [pair for pair in enumerate(args.weights) if pair[1] != 1],
+            "rules": rules_of(args)._asdict(), **options}))
 
 
 def sha256_of_text(text):

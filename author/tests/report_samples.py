@@ -67,11 +67,9 @@ def origin_of(names):
     return {
         "title": "Open Stone", "made": "2026-11-27", "program": "cwtune 1.2.3",
         "rules": {"core": 8000, "cycles": 80000, "tasks": 8001, "length": 100, "distance": 101},
-        "opponents": [{"name": name, "digest": f"{300 + index} {index:064x}"}
-                      for index, name in enumerate(names)],
-        "schedule": {"fights": 20 * len(names), "rounds": 20, "seed": 4321,
-                     "greatest": 60 * len(names)},
-        "check": f"accepted best {WINNER} total 350",
+        "opponents": [{"name": name, "digest": f"{300 + index} {index:064x}",
+                       "weight": 1 + index % 2} for index, name in enumerate(names)],
+        "seed": 4321, "settings": 134421,
         "commands": ["cwtune-series 4321 20 8 > schedule.csv",
                      "cwtune-spread --all --jobs 4 box.red schedule.csv best.cert opponents/*.red",
                      f"cwtune-warrior --setting {WINNER} box.red > winner.red"],
@@ -92,15 +90,42 @@ def sample(sizes, opponents=8):
     constants = [{"name": name, "low": values[0] - 400, "high": values[-1] + 400, "step": 4,
                   "start": start["values"][name], "best": best_values[name], "box": values}
                  for name, values in box.items()]
-    gain = winner["fresh"]["percent"] - start["fresh"]["percent"]
     return {
         **origin_of(names), "start": start, "winner": winner, "constants": constants,
-        "settings": {"template": 134421, "box": 2503, "sought": len(sizes) > 1,
-                     "seek_fights": 51234, "box_fights": 400480},
+        "race": None, "box": None, "fights": 400480, "check": f"accepted best {WINNER} total 350",
+        "schedule": {"fights": 20 * len(names), "greatest": 60 * len(names)},
         "ranking": ranking_of(dice, winner, start["values"], names),
-        "gain": {"percent": gain, "error": 1.23, "words": "a gain"},
+        "gain": gain_of(start["fresh"], winner["fresh"]),
         "landscape": landscape_of(dice, box, best_values, best_total),
         "effects": effects_of(dice, box, best_total)}
+
+
+def gain_of(start, winner):
+    """Returns the gain of a winner, and by opponent: every third is a loss."""
+    opponents = [{"name": own["name"], "percent": own["percent"] - other["percent"],
+                  "error": 2.5 + index / 10,
+                  "words": ["a loss", "a gain", "no difference that these fights show"][index % 3]}
+                 for index, (other, own) in enumerate(zip(start["opponents"],
+                                                          winner["opponents"]))]
+    return {"percent": winner["percent"] - start["percent"], "error": 1.23, "words": "a gain",
+            "opponents": opponents}
+
+
+def raced(sizes, box=None, has_totals=False):
+    """Returns a report of a race. `box` is what it says of the box."""
+    report = sample(sizes)
+    winner, start = report["winner"], report["start"]
+    for name in ["ranking", "fights", "check", "schedule"]:
+        del report[name]
+    for side in winner, start:
+        for name in ["rank", "setting", "tuned"]:
+            side.pop(name, None)
+    if not has_totals:
+        report |= {"landscape": None, "effects": []}
+    finalists = [{"values": side["values"], "percent": 50.5 + place, "fights": 1200 + place}
+                 for place, side in enumerate([winner, start])]
+    return report | {"box": box, "race": {"settings": 1513, "fights": 51234, "rise": 17.25,
+                                          "finalists": finalists}}
 
 
 def renamed(piece, names):
@@ -120,13 +145,19 @@ def hostile():
     report["commands"] = report["program"] = HOSTILE
     report["files"] = [{"name": name, "digest": name} for name in HOSTILE]
     for opponents in (report["opponents"], report["start"]["fresh"]["opponents"],
-                      report["winner"]["fresh"]["opponents"]):
+                      report["winner"]["fresh"]["opponents"], report["gain"]["opponents"]):
         for opponent, name in zip(opponents, HOSTILE):
             opponent["name"] = name
     return report
 
 
+BOX = {"settings": 243, "blocks": 12, "fights": 9876, "seconds": 3.2, "check": None, "first": 10,
+       "replaces": False, "schedule": {"fights": 96, "greatest": 288}}
 REPORTS = {
+    "a race": raced((3, 5, 2, 4)),
+    "a race and a box": raced((3, 5, 2, 4), BOX),
+    "a race and a box that was checked": raced(
+        (5, 5), BOX | {"check": "accepted best 7 total 99", "replaces": True}, has_totals=True),
     "one constant": sample((21,)),
     "two constants": sample((5, 5)),
     "four constants": sample((3, 5, 2, 4)),

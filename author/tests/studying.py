@@ -11,7 +11,7 @@ from .commands import AUTHOR, SECONDS, in_folders, run, wait_until
 from .study_place import OPPONENTS, PLANE, TEMPLATE, StudyPlace
 
 STAGES = ["inputs", "schedule", "template", "best", "fresh 1", "fresh 2", "fresh 3", "fresh 4",
-          "winner", "report"]
+          "fresh 5", "winner", "report"]
 
 
 def finds(place):
@@ -114,8 +114,8 @@ def typed(place):
     completed = subprocess.run(["sh", "-e", str(folder / "log.txt")], cwd=typed_folder,
                                timeout=SECONDS, env={**os.environ, "PATH": path},
                                capture_output=True)
-    yield compare("the commands of the log can be typed", (0, b"note: 5 settings\n"),
-                  (completed.returncode, completed.stderr))
+    yield compare("the commands of the log can be typed", (0, b"note: 5 settings"),
+                  (completed.returncode, completed.stderr.splitlines()[0]))
     names = ["template.red", "schedule.csv", "box.red", "best.cert", "best.txt", "winner.red",
              *(str(path.relative_to(folder)) for path in folder.glob("fresh/*")
                if path.suffix != ".inputs")]
