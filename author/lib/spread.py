@@ -25,7 +25,8 @@ from . import cert_inputs, spread_parts, spread_shares, tuning_files
 from .endings import Fault, end_as, end_by_kill_as_by_interrupt
 from .program import EXPLAIN, reading_output, rules_of, run_program
 from .spread_folder import SpreadFolder
-from .spread_jobs import HostJobs, LocalJobs
+from .spread_hosts import HostJobs
+from .spread_jobs import LocalJobs
 from .spread_parts import Part
 from .spread_progress import PartsProgress, SharesProgress
 from .spread_report import best_of, index_of, ranks_of, report_lines, write_whole

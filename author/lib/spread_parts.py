@@ -129,13 +129,12 @@ class Parts(SpreadFolder):
 
     PIECE, THROWN, INSTEAD = "part", "the parts", "CERT"
     # What a run that was killed may leave: `tune` writes a certificate to a file beside it, and
-    # then CERT.inputs.
-    UNFINISHED_FILES = r"(\d+|start)\.\d+\.\w+(\.inputs)?(\.unfinished-\d+)?|.*\.\d+\.new"
+    # then CERT.inputs, and rsync a file with six more letters.
+    UNFINISHED_FILES = (r"(\d+|start)\.\d+\.\w+(\.inputs)?(\.unfinished-\d+)?|.*\.\d+\.new|"
+                        r"\.\d+\.\d+\.tar\.\w{6}")
     OWN_FILES = rf"cwtune|[ts]\.(red|csv)|o\d+\.red|whole\.cert|\d+\.(cert|done)|{UNFINISHED_FILES}"
     SENT_KINDS = ["red"]
     RETURNED_KINDS = ["cert", "report", "fault"]
-    # What the shell does after a run on another host, which may have no certificate to send back.
-    SHELL_AFTER = "touch {piece}.cert; rm -f {piece}.cert.inputs; "
 
     def __init__(self, args, setting_count, tune_options):
         self.tune_options, self.args, self.template = tune_options, args, Template(args.template)

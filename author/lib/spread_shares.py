@@ -106,10 +106,9 @@ class Shares(SpreadFolder):
     """The folder CERT.shares, or another one."""
 
     PIECE, THROWN, INSTEAD = "share", "the shares", "folder by --work"
-    UNFINISHED_FILES = r"\d+\.\d+\.\w+|.*\.\d+\.new"
+    UNFINISHED_FILES = r"\d+\.\d+\.\w+|.*\.\d+\.new|\.\d+\.\d+\.tar\.\w{6}"
     OWN_FILES = rf"cwtune|[ts]\.(red|csv)|o\d+\.red|c\.cert|\d+\.done|{UNFINISHED_FILES}"
     RETURNED_KINDS = ["report", "fault"]
-    SHELL_AFTER = ""
 
     def __init__(self, args, setting_count, cert):
         self.cert, self.rules, self.keep = cert, rules_of(args), args.keep

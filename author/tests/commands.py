@@ -2,7 +2,7 @@
 import contextlib, os, pathlib, re, signal, subprocess, sys, tempfile, time, traceback
 from typing import NamedTuple
 
-from gate.tally import compare
+from gate.tally import LeftOut, compare
 
 AUTHOR = pathlib.Path(__file__).resolve().parents[1]
 EXAMPLES = AUTHOR.parent / "examples"
@@ -99,6 +99,8 @@ def played(trials):
         try:
             for part, wrong in trial:
                 yield f"{name}: {part}", wrong
+        except LeftOut as reason:
+            yield name, reason
         # A command that failed leaves less than a trial reads, so any exception may come of it.
         except Exception as fault:
             yield name, [f"broke off in {line_of(fault)}: {fault!r}"]
