@@ -14,7 +14,7 @@ import contextlib, os, pathlib, re, subprocess
 from typing import NamedTuple
 
 from .cert_inputs import sha256_of
-from .endings import Fault
+from .endings import STATUS_WORDS, Fault
 from .program import NO_CANDIDATE, rules_of
 from .spread_folder import SpreadFolder, copies_of
 from .spread_jobs import end_with_parent
@@ -87,6 +87,18 @@ def part_with(setting, part_count, setting_count):
                 if setting in settings_of(number, part_count, setting_count))
 
 
+def fault_of_job(path, otherwise):
+    """Returns what the job of a cluster wrote of its fault, `otherwise` if it had none, or that it
+    wrote nothing."""
+    try:
+        lines = pathlib.Path(path).read_text(errors="replace").splitlines()
+    except FileNotFoundError:
+        return f"no {path}: see slurm-ARRAY.out where sbatch was called"
+    words = tuple(f"{word}: " for word in STATUS_WORDS.values())
+    said = [line for line in lines if line.startswith(words)] or lines
+    return f"{path}: {said[0]}" if said else otherwise
+
+
 class ClusterParts:
     """The parts that the jobs of a cluster have written beside CERT.
 
@@ -114,6 +126,11 @@ class ClusterParts:
         if fault != ("" if report else NO_CANDIDATE):
             return None
         return part_of(number, self.piece_count, self.setting_count, report)
+
+    def fault(self, number):
+        """Returns why a part has no result."""
+        cert = self.cert(number)
+        return fault_of_job(f"{cert}.fault", f"{cert}.report is cut, or not there")
 
     def whole(self):
         """Returns where the certificate of the whole template is put together: a file that only

@@ -11,6 +11,7 @@ from .cert_inputs import sha256_of
 from .endings import Fault
 from .program import rules_of
 from .spread_folder import Copy, SpreadFolder, copies_of
+from .spread_parts import fault_of_job
 
 ACCEPTED = re.compile(r"accepted share (\d+)/(\d+) best (\d+) total (\d+)\n(?P<ranks>(rank .*\n)*)")
 REJECTED = re.compile(r"rejected row (\d+) (\w+)\n")
@@ -94,6 +95,12 @@ class ClusterShares:
         status = 0 if ACCEPTED.fullmatch(printed) else 1
         is_result = is_verdict(printed, status, number, self.piece_count, self.keep)
         return printed if is_result else None
+
+    def fault(self, number):
+        """Returns why a share has no result."""
+        check = f"{self.given_path}.{number}.check"
+        return fault_of_job(f"{check}.fault", f"{check} is cut, or of another certificate, number "
+                            "of shares or --keep")
 
     def refuse_changed_inputs(self):
         """Does nothing: `piece` takes only what is between two digests of CERT as it is now."""

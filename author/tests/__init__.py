@@ -12,6 +12,7 @@ spreading        `cwtune-spread`
 merging          `cwtune-spread` with what the jobs of a cluster leave, and with stand-ins for GNU
                  parallel
 hosts            `cwtune-spread` with GNU parallel, ssh, rsync and an sshd
+clusters         `examples/slurm.sh` with a Slurm
 sharing          the checks of `cwtune-spread`
 reporting        the page of a study
 
@@ -25,7 +26,7 @@ A trial that needs a tool which is not installed is left out, and named before t
 CWTUNE_ALL=1 it has failed.
 
 Their libraries: `commands` runs a command and plays tables of refusals, `spread_place` and
-`study_place` make the folders of two commands, `ssh_hosts` the hosts of `hosts`, and
-`report_samples` makes up the reports of `reporting`. In all of them a `result` is how a command ended (`commands.Result`), and `expected` is
-how it has to end.
+`study_place` make the folders of two commands, `ssh_hosts` and `slurm_place` the hosts and the Slurm, and
+`report_samples` makes up the reports of `reporting`. In all of them a `result` is how a command
+ended (`commands.Result`), and `expected` is how it has to end.
 """

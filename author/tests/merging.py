@@ -1,4 +1,5 @@
-"""Plays `cwtune-spread` with what the jobs of a cluster leave, and with stand-ins for GNU parallel."""
+"""Plays `cwtune-spread` with what the jobs of a cluster leave, and with stand-ins for GNU parallel.
+"""
 import argparse, os
 from unittest import mock
 
@@ -10,6 +11,7 @@ from .commands import SECONDS, in_folders
 from .spread_place import DECOY, RANKED, SpreadPlace, write_ranked
 
 NO_CERT = (3, "", "failed: CERT.2: No such file or directory\n")
+NO_REPORT = "failed: no result for part 2 of 3 (CERT.2.report is cut, or not there)\n"
 # What a stand-in for GNU parallel does first: if it is asked which hosts answer, this one does.
 PROBED = """case "$*" in *--nonall*) printf ':\\tready\\n'; exit;; esac\n"""
 ARCHIVES = """printf damaged >1.tar
@@ -90,9 +92,19 @@ def merged(place):
     yield compare("--merge --check", (0, "accepted"), (status, out.splitlines()[-1][:8]))
     place.clear()
     (place.folder / "CERT.2.report").write_bytes(b"")
+    yield compare("--merge without a report", (3, "", NO_REPORT, None), (
+        *place.spread("--merge=3", *DECOY), place.read("CERT")))
+    for text, said in [("note\nfailed: OutOfMemory\n", "CERT.2.fault: failed: OutOfMemory"),
+                       ("slurm.sh: cwtune: not found\n",
+                        "CERT.2.fault: slurm.sh: cwtune: not found")]:
+        place.write("CERT.2.fault", text)
+        yield compare(f"--merge with {said}", (
+            3, "", f"failed: no result for part 2 of 3 ({said})\n"),
+            place.spread("--merge=3", *DECOY))
+    (place.folder / "CERT.2.fault").unlink()
     yield compare("--merge without a part", (
-        3, "", "failed: no result for part 2 of 3\n", None),
-        (*place.spread("--merge=3", *DECOY), place.read("CERT")))
+        3, "", "failed: no result for part 2 of 3 (no CERT.2.fault: see slurm-ARRAY.out where "
+        "sbatch was called)\n"), place.spread("--merge=3", *DECOY))
 
 
 def merged_others(place):
@@ -131,8 +143,7 @@ def damaged(place):
     yield compare("a certificate that is missing", NO_CERT, place.spread("--merge=3", *DECOY))
     place.write("CERT.2", cert)
     place.write("CERT.2.report", report[:report.rindex(b" of ")])
-    yield compare("a report that is cut", (3, "", "failed: no result for part 2 of 3\n"),
-                  place.spread("--merge=3", *DECOY))
+    yield compare("a report that is cut", (3, "", NO_REPORT), place.spread("--merge=3", *DECOY))
     place.write("CERT.2.report", report)
     place.write("CERT.2.inputs", "a text\n")
     yield compare("a CERT.2.inputs that is damaged", (

@@ -16,8 +16,8 @@ from author.lib.program import program_of
 from author.lib.words import add_built, module_parser
 from gate.tally import compare, tally
 
-from . import (hosts, landscapes, merging, origins, refusals, reporting, sharing, spreading,
-               studying, varying, warriors)
+from . import (clusters, hosts, landscapes, merging, origins, refusals, reporting, sharing,
+               spreading, studying, varying, warriors)
 from .commands import (AUTHOR, SECONDS, TUNING, command, played, printed, run, started,
                        wait_until)
 
@@ -191,7 +191,7 @@ def all_trials(program, python, draws, replaces):
             "signals": signals(),
             **{f"{module.__name__.rpartition('.')[2]}.{name}": trial
                for module in (warriors, varying, origins, landscapes, studying, spreading, merging,
-                              sharing, hosts)
+                              sharing, hosts, clusters)
                for name, trial in module.trials(program).items()},
             **{f"reporting.{name}": trial for name, trial in reporting.trials().items()}}
 

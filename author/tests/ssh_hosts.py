@@ -1,8 +1,9 @@
 """Makes hosts of this machine for trials of `--hosts`, by sshd of its own on 127.0.0.1.
 
-A host is a key whose login has a home of its own below the folder of the trial, and may have another
-shell. `shared` has the home of this host, `noexec` cannot run the program, behind `silent` is a
-proxy that can stop passing bytes, `dying` has an sshd of its own, and at `dead` nobody listens.
+A host is a key whose login has a home of its own below the folder of the trial, and may have
+another shell. `shared` has the home of this host, `noexec` cannot run the program, before `silent`
+is a proxy that can stop passing bytes, `dying` has an sshd of its own, and at `dead` nobody
+listens.
 """
 import contextlib, os, pathlib, select, shutil, signal, socket, subprocess, threading, time
 
