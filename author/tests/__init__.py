@@ -26,7 +26,7 @@ A trial that needs a tool which is not installed is left out, and named before t
 CWTUNE_ALL=1 it has failed.
 
 Their libraries: `commands` runs a command and plays tables of refusals, `spread_place` and
-`study_place` make the folders of two commands, `ssh_hosts` and `slurm_place` the hosts and the Slurm, and
-`report_samples` makes up the reports of `reporting`. In all of them a `result` is how a command
-ended (`commands.Result`), and `expected` is how it has to end.
+`study_place` make the folders of two commands, `ssh_hosts` and `slurm_place` the hosts and the
+Slurm, and `report_samples` makes up the reports of `reporting`. In all of them a `result` is how a
+command ended (`commands.Result`), and `expected` is how it has to end.
 """
