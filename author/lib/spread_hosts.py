@@ -15,8 +15,8 @@ from .writing import naming
 ANSWER = "ready"
 PROBE = (f"if command -v tar && command -v rsync; then echo {ANSWER} >&2; "
          "else echo no tar or no rsync >&2; fi >/dev/null")
-# What GNU parallel runs for a piece.
-JOB = ('cd "$(mktemp -d ./XXXXXX)" && to=${{CWTUNE_SPREAD_FOLDER:-..}} && '
+# What GNU parallel runs for a piece. The archive of the inputs also says whose folder this is.
+JOB = ("touch {inputs} && cd $(mktemp -d ./XXXXXX) && to=${{CWTUNE_SPREAD_FOLDER:-..}} && "
        'tar -xf - <"$to/{inputs}" && exec sh ./job {inputs} {piece} "$to" {words}')
 SCRIPT = pathlib.Path(__file__).with_name("spread_job.sh")
 # With these statuses a piece has a result, which any host would have. With another one, as 3 on a

@@ -33,7 +33,6 @@ remove_left() {
 }
 
 trap 'remove "$temporary"; exit 1' HUP INT TERM
-: >>"../$inputs"
 remove_left
 "$@" >"$piece.report" 2>"$piece.fault" </dev/null
 status=$?
