@@ -30,6 +30,7 @@ SSH_OPTIONS = (f"-o BatchMode=yes -o ConnectTimeout={max(1, SECONDS // 6)} "
 # input.
 GUARD = 'read -r _; kill -KILL "$0"; pkill -TERM -s "$0"; sleep 1; pkill -KILL -s "$0"'
 MOST_TOLD = 5
+TOLD = set()
 
 
 def read_hosts(path):
@@ -45,11 +46,17 @@ def read_hosts(path):
 
 
 def tell_left_out(reasons):
-    """Says which hosts are left out, given the reasons by host, and of many how many more."""
-    for host, reason in list(reasons.items())[:MOST_TOLD]:
-        print(f"note: {host} is left out: {reason}", file=sys.stderr)
-    if len(reasons) > MOST_TOLD:
-        print(f"note: so are {len(reasons) - MOST_TOLD} more", file=sys.stderr)
+    """Says which hosts are left out, given the reasons by host, and of many how many more. Says
+    nothing of a host twice."""
+    lines = [f"note: {host.replace(f'{SSH_OPTIONS} ', '')} is left out: {reason}"
+             for host, reason in reasons.items() if host not in TOLD]
+    TOLD.update(reasons)
+    if len(lines) > MOST_TOLD:
+        lines[MOST_TOLD:] = [f"note: so are {len(lines) - MOST_TOLD} more hosts"]
+    for line in lines:
+        # A terminal may show the progress, and a host may send anything.
+        print("\r\x1b[K" * sys.stderr.isatty() + re.sub(r"[^ -~\xa0-\U0010ffff]", "?", line),
+              file=sys.stderr)
 
 
 class HostJobs:
@@ -130,8 +137,10 @@ class HostJobs:
         """Returns the words of GNU parallel, which puts a number in place of each `{}`."""
         inputs, piece = self.inputs.name, f"{{}}.{self.folder.pid}"
         job = JOB.format(inputs=inputs, piece=piece, words=" ".join(self.folder.words("{}")))
-        return ["--jobs", str(self.args.jobs), "--retries", str(host_count + 2), "--workdir", "...",
-                "--transferfile", inputs, "--return", f"{piece}.tar", f"sh -c {shlex.quote(job)}"]
+        # Of more than ten logins at once sshd refuses some.
+        return ["--jobs", str(self.args.jobs), "--retries", str(host_count + 2),
+                "--sshdelay", "0.1", "--workdir", "...", "--transferfile", inputs,
+                "--return", f"{piece}.tar", f"sh -c {shlex.quote(job)}"]
 
     def keep_running(self):
         """Returns whether GNU parallel was running at the last call of `take_ended`."""
@@ -182,12 +191,13 @@ class HostJobs:
         folder = self.folder
         # A job that is tried again makes another archive, so this one gets another name.
         archive = folder.file(number, "tar").rename(folder.file(number, "taken"))
-        with (contextlib.suppress(OSError, ValueError, LookupError, tarfile.TarError),
-              tarfile.open(archive) as files):
+        with (contextlib.suppress(ValueError, LookupError, tarfile.TarError),
+              tarfile.open(archive, "r:") as files):
+            members = {member.name: member for member in files if member.isreg()}
             for path in [folder.file(number, kind) for kind in folder.RETURNED_KINDS]:
-                with files.extractfile(path.name) as source, path.open("wb") as file:
+                with files.extractfile(members[path.name]) as source, path.open("wb") as file:
                     shutil.copyfileobj(source, file)
-            return int(files.extractfile(folder.file(number, "status").name).read())
+            return int(files.extractfile(members[folder.file(number, "status").name]).read())
         return None
 
     def stop(self):

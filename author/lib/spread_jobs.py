@@ -3,14 +3,17 @@
 A folder says what each job is, by the number of a piece or the player of a heat: `prepare` writes
 what it reads, `words` is what it runs in `path`, and `file` where each kind of output goes.
 """
-import ctypes, signal, subprocess
+import ctypes, os, signal, subprocess
 
 PR_SET_PDEATHSIG = 1
+PARENT = os.getpid()
 
 
 def end_with_parent():
     """Has the kernel kill the new process when this one ends, even if this one is killed."""
     ctypes.CDLL(None).prctl(PR_SET_PDEATHSIG, signal.SIGKILL)
+    if os.getppid() != PARENT:
+        os._exit(1)
 
 
 class LocalJobs:

@@ -1,5 +1,5 @@
 """Plays `cwtune-spread --hosts` with GNU parallel, ssh, rsync and an sshd of its own."""
-import os, pathlib, re, shutil, signal, subprocess, tempfile, time
+import os, pathlib, shutil, signal, subprocess, tempfile, time
 from unittest import mock
 
 from gate.tally import LeftOut, compare
@@ -11,7 +11,11 @@ from .ssh_hosts import SHELLS, SSHD, SshHosts, running_in
 TOOLS = ["parallel", "ssh", "ssh-keygen", "rsync"]
 # The name of a folder that is code for GNU parallel, for Perl and for shells.
 ODD = """{= $_=`touch pwned-here` =} $(touch pwned) `touch pwned` {} '"; touch pwned #\n-x"""
-SLOW = """case $1$2 in tune--part*) sleep 1;; esac; exec {program} "$@"\n"""
+# A stand-in for the program, which takes a second for a part, and which a host cannot run.
+SLOW = """case $HOME in */home-noexec) echo ./cwtune: Permission denied >&2; exit 126;; esac
+case $1$2 in tune--part*) sleep 1;; esac
+exec {program} "$@"
+"""
 
 
 def refuse_missing_tools():
@@ -64,30 +68,30 @@ def with_hosts(program, trial):
 
 
 def good(place):
-    """Tunes and checks on hosts that are good, dead, or this one."""
+    """Tunes and checks on hosts that are good, one by an ssh of its own, dead, or this one."""
     tuned = place.tuned()
-    status, out, err = place.on("good dead :", "--parts=4", "--jobs=2", "--check", "--shares=3",
-                                *DECOY)
+    place.write("hosts", f"good\n1/ssh -F {place.hosts.folder}/config shared\n\n#x\ndead\n:\n")
+    status, out, err = place.spread("--hosts=hosts", "--parts=4", "--jobs=1", "--check",
+                                    "--shares=4", *DECOY)
+    report, accepted, verdict = out.rpartition("accepted")
+    yield compare("a tuning with a check", (tuned, (0, accepted + verdict), NOTHING), (
+        (without_fights(Result(status, report, "")), place.check(DECOY)), place.verdict(DECOY),
+        place.remains()))
     note = "note: dead is left out: ssh: connect to host 127.0.0.1 port "
-    yield compare("a dead host is named", [note, note],
+    yield compare("a dead host is named once", [note],
                   [line[:len(note)] for line in err.splitlines()])
-    *_, verdict = lines = out.splitlines()
-    yield compare("a tuning with a check", (tuned, (0, f"{verdict}\n"), NOTHING), (
-        (without_fights(Result(status, "\n".join(lines[:-1]), "")), place.check(DECOY)),
-        place.verdict(DECOY), place.remains()))
 
 
 def failing(place):
     """Tunes on a host that cannot run the program, alone and beside another one."""
     tuned = place.tuned()
-    status, out, err = place.on("noexec", "--parts=1", *DECOY)
+    words = ["--program=./slow", "--jobs=1", *DECOY]
     line = ("failed: no result for part 1 of 1 (./cwtune: Permission denied)\n0 of 1 parts are "
             "done, and kept in CERT.parts: repeat the command to run the others\n")
-    yield compare("alone", (3, "", line), (status, out, re.sub(r"\./job: \d+: ", "", err)))
+    yield compare("alone", (3, "", line), place.on("noexec", "--parts=1", *words))
     place.clear()
-    came = place.on("noexec good", "--parts=2", "--jobs=1", *DECOY)
-    yield compare("beside another", (tuned, NOTHING), (
-        place.found(DECOY, came), place.remains()))
+    came = place.on("noexec good", "--parts=2", *words)
+    yield compare("beside another", (tuned, NOTHING), (place.found(DECOY, came), place.remains()))
 
 
 def three(place):

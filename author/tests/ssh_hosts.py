@@ -1,9 +1,9 @@
 """Makes hosts of this machine for trials of `--hosts`, by sshd of its own on 127.0.0.1.
 
 A host is a key whose login has a home of its own below the folder of the trial, and may have
-another shell. `shared` has the home of this host, `noexec` cannot run the program, before `silent`
-is a proxy that can stop passing bytes, `dying` has an sshd of its own, and at `dead` nobody
-listens.
+another shell. `shared` has the home of this host, before `silent` is a proxy that can stop passing
+bytes, `dying` has an sshd of its own, and at `dead` nobody listens. `noexec` is known by its home to
+a program that has to fail there.
 """
 import contextlib, os, pathlib, select, shutil, signal, socket, subprocess, threading, time
 
@@ -36,12 +36,8 @@ SSH_CONFIG_OF_ALL = """Host *
   LogLevel ERROR
 """
 LOGIN = """cd "$1" || exit
-export HOME="$1" SHELL="$2" PATH="$3:{path}"
+export HOME="$1" SHELL="$2" PATH="{path}"
 exec "$2" -c "$SSH_ORIGINAL_COMMAND"
-"""
-# A host on which files that were sent cannot be run.
-TAR = """#!/bin/sh
-/bin/tar "$@" && if [ -e cwtune ]; then chmod -x cwtune; fi
 """
 
 
@@ -131,9 +127,6 @@ class SshHosts:
             subprocess.run(["ssh-keygen", "-q", "-t", "ed25519", "-N", "", "-f",
                             self.folder / name], check=True)
         (self.folder / "login").write_text(LOGIN.format(path=PATH))
-        (self.folder / "tools").mkdir()
-        (self.folder / "tools/tar").write_text(TAR)
-        (self.folder / "tools/tar").chmod(0o755)
         (self.folder / "authorized").write_text("".join(map(self.authorized, NAMES)))
         if os.getuid() == 0 and not SEPARATION.exists():
             SEPARATION.mkdir()
@@ -164,8 +157,7 @@ class SshHosts:
 
     def authorized(self, name):
         """Returns the line of a key, with what its login runs."""
-        words = ["sh", self.folder / "login", self.home(name), SHELLS.get(name) or "/bin/sh",
-                 self.folder / "tools" if name == "noexec" else "/"]
+        words = ["sh", self.folder / "login", self.home(name), SHELLS.get(name) or "/bin/sh"]
         key = (self.folder / f"{name}.pub").read_text()
         return f'command="{" ".join(map(str, words))}" {key}'
 
