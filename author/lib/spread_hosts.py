@@ -4,7 +4,8 @@ GNU parallel sends the program and the inputs as one archive to a temporary fold
 host, where spread_job.sh runs the piece, and takes an archive of what came of it back. On this host
 the same is done without sending. No word that GNU parallel or a shell reads has a name of the
 user's in it: all names in the folder of the pieces are fixed ones, its own path is in the
-environment of the jobs of this host, and the hosts are read from a copy of their file.
+environment of the jobs of this host, and the hosts are read from a copy of their file. What is for
+all pieces, as that copy, has the number 0 in its name.
 """
 import contextlib, hashlib, os, pathlib, re, shlex, shutil, socket, subprocess, sys, tarfile
 
@@ -24,7 +25,7 @@ SCRIPT = pathlib.Path(__file__).with_name("spread_job.sh")
 RESULTS = {0, 1, 2}
 # How long a host that is silent is waited for. Only trials set the variable.
 SECONDS = int(os.environ.get("CWTUNE_SILENT_SECONDS", "60"))
-SSH_OPTIONS = (f"-o BatchMode=yes -o ConnectTimeout={max(1, SECONDS // 6)} "
+SSH_OPTIONS = (f"-o BatchMode=yes -o ConnectTimeout={max(2, SECONDS // 6)} "
                f"-o ServerAliveInterval={max(1, SECONDS // 4)} -o ServerAliveCountMax=3")
 # Ends GNU parallel and all processes of its session, once nobody has the other end of the standard
 # input.

@@ -11,9 +11,10 @@ from .ssh_hosts import SHELLS, SSHD, SshHosts, running_in
 TOOLS = ["parallel", "ssh", "ssh-keygen", "rsync"]
 # The name of a folder that is code for GNU parallel, for Perl and for shells.
 ODD = """{= $_=`touch pwned-here` =} $(touch pwned) `touch pwned` {} '"; touch pwned #\n-x"""
-# A stand-in for the program, which takes a second for a part, and which a host cannot run.
+# A stand-in for the program, which takes a second for a part, or a minute while there is a file
+# `held`, and which a host cannot run.
 SLOW = """case $HOME in */home-noexec) echo ./cwtune: Permission denied >&2; exit 126;; esac
-case $1$2 in tune--part*) sleep 1;; esac
+case $1$2 in tune--part*) sleep 1; [ ! -e {folder}/held ] || sleep 60;; esac
 exec {program} "$@"
 """
 
@@ -31,7 +32,7 @@ class HostsPlace(SpreadPlace):
     def __init__(self, program, folder, hosts):
         super().__init__(program, folder)
         self.hosts = hosts
-        self.write_program("slow", SLOW.format(program=program))
+        self.write_program("slow", SLOW.format(program=program, folder=folder))
 
     def tuned(self):
         """Returns what one tuning without hosts finds."""
@@ -97,15 +98,20 @@ def failing(place):
 def three(place):
     """Tunes on three hosts of which one dies, one goes silent and one cannot run the program, and
     on this one."""
-    tuned = place.tuned()
+    place.tune(*DECOY)
+    best = place.read("CERT").splitlines()[:2]
+    place.clear()
     place.write("hosts", "dying\nsilent\nnoexec\n:\n")
     words = ["--program=./slow", "--hosts=hosts", "--parts=8", "--jobs=1", "--check", *DECOY]
-    with place.start_spread(*words, stderr=subprocess.DEVNULL) as job:
+    with (mock.patch.dict(os.environ, {"CWTUNE_SILENT_SECONDS": "4"}),
+          place.start_spread(*words, stderr=subprocess.DEVNULL) as job):
         place.wait_for(2, job)
         place.hosts.kill("dying")
         place.hosts.proxy.silence.set()
-        yield compare("the status", 0, job.wait(SECONDS))
-    yield compare("the certificate", (tuned[1], []), (place.check(DECOY), place.remains()[2]))
+        status = job.wait(SECONDS)
+    yield compare("the certificate", (0, best, 0, []), (
+        status, (place.read("CERT") or b"").splitlines()[:2], place.check(DECOY),
+        place.remains()[2]))
 
 
 def refused(place):
@@ -147,12 +153,12 @@ def names(place):
 def shells(place):
     """Tunes on hosts with other login shells, and for somebody who has one."""
     tuned = place.tuned()
-    installed = [name for name, shell in SHELLS.items() if shell]
-    if not installed:
-        raise LeftOut("no tcsh, no fish")
-    for name in installed:
-        with mock.patch.dict(os.environ, {"SHELL": SHELLS[name]}):
-            came = place.on(f"{name} :", "--parts=3", *DECOY)
+    for name, shell in SHELLS.items():
+        if not shell:
+            yield name, LeftOut(f"no {name}")
+            continue
+        with mock.patch.dict(os.environ, {"SHELL": shell}):
+            came = place.on(f"{name} :", "--parts=2", "--jobs=1", *DECOY)
         yield compare(name, (tuned, NOTHING), (place.found(DECOY, came), place.remains()))
         place.clear()
 
@@ -165,9 +171,12 @@ def kills(place):
     for number, signal_number in enumerate([signal.SIGKILL, signal.SIGHUP, signal.SIGTERM], 1):
         with place.start_spread(*words, stderr=subprocess.DEVNULL) as job:
             place.wait_for(number, job)
+            place.write("held", "")
+            time.sleep(1.5)
             job.send_signal(signal_number)
             job.wait(SECONDS)
         running, _, _ = place.remains()
+        (place.folder / "held").unlink()
         yield compare(f"signal {signal_number} leaves nothing running", [], running)
     yield compare("the command again", (tuned, NOTHING), (
         place.found(DECOY, place.spread(*words)), place.remains()))

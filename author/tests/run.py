@@ -56,7 +56,7 @@ PICTURES = {
                         "--opponent 3",
 }
 # Fails without matplotlib, and with a Python that is too old for the commands.
-HAS_MATPLOTLIB = "import matplotlib, sys; sys.exit(sys.version_info < (3, 11))"
+HAS_MATPLOTLIB = "import matplotlib.pyplot, sys; sys.exit(sys.version_info < (3, 11))"
 
 
 def draw(python, words):

@@ -176,8 +176,7 @@ class SshHosts:
 
     def environment(self):
         """Returns the variables for a command that uses the hosts."""
-        return {"HOME": str(self.home("here")), "PARALLEL_SSH": f"ssh -F {self.folder}/config",
-                "CWTUNE_SILENT_SECONDS": "4"}
+        return {"HOME": str(self.home("here")), "PARALLEL_SSH": f"ssh -F {self.folder}/config"}
 
     def left(self):
         """Returns what is left in the temporary folders of GNU parallel on all hosts."""
