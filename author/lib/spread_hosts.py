@@ -14,19 +14,29 @@ from .writing import naming
 
 # What a host says if it can run pieces.
 ANSWER = "ready"
-PROBE = (f"if command -v tar && command -v rsync; then echo {ANSWER} >&2; "
-         "else echo no tar or no rsync >&2; fi >/dev/null")
-# What GNU parallel runs for a piece. The archive of the inputs also says whose folder this is.
+# What asks a host for that. First removes what earlier runs of the same work left there that were
+# killed, or lost the host: temporary folders with inputs of this work, and empty ones.
+PROBE = """cd ~/.parallel/tmp 2>/dev/null && for old in *-[0-9]*-[0-9]*; do
+    for file in "$old"/0.*.{inputs} "$old"/.0.*.{inputs}.*; do
+        if [ -e "$file" ]; then rm -rf "$old"; fi
+    done
+    rmdir "$old" 2>/dev/null
+done
+if command -v tar >/dev/null && command -v rsync >/dev/null; then echo {answer}
+else echo no tar or no rsync; fi
+"""
+# What GNU parallel runs for a piece. The archive of the inputs also says of which work a folder is.
 JOB = ("touch {inputs} && cd $(mktemp -d ./XXXXXX) && to=${{CWTUNE_SPREAD_FOLDER:-..}} && "
-       'tar -xf - <"$to/{inputs}" && exec sh ./job {inputs} {piece} "$to" {words}')
+       'tar -xf - <"$to/{inputs}" && exec sh ./job {piece} "$to" {words}')
 SCRIPT = pathlib.Path(__file__).with_name("spread_job.sh")
 # With these statuses a piece has a result, which any host would have. With another one, as 3 on a
 # host without memory and 126 on one that cannot run the program, it is tried on another host.
 RESULTS = {0, 1, 2}
-# How long a host that is silent is waited for. Only trials set the variable.
+# After how long a silent host is given up: a job there ends after two thirds of it, and then two
+# connections fail. Only trials set the variable.
 SECONDS = int(os.environ.get("CWTUNE_SILENT_SECONDS", "60"))
 SSH_OPTIONS = (f"-o BatchMode=yes -o ConnectTimeout={max(2, SECONDS // 6)} "
-               f"-o ServerAliveInterval={max(1, SECONDS // 4)} -o ServerAliveCountMax=3")
+               f"-o ServerAliveInterval={max(1, SECONDS // 6)} -o ServerAliveCountMax=3")
 # Ends GNU parallel and all processes of its session, once nobody has the other end of the standard
 # input.
 GUARD = 'read -r _; kill -KILL "$0"; pkill -TERM -s "$0"; sleep 1; pkill -KILL -s "$0"'
@@ -71,8 +81,6 @@ class HostJobs:
             if not shutil.which(tool):
                 raise Fault(f"--hosts needs GNU parallel and rsync, and there is no {tool}", 2)
         self.args, self.folder, self.waiting = args, folder, list(numbers)
-        # All runs of this folder have the same ending, by which hosts know what is left of earlier
-        # ones.
         of_folder = hashlib.sha256(os.fsencode(f"{socket.gethostname()} {folder.path}"))
         self.inputs = folder.file(0, f"inputs{of_folder.hexdigest()[:16]}")
         self.hosts, self.parallel = read_hosts(args.hosts), None
@@ -111,7 +119,8 @@ class HostJobs:
         """Leaves in the copy of the file of hosts only those that answer. Returns how many."""
         copy = self.folder.file(0, "hosts")
         copy.write_text("\n".join(self.hosts), errors="surrogateescape")
-        self.start(["--nonall", "--tag", "--jobs", "0", PROBE], subprocess.DEVNULL, subprocess.PIPE)
+        probe = PROBE.format(inputs=self.inputs.name.rpartition(".")[2], answer=ANSWER)
+        self.start(["--nonall", "--tag", "--jobs", "0", probe], subprocess.DEVNULL, subprocess.PIPE)
         output = self.parallel.communicate()[0].decode(errors="surrogateescape")
         self.stop()
         lines = re.findall(r"([^\t\n]+)\t([^\r\n]+)", output)
