@@ -25,8 +25,9 @@ done
 if command -v tar >/dev/null && command -v rsync >/dev/null; then echo {answer}
 else echo no tar or no rsync; fi
 """
-# What GNU parallel runs for a piece. The archive of the inputs also says of which work a folder is.
-JOB = ("touch {inputs} && cd $(mktemp -d ./XXXXXX) && to=${{CWTUNE_SPREAD_FOLDER:-..}} && "
+# What GNU parallel runs for a piece. `echo` fails if the connection is gone already, which GNU
+# parallel only sees later. The archive of the inputs also says of which work a folder is.
+JOB = ("echo && touch {inputs} && cd $(mktemp -d ./XXXXXX) && to=${{CWTUNE_SPREAD_FOLDER:-..}} && "
        'tar -xf - <"$to/{inputs}" && exec sh ./job {piece} "$to" {words}')
 SCRIPT = pathlib.Path(__file__).with_name("spread_job.sh")
 # With these statuses a piece has a result, which any host would have. With another one, as 3 on a
