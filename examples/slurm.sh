@@ -59,6 +59,7 @@ check_share() {
 
 # Removes what a job leaves that ends early.
 clean_up() {
+    trap '' HUP INT TERM
     rm -rf "$work"
     rm -f "$own".*.new "$own".unfinished-* "$own".inputs.unfinished-*
 }

@@ -11,6 +11,7 @@ shift 2
 
 # Removes the temporary folder of GNU parallel, and nothing else.
 clean_up() {
+    trap '' HUP INT TERM
     temporary=$(dirname "$PWD")
     case $temporary in
         */.parallel/tmp/*-[0-9]*-[0-9]*) rm -rf "$temporary" ;;
