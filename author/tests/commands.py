@@ -68,6 +68,16 @@ def wait_until(is_so, job):
     return value
 
 
+def running_in(folder):
+    """Returns the words of the processes that are at work below a folder."""
+    found = []
+    for path in pathlib.Path("/proc").glob("[0-9]*/cwd"):
+        with contextlib.suppress(OSError):
+            if path.readlink().is_relative_to(folder):
+                found.append((path.parent / "cmdline").read_bytes().replace(b"\0", b" ").decode())
+    return found
+
+
 def printed(*words, **options):
     """Returns all that a command prints, and its status if that is not 0."""
     status, out, err = run(*words, **options)

@@ -4,9 +4,9 @@ from unittest import mock
 
 from gate.tally import LeftOut, compare
 
-from .commands import SECONDS, Result
+from .commands import SECONDS, Result, running_in
 from .spread_place import DECOY, SpreadPlace, without_fights
-from .ssh_hosts import SHELLS, SSHD, SshHosts, running_in
+from .ssh_hosts import SHELLS, SSHD, SshHosts
 
 TOOLS = ["parallel", "ssh", "ssh-keygen", "rsync"]
 # The name of a folder that is code for GNU parallel, for Perl and for shells.

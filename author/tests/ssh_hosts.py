@@ -2,8 +2,8 @@
 
 A host is a key whose login has a home of its own below the folder of the trial, and may have
 another shell. `shared` has the home of this host, before `silent` is a proxy that can stop passing
-bytes, `dying` has an sshd of its own, and at `dead` nobody listens. `noexec` is known by its home to
-a program that has to fail there.
+bytes, `dying` has an sshd of its own, and at `dead` nobody listens. A program that has to fail on
+`noexec` knows it by its home.
 """
 import contextlib, os, pathlib, select, shutil, signal, socket, subprocess, threading, time
 
@@ -102,16 +102,6 @@ def kill_all(pid):
     for one in found:
         with contextlib.suppress(ProcessLookupError):
             os.kill(one, signal.SIGKILL)
-
-
-def running_in(folder):
-    """Returns the words of the processes that are at work below a folder."""
-    found = []
-    for path in pathlib.Path("/proc").glob("[0-9]*/cwd"):
-        with contextlib.suppress(OSError):
-            if path.readlink().is_relative_to(folder):
-                found.append((path.parent / "cmdline").read_bytes().replace(b"\0", b" ").decode())
-    return found
 
 
 class SshHosts:
