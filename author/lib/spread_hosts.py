@@ -127,7 +127,7 @@ class HostJobs:
         lines = re.findall(r"([^\t\n]+)\t([^\r\n]+)", output)
         ready = [host for host, line in lines if line == ANSWER]
         tell_left_out({host: line for host, line in reversed(lines) if host not in ready})
-        if not ready:
+        if not ready and self.waiting:
             raise Fault(f"no host of {self.args.hosts} is ready", 3)
         copy.write_text("\n".join(ready), errors="surrogateescape")
         return len(ready)
@@ -188,8 +188,9 @@ class HostJobs:
     def complaint(self):
         """Returns the first line that GNU parallel, ssh or rsync wrote, or how it ended."""
         log = self.folder.file(0, "fault").read_text(errors="surrogateescape")
-        lines = filter(None, map(str.strip, log.splitlines()))
-        return next(lines, f"GNU parallel ended with status {self.parallel.returncode}")
+        lines = (line.strip() for line in log.splitlines() if "Warning: " not in line)
+        return next(filter(None, lines),
+                    f"GNU parallel ended with status {self.parallel.returncode}")
 
     def returned(self):
         """Returns the numbers of the jobs of which an archive came back."""

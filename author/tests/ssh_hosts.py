@@ -13,6 +13,7 @@ SHELLS = {"tcsh": shutil.which("tcsh"), "fish": shutil.which("fish")}
 NAMES = ["good", "shared", "noexec", "silent", "dying", "dead", *SHELLS]
 # A directory that sshd wants to see if root runs it.
 SEPARATION = pathlib.Path("/run/sshd")
+# With that SHLVL bash does not read ~/.bashrc, as it does in a login by ssh.
 SSHD_CONFIG = """Port {port}
 ListenAddress 127.0.0.1
 HostKey {folder}/key
@@ -23,6 +24,7 @@ StrictModes no
 PermitRootLogin prohibit-password
 PasswordAuthentication no
 MaxStartups 100
+SetEnv SHLVL=1
 """
 SSH_CONFIG = """Host {name}
   Port {port}
