@@ -16,7 +16,8 @@ look:
 	@sh examples/look.sh
 
 # Runs the whole gate. On a copy of the tree that is every proof, every test, every edit that must
-# be refused, and all that tries the program, with one last line `N passed, N failed`.
+# be refused, and all that tries the program, with one last line `N passed, N failed`. Installs
+# nothing: trials whose tools are not installed are left out, and named before the last line.
 test:
 	@$(PYTHON) gate.gate
 
@@ -49,8 +50,8 @@ memory: build
 	@$(PYTHON) gate.refuse.memory $(PROGRAM)
 
 # Runs the commands for authors on the examples. Proves and builds the program first, and compares
-# with the stored results (docs/TOOLS.md has the commands). Needs matplotlib for the pictures, and
-# says which Debian package has it.
+# with the stored results (docs/TOOLS.md has the commands). Leaves out the trials whose tools are
+# not installed, and names them.
 tools: build
 	@$(PYTHON) author.tests.run
 

@@ -7,11 +7,10 @@ results, and is not repeated. The exit status is 3 if a search fails.
 import concurrent.futures, math, os, pathlib, re, subprocess, sys, tempfile, time
 from typing import NamedTuple
 
-from author.lib.endings import Fault, run_tool
+from author.lib.endings import Fault, end_with_parent, run_tool
 from author.lib.grid import Grid
 from author.lib.program import Rules, program_of
 from author.lib.series import series
-from author.lib.spread_jobs import end_with_parent
 from author.lib.tuning_files import Fight, schedule_text
 from author.lib.warrior import equ_line
 from author.lib.words import add_program, module_parser, number_from

@@ -4,7 +4,7 @@ looks whether `classes.py` has something to write.
 Each module that can be run has to be in a list here, and each of `gate` in those of gate.gate and
 of gate/__init__.py.
 """
-import itertools, pathlib, re, subprocess, sys, tempfile
+import itertools, os, pathlib, re, subprocess, sys, tempfile
 
 import gate
 from author.lib.endings import Fault, run_tool
@@ -34,6 +34,7 @@ REFUSED = {
     "rt test": ["gate.refuse.growth"],
 }
 FAILING = "/bin/false"
+TALLY = "from gate.tally import *; exit(tally([('a', []), ('b', LeftOut('no x'))]))"
 # What a case says that is refused, and what is said of it.
 CASES = {'words = "asm $smal dat.red"\nstatus = 0': "no words for `$smal`\n",
          'words = "asm \'dat.red"\nstatus = 0': "`words`: No closing quotation\n",
@@ -57,8 +58,19 @@ def failing():
     said = "failed: stone.red: a search ended with status 1\n"
     yield compare(" ".join(words), (3, "", said), run(*words))
     yield "a listing of pMARS that is refused", refused_listing()
+    yield from left_out()
     for text, said in CASES.items():
         yield compare(f"a case with {text!r}", (1, "", said), played(text))
+
+
+def left_out():
+    """Has trials counted of which one is left out, without CWTUNE_ALL and with it."""
+    for value, expected in [("", (0, "left out: b: no x\n1 passed, 0 failed\n")),
+                            ("1", (1, "b: left out\nleft out: b: no x\n1 passed, 1 failed\n"))]:
+        done = subprocess.run([sys.executable, "-c", TALLY], cwd=ROOT, text=True,
+                              env={**os.environ, "CWTUNE_ALL": value}, capture_output=True)
+        yield compare(f"a trial that is left out, {value!r}", expected,
+                      (done.returncode, done.stdout))
 
 
 def played(text):

@@ -106,8 +106,8 @@ def checks(program):
 
 def shares(program):
     """Has slurm.sh check a share of a right certificate, and of a wrong one."""
-    words = ["sh", EXAMPLES / "slurm.sh", "--check", *WORDS, *RULES]
-    job = {"CWTUNE": program, "SLURM_ARRAY_TASK_ID": "2", "SLURM_ARRAY_TASK_COUNT": "2"}
+    words = ["sh", EXAMPLES / "slurm.sh", "--check", "2", *WORDS, *RULES]
+    job = {"CWTUNE": program, "SLURM_ARRAY_TASK_ID": "2"}
     wrong = CERT.replace("cap,2,0:3 1:1", "cap,2,0:3 1:3")
     for name, cert, status in [("a right share", CERT, 0), ("a wrong share", wrong, 1)]:
         with in_folder(program, {**FILES, "CERT": cert}) as place:

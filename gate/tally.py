@@ -1,4 +1,9 @@
 """Counts what was tried, and prints it as the last line of a run."""
+import os
+
+
+class LeftOut(Exception):
+    """Why a trial is left out, as `no rsync`."""
 
 
 def compare(name, expected, came):
@@ -9,14 +14,19 @@ def compare(name, expected, came):
 def tally(trials, before=""):
     """Prints what failed, and as its last line `N passed, N failed`. Returns the exit status.
 
-    Each of the trials, or cases, is a name, and a list of what was wrong. Status 1: one failed, or
-    there were none.
+    Each of the trials, or cases, is a name, and a list of what was wrong, or why it was left out.
+    Those are printed before the last line, and with CWTUNE_ALL=1 they have failed. Status 1: one
+    failed, or there were none.
     """
     passed = failed = 0
+    lines_left_out = []
     for name, wrong in trials:
-        passed += not wrong
+        if isinstance(wrong, LeftOut):
+            lines_left_out.append(f"left out: {name}: {wrong}")
+            wrong = ["left out"] if os.environ.get("CWTUNE_ALL") == "1" else None
+        passed += wrong == []
         failed += bool(wrong)
-        for line in wrong:
+        for line in wrong or []:
             print(f"{name}: {line}")
-    print(f"{before}{passed} passed, {failed} failed")
+    print(*lines_left_out, f"{before}{passed} passed, {failed} failed", sep="\n")
     return 1 if failed or not passed else 0

@@ -26,7 +26,8 @@ from .endings import Fault, end_as
 from .program import EXPLAIN, reading_output, rules_of, run_program
 from .regular import refuse_endless
 from .spread_folder import SpreadFolder
-from .spread_jobs import HostJobs, LocalJobs
+from .spread_hosts import HostJobs
+from .spread_jobs import LocalJobs
 from .spread_parts import Part
 from .spread_progress import PartsProgress, SharesProgress
 from .spread_report import best_of, index_of, ranks_of, report_lines, write_whole
@@ -115,8 +116,7 @@ def check(args, setting_count, notes, cert):
               else spread_shares.Shares(args, setting_count, cert))
     progress = SharesProgress(shares, args.progress)
     with explaining_stop(shares, progress):
-        faults = {} if merges else run_jobs(args, shares, progress)
-        refuse_missing(shares, progress, faults)
+        refuse_missing(shares, progress, run_jobs(args, shares, progress))
         shares.refuse_changed_inputs()
         verdict = spread_shares.verdict_of(progress.done(), cert)
         shares.clean_up()
@@ -137,7 +137,10 @@ def explaining_stop(folder, progress):
 
 
 def run_jobs(args, folder, progress):
-    """Runs the pieces that are not done. Returns for each its fault, or None if it has a result."""
+    """Runs the pieces that are not done, if they are not those of a cluster. Returns for each its
+    fault, or None if it has a result."""
+    if not isinstance(folder, SpreadFolder):
+        return {number: folder.fault(number) for number in progress.numbers_left()}
     faults, jobs = {}, None
     try:
         progress.show()
@@ -283,7 +286,7 @@ def tune(args, setting_count, notes):
         part = f"{number}/{args.merge}"
         cert_inputs.refuse_other_tuning(args, folder.cert(number), part, method_of(args))
     with explaining_stop(folder, progress):
-        refuse_missing(folder, progress, {} if args.merge else run_jobs(args, folder, progress))
+        refuse_missing(folder, progress, run_jobs(args, folder, progress))
         try:
             return finish(args, folder, progress, notes)
         finally:

@@ -13,7 +13,7 @@ settings reaches its floor, its report and its certificate say so.
 import contextlib, dataclasses, os, pathlib, re, subprocess
 from typing import Annotated, NamedTuple
 
-from .endings import Fault, end_with_parent
+from .endings import STATUS_WORDS, Fault, end_with_parent, shown
 from .grid import NAME
 from .program import NO_CANDIDATE, rules_of
 from .regular import read_regular, sha256_of
@@ -23,6 +23,9 @@ from .tuning_files import MOST_BYTES, Template
 
 # A count that `cwtune` prints, and the values of a setting.
 COUNT, CONSTANTS = r"\d{1,20}", rf"{NAME}=-?\d{{1,5}}(?: {NAME}=-?\d{{1,5}})*"
+# The kinds of files that the job of a piece has: its output, and on other hosts its archives, the
+# inputs of all pieces, and the hosts.
+JOB_KINDS = r"report|fault|status|new|tar|taken|inputs[0-9a-f]{16}|hosts"
 # More than a report has that ranks as many as `cwtune` keeps.
 MOST_REPORT_BYTES = 1 << 20
 RANK = rf"rank {COUNT} setting ({COUNT}) total ({COUNT})(?: ({CONSTANTS}))?\n"
@@ -103,6 +106,18 @@ class PartResult:
     cert: Sha256 | None
 
 
+def fault_of_job(path, otherwise):
+    """Returns what the job of a cluster wrote of its fault, `otherwise` if it had none, or that it
+    wrote nothing."""
+    try:
+        lines = pathlib.Path(path).read_text(errors="replace").splitlines()
+    except FileNotFoundError:
+        return f"no {path}: see slurm-ARRAY.out where sbatch was called"
+    words = tuple(f"{word}: " for word in STATUS_WORDS.values())
+    said = [line for line in lines if line.startswith(words)] or lines
+    return f"{path}: {shown(said[0])}" if said else otherwise
+
+
 class ClusterParts:
     """The parts that the jobs of a cluster have written beside CERT.
 
@@ -131,6 +146,11 @@ class ClusterParts:
             return None
         return part_of(number, self.piece_count, self.setting_count, report)
 
+    def fault(self, number):
+        """Returns why a part has no result."""
+        cert = self.cert(number)
+        return fault_of_job(f"{cert}.fault", f"{cert}.report is cut, or not there")
+
     def whole(self):
         """Returns where the certificate of the whole template is put together: a file that only
         this run has."""
@@ -151,13 +171,11 @@ class Parts(SpreadFolder):
     RESULT = PartResult
     OWN_FILES = r"cwtune|[ts]\.(red|csv)|o\d+\.red|whole\.cert|\d+\.(cert|done)"
     # What a run that was killed may leave: `tune` writes a certificate to a file beside it, and
-    # then CERT.inputs.
-    UNFINISHED_FILES = (r"(\d+|start)\.\d+\.(red|report|fault|status|cert(\.inputs)?"
-                        rf"(\.unfinished-\d+)?)|({OWN_FILES})\.\d+\.new")
+    # then CERT.inputs, and jobs on hosts what `spread_hosts` says.
+    UNFINISHED_FILES = (rf"(\d+|start)\.\d+\.(red|cert(\.inputs)?(\.unfinished-\d+)?|{JOB_KINDS})|"
+                        rf"\.\d+\.\d+\.tar\.\w{{6}}|({OWN_FILES})\.\d+\.new")
     SENT_KINDS = ["red"]
     RETURNED_KINDS = ["cert", "report", "fault"]
-    # What the shell does after a run on another host, which may have no certificate to send back.
-    SHELL_AFTER = "touch {piece}.cert; rm -f {piece}.cert.inputs; "
 
     def __init__(self, args, setting_count, tune_options):
         self.tune_options, self.args, self.template = tune_options, args, Template(args.template)

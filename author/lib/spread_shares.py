@@ -12,7 +12,7 @@ from .endings import Fault
 from .program import rules_of
 from .regular import read_regular, sha256_of
 from .spread_folder import Copy, SpreadFolder, copies_of
-from .spread_parts import COUNT, MOST_REPORT_BYTES, RANK
+from .spread_parts import COUNT, JOB_KINDS, MOST_REPORT_BYTES, RANK, fault_of_job
 
 ACCEPTED = re.compile(rf"accepted share ({COUNT})/({COUNT}) best ({COUNT}) total ({COUNT})\n"
                       rf"(?P<ranks>({RANK})*)")
@@ -101,6 +101,12 @@ class ClusterShares:
             return None
         return verdict_in("".join(lines[1:-1]), number, self.piece_count, self.keep)
 
+    def fault(self, number):
+        """Returns why a share has no result."""
+        check = f"{self.given_path}.{number}.check"
+        return fault_of_job(f"{check}.fault", f"{check} is cut, or of another certificate, number "
+                            "of shares or --keep")
+
     def refuse_changed_inputs(self):
         """Does nothing: `piece` takes only what is between two digests of CERT as it is now."""
 
@@ -113,10 +119,10 @@ class Shares(SpreadFolder):
 
     PIECE, THROWN, INSTEAD = "share", "the shares", "folder by --work"
     OWN_FILES = r"cwtune|[ts]\.(red|csv)|o\d+\.red|c\.cert|\d+\.done"
-    UNFINISHED_FILES = rf"\d+\.\d+\.(report|fault|status)|({OWN_FILES})\.\d+\.new"
+    UNFINISHED_FILES = (rf"\d+\.\d+\.({JOB_KINDS})|\.\d+\.\d+\.tar\.\w{{6}}|"
+                        rf"({OWN_FILES})\.\d+\.new")
     RESULT = Annotated[str, re.compile(f"{ACCEPTED.pattern}|{REJECTED.pattern}")]
     RETURNED_KINDS = ["report", "fault"]
-    SHELL_AFTER = ""
 
     def __init__(self, args, setting_count, cert):
         self.cert, self.rules, self.keep = cert, rules_of(args), args.keep

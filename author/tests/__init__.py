@@ -12,7 +12,10 @@ own_folders      work folders of a stranger, and kills at what is removed
 studying         `cwtune-study`
 study_refused    what it refuses, for `studying`
 spreading        `cwtune-spread`
-merging          `cwtune-spread` with GNU parallel, and with what the jobs of a cluster leave
+merging          `cwtune-spread` with what the jobs of a cluster leave, and with stand-ins for GNU
+                 parallel
+hosts            `cwtune-spread` with GNU parallel, ssh, rsync and an sshd
+clusters         `examples/slurm.sh` with a Slurm
 sharing          the checks of `cwtune-spread`
 reporting        the page of a study
 
@@ -22,8 +25,11 @@ for each a list of what was wrong, which `run` counts. What failed is named afte
 function, as `spreading.folders: a file in its place`, and `--only spreading.folders` plays that
 trial alone.
 
+A trial that needs a tool which is not installed is left out, and named before the last line; with
+CWTUNE_ALL=1 it has failed.
+
 Their libraries: `commands` runs a command and plays tables of refusals, `spread_place` and
-`study_place` make the folders of two commands, and `report_samples` makes up the reports of
-`reporting`. In all of them a `result` is how a command ended (`commands.Result`), and `expected` is
-how it has to end.
+`study_place` make the folders of two commands, `ssh_hosts` and `slurm_place` the hosts and the
+Slurm, and `report_samples` makes up the reports of `reporting`. In all of them a `result` is how a
+command ended (`commands.Result`), and `expected` is how it has to end.
 """

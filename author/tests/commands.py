@@ -2,7 +2,7 @@
 import contextlib, os, pathlib, re, signal, subprocess, sys, tempfile, time, traceback
 from typing import NamedTuple
 
-from gate.tally import compare
+from gate.tally import LeftOut, compare
 
 AUTHOR = pathlib.Path(__file__).resolve().parents[1]
 EXAMPLES = AUTHOR.parent / "examples"
@@ -68,6 +68,16 @@ def wait_until(is_so, job):
     return value
 
 
+def running_in(folder):
+    """Returns the words of the processes that are at work below a folder."""
+    found = []
+    for path in pathlib.Path("/proc").glob("[0-9]*/cwd"):
+        with contextlib.suppress(OSError):
+            if path.readlink().is_relative_to(folder):
+                found.append((path.parent / "cmdline").read_bytes().replace(b"\0", b" ").decode())
+    return found
+
+
 def printed(*words, **options):
     """Returns all that a command prints, and its status if that is not 0."""
     status, out, err = run(*words, **options)
@@ -99,6 +109,8 @@ def played(trials):
         try:
             for part, wrong in trial:
                 yield f"{name}: {part}", wrong
+        except LeftOut as reason:
+            yield name, reason
         # A command that failed leaves less than a trial reads, so any exception may come of it.
         except Exception as fault:
             yield name, [f"broke off in {line_of(fault)}: {fault!r}"]

@@ -1,8 +1,9 @@
-"""Plays `cwtune-spread` with GNU parallel, and with what the jobs of a cluster leave."""
+"""Plays `cwtune-spread` with what the jobs of a cluster leave, and with stand-ins for GNU parallel.
+"""
 import argparse, os
 from unittest import mock
 
-from author.lib.spread_jobs import HostJobs
+from author.lib.spread_hosts import HostJobs
 from gate.inputs import RULES
 from gate.tally import compare
 
@@ -10,19 +11,20 @@ from .commands import SECONDS, in_folders
 from .spread_place import DECOY, RANKED, SpreadPlace, write_ranked
 
 NO_CERT = (3, "", "failed: CERT.2: No such file or directory\n")
-# A stand-in for GNU parallel that runs on this host, one after the other, the numbers that it reads
-# but those of `$LEFT_OUT`.
-PARALLEL = """for job; do :; done
-while read -r number; do
-case " $LEFT_OUT " in *" $number "*) ;; *) sh -c "${job//\\{\\}/$number}";; esac
-done
+NO_REPORT = "failed: no result for part 2 of 3 (CERT.2.report is cut, or not there)\n"
+# What a stand-in for GNU parallel does first: if it is asked which hosts answer, this one does.
+PROBED = """case "$*" in *--nonall*) printf ':\\tready\\n'; exit;; esac\n"""
+ARCHIVES = """printf damaged >1.tar
+tar -cf 2.tar hosts
+echo 126 >3.status; echo 0 >4.status; touch 3.report 4.report
+for number in 3 4; do tar -cf $number.tar $number.report $number.status; done
 """
 
 
 class FolderStub:
     """What `HostJobs` needs to know of a folder."""
 
-    pid, copies, SHELL_AFTER, SENT_KINDS, RETURNED_KINDS = 1, [], "", [], []
+    pid, copies, SENT_KINDS, RETURNED_KINDS = 1, [], [], ["report"]
 
     def __init__(self, path):
         self.path = path
@@ -37,48 +39,32 @@ class FolderStub:
         return self.path / f"{number}.{kind}"
 
 
-def parallel(place, script, **environment):
+def parallel(place, script):
     """Makes a stand-in for GNU parallel the one on the PATH, as a context."""
-    place.write_program("parallel", script)
+    place.write_program("parallel", PROBED + script)
+    place.write_program("rsync", "exit 9\n")
     place.write("hosts", ":\n")
-    path = f"{place.folder}:{os.environ['PATH']}"
-    return mock.patch.dict(os.environ, {"PATH": path, **environment})
+    return mock.patch.dict(os.environ, {"PATH": f"{place.folder}:{os.environ['PATH']}"})
 
 
 def host_jobs(place, numbers):
-    """Runs the jobs of a stub, and waits until the stand-in for GNU parallel has ended."""
-    args = argparse.Namespace(hosts=place.folder / "hosts", jobs=1)
+    """Runs the jobs of a stub by a stand-in for GNU parallel. Returns the jobs, and the numbers of
+    those that ended, with their statuses."""
+    args, ended = argparse.Namespace(hosts=place.folder / "hosts", jobs=1), []
     jobs = HostJobs(args, FolderStub(place.folder), numbers)
-    jobs.parallel.wait(SECONDS)
-    return jobs
+    while jobs.keep_running():
+        jobs.parallel.wait(SECONDS)
+        ended += jobs.take_ended()
+    jobs.stop()
+    return jobs, ended
 
 
-def hosts(place):
-    """Runs a stand-in for GNU parallel that runs the jobs, and leaves some out the first time."""
-    unbroken = place.found(DECOY, place.spread("--parts=5", *DECOY))
-    place.clear()
-    words = ["--hosts=hosts", "--parts=5", *DECOY]
-    with parallel(place, PARALLEL, LEFT_OUT="2 4"):
-        yield compare("parts that it left out", (
-            3, "", "failed: no result for parts 2, 4 of 5\n3 of 5 parts are done, and kept in "
-            "CERT.parts: repeat the command to run the others\n", 3),
-            (*place.spread(*words), place.done()))
-    with parallel(place, PARALLEL, LEFT_OUT="1 3 5"):
-        yield compare("the others are run later", unbroken,
-                      place.found(DECOY, place.spread(*words)))
-    verdict = place.verdict(DECOY)
-    with parallel(place, PARALLEL):
-        yield compare("a check on hosts", (*verdict, ""), place.spread(
-            "--hosts=hosts", "--check-only", "--shares=3", *DECOY))
-
-
-def statuses(place):
-    """Runs a stand-in for GNU parallel that leaves the status of one job, and half of another's."""
-    script = "echo 1 > 1.status; printf 0 > 2.status\n"
-    with parallel(place, script):
-        jobs = host_jobs(place, [1, 2, 3])
-    yield compare("a status is a whole line", ([(1, 1)], [2, 3], None, False),
-                  (jobs.take_ended(), jobs.waiting, jobs.fault, jobs.keep_running()))
+def archives(place):
+    """Runs a stand-in for GNU parallel that brings archives back, damaged ones among them."""
+    with parallel(place, ARCHIVES):
+        jobs, ended = host_jobs(place, range(1, 6))
+    yield compare("archives", ([(3, 126), (4, 0)], [1, 2, 5], "GNU parallel ended with status 0"),
+                  (ended, jobs.waiting, jobs.fault))
 
 
 def idle_hosts(place):
@@ -89,10 +75,9 @@ def idle_hosts(place):
             "0 of 3 parts are done, and kept in CERT.parts: repeat the command to run the "
             "others\n"), place.spread("--hosts=hosts", "--parts=3", *DECOY))
         # More numbers than the pipe takes before the stand-in ends.
-        jobs = host_jobs(place, range(1, 20000))
-    jobs.take_ended()
-    yield compare("numbers that it does not read", ("GNU parallel ended with status 9", False),
-                  (jobs.fault, jobs.keep_running()))
+        jobs, ended = host_jobs(place, range(1, 20000))
+    yield compare("numbers that it does not read", ("GNU parallel ended with status 9", []),
+                  (jobs.fault, ended))
 
 
 def merged(place):
@@ -107,9 +92,19 @@ def merged(place):
     yield compare("--merge --check", (0, "accepted"), (status, out.splitlines()[-1][:8]))
     place.clear()
     (place.folder / "CERT.2.report").write_bytes(b"")
+    yield compare("--merge without a report", (3, "", NO_REPORT, None), (
+        *place.spread("--merge=3", *DECOY), place.read("CERT")))
+    for text, said in [("note\nfailed: OutOfMemory\n", "CERT.2.fault: failed: OutOfMemory"),
+                       ("slurm.sh: cwtune: not found\n",
+                        "CERT.2.fault: slurm.sh: cwtune: not found")]:
+        place.write("CERT.2.fault", text)
+        yield compare(f"--merge with {said}", (
+            3, "", f"failed: no result for part 2 of 3 ({said})\n"),
+            place.spread("--merge=3", *DECOY))
+    (place.folder / "CERT.2.fault").unlink()
     yield compare("--merge without a part", (
-        3, "", "failed: no result for part 2 of 3\n", None),
-        (*place.spread("--merge=3", *DECOY), place.read("CERT")))
+        3, "", "failed: no result for part 2 of 3 (no CERT.2.fault: see slurm-ARRAY.out where "
+        "sbatch was called)\n"), place.spread("--merge=3", *DECOY))
 
 
 def merged_others(place):
@@ -148,8 +143,7 @@ def damaged(place):
     yield compare("a certificate that is missing", NO_CERT, place.spread("--merge=3", *DECOY))
     place.write("CERT.2", cert)
     place.write("CERT.2.report", report[:report.rindex(b" of ")])
-    yield compare("a report that is cut", (3, "", "failed: no result for part 2 of 3\n"),
-                  place.spread("--merge=3", *DECOY))
+    yield compare("a report that is cut", (3, "", NO_REPORT), place.spread("--merge=3", *DECOY))
     place.write("CERT.2.report", report)
     place.write("CERT.2.inputs", "a text\n")
     yield compare("a CERT.2.inputs that is damaged", (
@@ -210,5 +204,5 @@ def merged_rankings(place):
 
 def trials(program):
     return in_folders(lambda folder: SpreadPlace(program, folder), [
-        hosts, statuses, idle_hosts, merged, merged_others, damaged, damaged_without_inputs,
+        archives, idle_hosts, merged, merged_others, damaged, damaged_without_inputs,
         merged_rankings])

@@ -11,7 +11,7 @@ from author.lib.endings import STATUS_WORDS, run_tool
 from author.lib.program import program_of
 from author.lib.regular import digest_of
 from author.lib.words import add_built, module_parser, number_from
-from gate.tally import compare, tally
+from gate.tally import LeftOut, compare, tally
 
 from .commands import SECONDS, command, in_folders, played
 from .spread_place import DECOY, SpreadPlace
@@ -206,6 +206,8 @@ def missing_files(place):
 
 def at_unlink(place, number, signal_name, name, words):
     """Sends a command a signal at the unlink of this number. Returns whether that ended it."""
+    if not shutil.which("strace"):
+        raise LeftOut("no strace")
     inject = f"inject=unlink,unlinkat:signal={signal_name}:when={number}"
     argv = ["strace", "-o", "/dev/null", "-e", "trace=unlink,unlinkat", "-e", inject,
             *command(name, "--program", place.program, *words)]
@@ -221,7 +223,7 @@ def kills_of_spreads(place):
     unbroken = place.spread(*words)
     (place.folder / "CERT").unlink()
     number, met = 0, True
-    while met and shutil.which("strace"):
+    while met:
         number += 1
         for signal_name in ["KILL", "INT"]:
             met = at_unlink(place, number, signal_name, "cwtune-spread", words)
@@ -230,7 +232,7 @@ def kills_of_spreads(place):
                 *came[::2], unbroken.out.splitlines()[:5] == came.out.splitlines()[:5]))
             (place.folder / "CERT").unlink(missing_ok=True)
     yield compare("kills met a spread that removes its folders", True,
-                  number > 15 or not shutil.which("strace"))
+                  number > 15)
 
 
 def kills_of_studies(place, step=11):
@@ -242,7 +244,7 @@ def kills_of_studies(place, step=11):
     files = sum(path.is_file() for path in (place.folder / "t.study").rglob("*"))
     shutil.copytree(place.folder / "t.study", place.folder / "kept")
     number, met = 1, True
-    while met and shutil.which("strace"):
+    while met:
         signal_name = ["KILL", "INT"][number % 2]
         shutil.rmtree(place.folder / "t.study")
         shutil.copytree(place.folder / "kept", place.folder / "t.study")
@@ -253,7 +255,7 @@ def kills_of_studies(place, step=11):
             status, faults, place.report("t")))
         number += step
     yield compare("kills met a study that removes its files", True,
-                  number > files or not shutil.which("strace"))
+                  number > files)
 
 
 class Fuzz:

@@ -212,8 +212,8 @@ NOT_DRAWN = [
 ]
 
 
-def trials(python, draws):
-    """Gives the commands what they have to refuse. `draws` says whether `python` has matplotlib."""
+def trials(python):
+    """Gives the commands what they have to refuse. `python` is one that has matplotlib, or None."""
     with tempfile.TemporaryDirectory() as folder:
         for path in TUNING.iterdir():
             pathlib.Path(folder, path.name).write_bytes(path.read_bytes())
@@ -221,7 +221,8 @@ def trials(python, draws):
             pathlib.Path(folder, name).write_bytes(text)
         os.symlink("loop", f"{folder}/loop")
         before = sorted(os.listdir(folder))
-        yield from refused(REFUSALS + NOT_DRAWN * draws,
+        yield from refused(REFUSALS, lambda words: run(*words, folder=folder))
+        yield from refused(NOT_DRAWN * bool(python),
                            lambda words: run(*words, folder=folder, python=python))
         yield compare("refusals write no file", before, sorted(os.listdir(folder)))
         yield from shown(folder)

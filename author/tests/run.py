@@ -1,23 +1,23 @@
 """Runs the commands for authors on the examples and compares with the results in expected/.
 
 Also gives them what they have to refuse, kills `cwtune-spread` and starts it again, and plays the
-trials of the other modules here. With --plain no picture is drawn, which needs matplotlib. With
---store the results replace those stored; look at the difference before you keep them. A picture is
-compared by its words and numbers, and by how many grey marks it has. Prints what failed, and as its
-last line `N passed, N failed`; the exit status is 1 if a run failed. What failed begins with the
-name that --only takes:
+trials of the other modules here. Trials that need tools which are not installed, as matplotlib, are
+left out and named. With --store the results replace those stored; look at the difference before you
+keep them. A picture is compared by its words and numbers, and by how many grey marks it has. Prints
+what failed, and as its last line `N passed, N failed`; the exit status is 1 if a run failed. What
+failed begins with the name that --only takes:
 
     python3 -m author.tests.run --plain --only spreading.floors
 """
 import contextlib, os, pathlib, re, shutil, signal, subprocess, sys, tempfile
 
-from author.lib.endings import Fault, run_tool
+from author.lib.endings import run_tool
 from author.lib.program import program_of
 from author.lib.words import add_built, module_parser
-from gate.tally import compare, tally
+from gate.tally import LeftOut, compare, tally
 
-from . import (landscapes, merging, origins, own_folders, racing, refusals, reporting, sharing,
-               spreading, strangers, studying, varying, warriors)
+from . import (clusters, hosts, landscapes, merging, origins, own_folders, racing, refusals,
+               reporting, sharing, spreading, strangers, studying, varying, warriors)
 from .commands import (AUTHOR, SECONDS, TUNING, command, played, printed, run, started,
                        wait_until)
 
@@ -46,8 +46,6 @@ RUN_PROGRAM = ["cwtune-warrior step.red --setting 3", "cwtune-vary ../warriors/d
                "cwtune-study step.red ../warriors/dwarf.red"]
 NO_PROGRAM = "no cwtune here or on the PATH: give --program FILE\n"
 COMMANDS = sorted(path.name for path in AUTHOR.glob("cwtune-*"))
-# The trials that draw pictures.
-DRAWING = {"results", "refusals"}
 PICTURES = {
     "line.txt": "cwtune-landscape step.red step.cert",
     "map.txt": "cwtune-landscape stone.red all-fights.cert",
@@ -57,6 +55,8 @@ PICTURES = {
     "map-opponent.txt": "cwtune-landscape stone.red all-fights.cert --schedule schedule.csv "
                         "--opponent 3",
 }
+# Fails without matplotlib, and with a Python that is too old for the commands.
+HAS_MATPLOTLIB = "import matplotlib.pyplot, sys; sys.exit(sys.version_info < (3, 11))"
 
 
 def draw(python, words):
@@ -77,13 +77,11 @@ def draw(python, words):
 
 
 def with_matplotlib():
-    """Returns a Python that has matplotlib, or ends and names the package."""
-    for python in (sys.executable, "/usr/bin/python3"):
-        if pathlib.Path(python).exists():
-            completed = subprocess.run([python, "-c", "import matplotlib"], capture_output=True)
-            if completed.returncode == 0:
-                return python
-    raise Fault("no matplotlib; on Debian: apt-get install python3-matplotlib", 3)
+    """Returns a Python that has matplotlib and runs the commands, or None."""
+    for python in filter(os.path.exists, (sys.executable, "/usr/bin/python3")):
+        if subprocess.run([python, "-c", HAS_MATPLOTLIB], capture_output=True).returncode == 0:
+            return python
+    return None
 
 
 def helps():
@@ -161,16 +159,26 @@ def signals():
             yield compare(f"Ctrl-C in {words}", (-signal.SIGINT, b""), (job.returncode, err))
 
 
-def results(python, draws, replaces):
-    """Compares results with those stored, which they replace before if `replaces`. Yields names,
-    and what was wrong."""
-    drawn = PICTURES if draws else {}
-    for name, words in (PLAIN | drawn).items():
-        came = draw(python, words) if name in drawn else printed(*words.split())
-        path = EXPECTED / name
-        if replaces:
-            path.write_text(came, "utf-8")
-        yield compare(name, path.read_text("utf-8") if path.exists() else None, came)
+def results(replaces):
+    """Compares what commands print with what is stored, which that replaces before if `replaces`.
+    Yields names, and what was wrong."""
+    for name, words in PLAIN.items():
+        yield compared(name, printed(*words.split()), replaces)
+
+
+def pictures(python, replaces):
+    """Compares pictures with their words that are stored, likewise."""
+    if not python:
+        raise LeftOut("no matplotlib (Debian: apt-get install python3-matplotlib)")
+    for name, words in PICTURES.items():
+        yield compared(name, draw(python, words), replaces)
+
+
+def compared(name, came, replaces):
+    path = EXPECTED / name
+    if replaces:
+        path.write_text(came, "utf-8")
+    return compare(name, path.read_text("utf-8") if path.exists() else None, came)
 
 
 def prepare(program):
@@ -184,14 +192,15 @@ def prepare(program):
     sys.stdout.reconfigure(line_buffering=True)
 
 
-def all_trials(program, python, draws, replaces):
+def all_trials(program, replaces):
     """Returns all trials by their names. None is played before somebody iterates over it."""
-    return {"results": results(python, draws, replaces), "helps": helps(), "closed": closed(),
-            "without_program": without_program(), "refusals": refusals.trials(python, draws),
-            "signals": signals(),
+    python = with_matplotlib()
+    return {"results": results(replaces), "pictures": pictures(python, replaces),
+            "helps": helps(), "closed": closed(), "without_program": without_program(),
+            "refusals": refusals.trials(python), "signals": signals(),
             **{f"{module.__name__.rpartition('.')[2]}.{name}": trial
                for module in (warriors, varying, racing, origins, landscapes, strangers,
-                              own_folders, studying, spreading, merging, sharing)
+                              own_folders, studying, spreading, merging, sharing, hosts, clusters)
                for name, trial in module.trials(program).items()},
             **{f"reporting.{name}": trial for name, trial in reporting.trials().items()}}
 
@@ -225,9 +234,9 @@ def main():
     parser = make_parser()
     args = parser.parse_args()
     program = program_of(args.program)
-    draws = not args.plain and (not args.only or not DRAWING.isdisjoint(args.only))
-    python = with_matplotlib() if draws else sys.executable
-    trials = chosen(parser, args.only, all_trials(program, python, draws, args.store))
+    trials = chosen(parser, args.only, all_trials(program, args.store))
+    if args.plain:
+        trials.pop("pictures", None)
     prepare(program)
     return tally(played(trials))
 

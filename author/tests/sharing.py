@@ -10,6 +10,7 @@ from .commands import SECONDS, in_folders
 from .spread_place import DECOY, SMALL, Kill, SpreadPlace, silent_stops, without_fights
 
 CHECK_ONLY = ["--check-only", *DECOY]
+OTHER_CHECK = " is cut, or of another certificate, number of shares or --keep)\n"
 
 
 def tune_decoy(place):
@@ -187,14 +188,15 @@ def merged(place):
     place.run_jobs(3, "--check", *DECOY)
     yield compare("--check-only --merge", (0, line, ""), place.spread("--merge=3", *CHECK_ONLY))
     yield compare("of another number of shares", (
-        3, "", "failed: no result for shares 1, 2, 3, 4 of 4\n"),
+        3, "", "failed: no result for shares 1, 2, 3, 4 of 4 (CERT.1.check" + OTHER_CHECK),
         place.spread("--merge=4", *CHECK_ONLY))
     first_line, *_ = place.read("CERT.2.check").decode().split("\n")
     place.write("CERT.2.check", first_line)
-    yield compare("of a job that was cut", (3, "", "failed: no result for share 2 of 3\n"),
-                  place.spread("--merge=3", *CHECK_ONLY))
+    yield compare("of a job that was cut", (
+        3, "", "failed: no result for share 2 of 3 (CERT.2.check" + OTHER_CHECK),
+        place.spread("--merge=3", *CHECK_ONLY))
     place.write("CERT", cert + b"\n")
-    no_result = (3, "", "failed: no result for shares 1, 2, 3 of 3\n")
+    no_result = (3, "", "failed: no result for shares 1, 2, 3 of 3 (CERT.1.check" + OTHER_CHECK)
     yield compare("of another certificate", no_result, place.spread("--merge=3", *CHECK_ONLY))
     place.tune("--keep=2", *DECOY)
     place.run_jobs(3, "--check", *DECOY, "--keep=2")

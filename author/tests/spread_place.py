@@ -54,7 +54,7 @@ class SpreadPlace(play.Place):
         """Runs the parts, or with --check the shares, as jobs of a cluster do."""
         for job in range(1, count + 1):
             env = {**os.environ, "CWTUNE": self.program, "SLURM_ARRAY_TASK_ID": str(job),
-                   "SLURM_ARRAY_TASK_COUNT": str(count)}
+                   "CWTUNE_PARTS": str(count)}
             subprocess.run(["sh", str(EXAMPLES / "slurm.sh"), *words], cwd=self.folder, env=env,
                            timeout=SECONDS)
 

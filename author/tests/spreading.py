@@ -8,7 +8,7 @@ from gate.inputs import RULES
 from gate.play import shown
 from gate.tally import compare
 
-from .commands import SECONDS, in_folders, refused, run, usage_error
+from .commands import SECONDS, in_folders, refused, run, running_in, usage_error
 from .spread_place import (DECOY, OPPONENTS, RANKED, SCHEDULE, SMALL, Kill, SpreadPlace,
                            silent_stops, without_fights, write_ranked)
 
@@ -57,6 +57,16 @@ def stops(place):
             "command to run the others\n", 2), (
             *place.stop_in("--part=2/3", signal_number, "--jobs=1", "--parts=3", *DECOY),
             place.done()))
+        place.clear()
+
+
+def killed(place):
+    """Kills a tuning in a part."""
+    for signal_number in [signal.SIGKILL, signal.SIGHUP]:
+        status, _ = place.stop_in("--part=2/3", signal_number, "--jobs=1", "--parts=3", *DECOY)
+        time.sleep(0.5)
+        yield compare(f"signal {signal_number} leaves nothing running", (-signal_number, []),
+                      (status, running_in(place.folder)))
         place.clear()
 
 
@@ -366,5 +376,5 @@ def progress(place):
 
 def trials(program):
     return in_folders(lambda folder: SpreadPlace(program, folder), [
-        after_kills, stops, other_inputs, damaged_parts, folders, two_at_once, templates, faults,
-        methods, liars, floors, rankings, explained, notes, progress])
+        after_kills, stops, killed, other_inputs, damaged_parts, folders, two_at_once, templates,
+        faults, methods, liars, floors, rankings, explained, notes, progress])

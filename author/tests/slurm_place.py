@@ -1,0 +1,105 @@
+"""Runs a Slurm of one node, without systemd and with all that it writes in a folder, for trials."""
+import contextlib, getpass, os, pathlib, shutil, socket, subprocess, time
+
+from .commands import SECONDS
+from .ssh_hosts import PATH, free_port, kill_all
+
+SERVERS = {name: shutil.which(name, path=PATH) for name in ["munged", "slurmctld", "slurmd"]}
+CONFIG = """ClusterName=trial
+SlurmctldHost={host}(127.0.0.1)
+SlurmctldPort={ports[0]}
+SlurmdPort={ports[1]}
+SlurmUser={user}
+SlurmdUser={user}
+AuthType=auth/munge
+AuthInfo=socket={folder}/socket
+CredType=cred/munge
+StateSaveLocation={folder}/state
+SlurmdSpoolDir={folder}/spool
+SlurmctldPidFile={folder}/slurmctld.pid
+SlurmdPidFile={folder}/slurmd.pid
+ProctrackType=proctrack/linuxproc
+TaskPlugin=task/none
+SelectType=select/cons_tres
+SelectTypeParameters=CR_CPU
+MpiDefault=none
+SwitchType=switch/none
+JobAcctGatherType=jobacct_gather/none
+AccountingStorageType=accounting_storage/none
+ReturnToService=2
+SchedulerParameters=sched_interval=1,batch_sched_delay=1,sched_min_interval=0
+KillWait=5
+MinJobAge=60
+NodeName={host} NodeAddr=127.0.0.1 CPUs={processors} State=UNKNOWN
+PartitionName=main Nodes=ALL Default=YES MaxTime=INFINITE State=UP
+CommunicationParameters=NoCtldInAddrAny,NoInAddrAny
+"""
+
+
+class Slurm:
+    """A Slurm: a context, in which it is up."""
+
+    def __init__(self, folder):
+        self.folder, self.servers = pathlib.Path(folder), []
+
+    def __enter__(self):
+        for name in [".", "munge", "state", "spool", "temporary"]:
+            (self.folder / name).mkdir()
+        (self.folder / "munge/key").write_bytes(os.urandom(1024))
+        (self.folder / "munge/key").chmod(0o400)
+        (self.folder / "slurm.conf").write_text(CONFIG.format(
+            host=socket.gethostname().partition(".")[0], ports=[free_port(), free_port()],
+            user=getpass.getuser(), folder=self.folder, processors=os.cpu_count()))
+        of_munge = [f"--{name}={self.folder}/munge/{name}"
+                    for name in ["key-file", "pid-file", "log-file", "seed-file"]]
+        (self.folder / "munge/key").rename(self.folder / "munge/key-file")
+        try:
+            self.start("munged", "--foreground", "--force", f"--socket={self.folder}/socket",
+                       *of_munge)
+            self.wait_for((self.folder / "socket").exists)
+            self.start("slurmctld", "-D")
+            self.start("slurmd", "-D")
+            self.wait_for(lambda: self.run("sinfo", "--noheader", "--format=%t") == "idle\n")
+        except BaseException:
+            self.__exit__()
+            raise
+        return self
+
+    def __exit__(self, *_):
+        with contextlib.suppress(subprocess.SubprocessError):
+            self.run("scancel", f"--user={getpass.getuser()}")
+            self.wait_for(lambda: not self.queue(), 10)
+        for server in reversed(self.servers):
+            kill_all(server.pid)
+            server.wait()
+
+    def environment(self):
+        """Returns the variables for the commands of Slurm, and for its jobs."""
+        return {"SLURM_CONF": f"{self.folder}/slurm.conf", "TMPDIR": f"{self.folder}/temporary"}
+
+    def start(self, name, *words):
+        with (self.folder / f"{name}.log").open("wb") as log:
+            self.servers.append(subprocess.Popen(
+                [SERVERS[name], *words], env={**os.environ, **self.environment()},
+                stdin=subprocess.DEVNULL, stdout=log, stderr=log))
+
+    def run(self, *words, **options):
+        """Returns what a command of Slurm prints."""
+        return subprocess.run(words, env={**os.environ, **self.environment()}, text=True,
+                              stdin=subprocess.DEVNULL, capture_output=True, timeout=SECONDS,
+                              **options).stdout
+
+    def queue(self):
+        """Returns the jobs that wait or run."""
+        return self.run("squeue", "--noheader")
+
+    def wait_for(self, is_so, seconds=SECONDS):
+        deadline = time.monotonic() + seconds
+        while not is_so():
+            if time.monotonic() > deadline:
+                raise subprocess.TimeoutExpired("Slurm", seconds)
+            time.sleep(0.1)
+
+    def submit(self, folder, array, *words):
+        """Hands in an array of jobs. Returns its number."""
+        return self.run("sbatch", "--parsable", f"--array={array}", *words, cwd=folder).strip()
