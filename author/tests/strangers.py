@@ -221,6 +221,26 @@ def unforeseen(place):
             completed.returncode, "Traceback" in completed.stderr, True))
 
 
+DROPPED = """import signal, time
+from author.lib.endings import run_tool
+class Ending:
+    def __del__(self):
+        signal.raise_signal(signal.SIGTERM)
+def main():
+    Ending()
+    time.sleep(9)
+run_tool(main)
+"""
+
+
+def dropped_interrupts(place):
+    """Interrupts a command in a destructor, where Python drops the exception."""
+    completed = subprocess.run([sys.executable, "-c", DROPPED], capture_output=True,
+                               env={**os.environ, "PYTHONPATH": str(AUTHOR.parent)})
+    yield compare("it ends, and says nothing", (-signal.SIGINT, b""),
+                  (completed.returncode, completed.stderr))
+
+
 def old_pythons(place):
     """Starts each command as a Python 3.10 does, and reads with the grammar of 3.6 what is read
     before that is seen."""
@@ -387,4 +407,5 @@ def trials(program):
     return in_folders(lambda folder: Place(program, folder, {
         **FILES, "step.cert": (TUNING / "step.cert").read_bytes()}), [
         dashes, terminals, hostile_inputs, endless, memory, shown_while_read, unforeseen,
-        old_pythons, encodings, orphans, hang_ups, left_files, settings, schemas])
+        dropped_interrupts, old_pythons, encodings, orphans, hang_ups, left_files, settings,
+        schemas])
