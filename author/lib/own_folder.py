@@ -153,12 +153,7 @@ class OwnFolder:
         """Returns what a file of JSON says, as the schema has it. Raises a Malformed, or a
         FileNotFoundError."""
         with self.room_of(name) as (room, file_name):
-            try:
-                return from_json(schema, read_regular(MOST_BYTES, **room.place(file_name)))
-            except Malformed:
-                raise
-            except ValueError as fault:
-                raise Malformed(str(fault)) from None
+            return from_json(schema, read_regular(MOST_BYTES, **room.place(file_name)))
 
     def write_mark(self, mark):
         with self.whole_file(self.MARK) as file:
@@ -176,11 +171,16 @@ class OwnFolder:
         return open_new(self.top.descriptor, name, "wb")
 
     def open_to_append(self, name):
-        """Opens a file of the folder, or makes it, to read it and to write at its end."""
+        """Opens a file of the folder, or makes it, to read it and to write at its end. Refuses one
+        that has a name elsewhere, too, as it would change there."""
         with self.room_of(name) as (room, file_name):
             descriptor = os.open(file_name, os.O_RDWR | os.O_APPEND | os.O_CREAT | os.O_NOFOLLOW,
                                  0o666, dir_fd=room.descriptor)
-        return open(descriptor, "r+b", buffering=0)
+        file = open(descriptor, "r+b", buffering=0)
+        if os.fstat(descriptor).st_nlink > 1:
+            file.close()
+            raise untouched(f"{self.given_path}/{name}", "another name of a file")
+        return file
 
     def write(self, name, text):
         """Writes a file of the folder, whole."""
