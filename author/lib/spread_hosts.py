@@ -9,18 +9,19 @@ all pieces, as that copy, has the number 0 in its name.
 """
 import contextlib, hashlib, os, pathlib, re, shlex, shutil, socket, subprocess, sys, tarfile
 
-from .endings import Fault
+from .endings import Fault, escaped
 from .writing import naming
 
 # What a host says if it can run pieces.
 ANSWER = "ready"
-# What asks a host for that. First removes what earlier runs of the same work left there that were
-# killed, or lost the host: temporary folders with inputs of this work, and empty ones.
+# Asks a host for that. First removes what earlier runs of the same work left there that were
+# killed, or lost the host: temporary folders of GNU parallel with inputs of this work, and empty
+# ones in which no process is, as a job of somebody else's that has written nothing yet.
 PROBE = """cd ~/.parallel/tmp 2>/dev/null && for old in *-[0-9]*-[0-9]*; do
     for file in "$old"/0.*.{inputs} "$old"/.0.*.{inputs}.*; do
         if [ -e "$file" ]; then rm -rf "$old"; fi
     done
-    rmdir "$old" 2>/dev/null
+    ls -l /proc/[0-9]*/cwd 2>/dev/null | grep -qF "/$old" || rmdir "$old" 2>/dev/null
 done
 if command -v tar >/dev/null && command -v rsync >/dev/null; then echo {answer}
 else echo no tar or no rsync; fi
@@ -67,8 +68,7 @@ def tell_left_out(reasons):
         lines[MOST_TOLD:] = [f"note: so are {len(lines) - MOST_TOLD} more hosts"]
     for line in lines:
         # A terminal may show the progress, and a host may send anything.
-        print("\r\x1b[K" * sys.stderr.isatty() + re.sub(r"[^ -~\xa0-\U0010ffff]", "?", line),
-              file=sys.stderr)
+        print("\r\x1b[K" * sys.stderr.isatty() + escaped(line), file=sys.stderr)
 
 
 class HostJobs:

@@ -81,6 +81,19 @@ def good(place):
     note = "note: dead is left out: ssh: connect to host 127.0.0.1 port "
     yield compare("a dead host is named once", [note],
                   [line[:len(note)] for line in err.splitlines()])
+    yield from idle_folders(place)
+
+
+def idle_folders(place):
+    """Tunes on a host where other runs of GNU parallel have folders with nothing in them."""
+    used, left = (place.hosts.home("good") / f".parallel/tmp/other-{pid}-1" for pid in (1, 2))
+    for path in used, left:
+        path.mkdir()
+    with subprocess.Popen(["sleep", str(SECONDS)], cwd=used) as job:
+        status = place.on("good", "--parts=1", *DECOY).status
+        job.kill()
+    yield compare("an empty folder goes, unless a process is in it", (0, True, False), (
+        status, used.is_dir(), left.is_dir()))
 
 
 def failing(place):
