@@ -102,10 +102,10 @@ CONTAINERS = {list: checked_list, tuple: checked_tuple, dict: checked_dict}
 
 
 def entries(schema, values, entry):
-    """Returns the entries that a dataclass or a TypedDict names, those without a default all."""
-    optional = {field.name for field in dataclasses.fields(schema)
-                if field.default is not dataclasses.MISSING} if dataclasses.is_dataclass(
-                    schema) else set()
+    """Returns the entries that a dataclass or a TypedDict names. Refuses values that lack one
+    without a default."""
+    fields = dataclasses.fields(schema) if dataclasses.is_dataclass(schema) else ()
+    optional = {field.name for field in fields if field.default is not dataclasses.MISSING}
     hints = typing.get_type_hints(schema, include_extras=True)
     if missing := [name for name in hints if name not in values and name not in optional]:
         raise named(entry, f"no entry `{missing[0]}`")

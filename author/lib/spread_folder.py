@@ -21,6 +21,11 @@ from .regular import open_regular, sha256_of
 from .schema import Malformed, NotJson
 from .tuning_files import MOST_SETTINGS
 
+# What the jobs of pieces have: their output, and on other hosts their archives, the inputs of all
+# pieces, the hosts, and what rsync has not ended.
+JOB_FILES = (r"\d+\.\d+\.(report|fault|status|new|tar|taken|inputs[0-9a-f]{16}|hosts)|"
+             r"\.\d+\.\d+\.tar\.\w{6}")
+
 
 class Copy(NamedTuple):
     """An input: its kind, the name of its copy, which needs no quoting, and its path."""
@@ -84,7 +89,7 @@ class SpreadFolder(OwnFolder):
         self.put_back_copies()
         self.refuse_other_inputs(mark.of, self.copies_fingerprint(),
                                  f"the copies in {given_path} were changed")
-        self.top.remove(self.UNFINISHED_FILES)
+        self.top.remove(rf"{self.UNFINISHED_FILES}|({self.OWN_FILES})\.\d+\.new")
         self.piece_count, self.setting_count = mark.parts, mark.count
 
     def read_mark(self):

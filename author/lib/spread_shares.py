@@ -11,8 +11,8 @@ from typing import Annotated
 from .endings import Fault
 from .program import rules_of
 from .regular import read_regular, sha256_of
-from .spread_folder import Copy, SpreadFolder, copies_of
-from .spread_parts import COUNT, JOB_KINDS, MOST_REPORT_BYTES, RANK, fault_of_job
+from .spread_folder import JOB_FILES, Copy, SpreadFolder, copies_of
+from .spread_parts import COUNT, MOST_REPORT_BYTES, RANK, fault_of_job
 
 ACCEPTED = re.compile(rf"accepted share ({COUNT})/({COUNT}) best ({COUNT}) total ({COUNT})\n"
                       rf"(?P<ranks>({RANK})*)")
@@ -119,8 +119,7 @@ class Shares(SpreadFolder):
 
     PIECE, THROWN, INSTEAD = "share", "the shares", "folder by --work"
     OWN_FILES = r"cwtune|[ts]\.(red|csv)|o\d+\.red|c\.cert|\d+\.done"
-    UNFINISHED_FILES = (rf"\d+\.\d+\.({JOB_KINDS})|\.\d+\.\d+\.tar\.\w{{6}}|"
-                        rf"({OWN_FILES})\.\d+\.new")
+    UNFINISHED_FILES = JOB_FILES
     RESULT = Annotated[str, re.compile(f"{ACCEPTED.pattern}|{REJECTED.pattern}")]
     RETURNED_KINDS = ["report", "fault"]
 
