@@ -4,10 +4,10 @@ The folder is locked while the command is at work in it. Its mark, a file of JSO
 command made it and of what, so that no folder of somebody else is touched.
 
 A folder may come from a stranger, with links where the command writes. The path to it may go
-through links. But it and its rooms, the folders in it, have to be real folders of the user, and
-what has a name that the command gives has to be a regular file of the user; anything else is
-refused with its name. What has another name is left alone. All is done by the descriptors of the
-folders, so nothing is written or removed through a link.
+through links, but the folder and its rooms, the folders in it, have to be real ones of the user.
+Each name that the command gives has to be that of a regular file of the user, if it is there;
+anything else is refused with its name. What has another name is left alone. All is done by the
+descriptors of the folders, so nothing is written or removed through a link.
 """
 import contextlib, dataclasses, errno, fcntl, json, os, pathlib, re, stat
 
@@ -73,9 +73,9 @@ class OwnFolder:
     """A folder of the command `COMMAND`, locked until the command ends.
 
     `MARK` is the name of its mark, and `SCHEMA` its dataclass, with the entry `by`. `THROWN` and
-    `INSTEAD` are words of the fault for other inputs: what --anew throws away, and what to name
-    otherwise to get a new folder. `given_path` is its path as the user or the command gives it, and
-    `path` the whole one.
+    `INSTEAD` are words of the fault for other inputs: what --anew throws away, and which word of
+    the command names another folder. `given_path` is its path as the user or the command gives it,
+    and `path` the whole one.
     """
 
     COMMAND = MARK = THROWN = INSTEAD = ""
@@ -99,7 +99,7 @@ class OwnFolder:
         raise NotImplementedError
 
     def patterns(self):
-        """Yields the rooms, each with the pattern of its names and of those that writing uses."""
+        """Yields the rooms, each with the pattern of its names, also while they are written."""
         for room, names in self.rooms().items():
             more = "" if room else rf"|{re.escape(self.MARK)}\.\d+\.new"
             yield room, rf"({names})(\.\d+\.new)?{more}"
@@ -206,8 +206,8 @@ class OwnFolder:
                     room.refuse_strange(pattern)
 
     def remove_all(self):
-        """Removes the rooms and all files of the command but the mark, which has to say so before,
-        since a kill may come between two of them."""
+        """Removes the rooms and all files of the command but the mark. The mark has to say so
+        before, since a kill may come in between."""
         for name, pattern in self.patterns():
             with self.room(name) as room:
                 if room:
@@ -227,7 +227,7 @@ class OwnFolder:
 
 
 def real_parent(path):
-    """Returns the path whose folders, but not its last name, are without links."""
+    """Returns a path without links in its folders; its last name may be one."""
     folder, name = os.path.split(str(path).rstrip("/") or "/")
     if name in ("", ".", ".."):
         return pathlib.Path(os.path.realpath(path))

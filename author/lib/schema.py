@@ -1,8 +1,8 @@
 """Reads values of JSON by a schema, and says in which entry one is wrong.
 
-A schema is a type, a dataclass or a TypedDict. `Annotated` bounds one: by a range what a number may
-be, or how many a list may have, and by a pattern what a text may be. Entries that a schema does not
-name are ignored, and kept in the dict of a TypedDict.
+A schema is a type, a dataclass or a TypedDict, and `Annotated` bounds one: a range bounds a number,
+or the length of a list, and a pattern has to match a text. Entries that a schema does not name are
+ignored, and kept in the dict of a TypedDict.
 """
 import dataclasses, json, math, re, types, typing
 from typing import Annotated

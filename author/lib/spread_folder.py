@@ -6,8 +6,8 @@
     I.done           what came of piece I
     I.PID.*          what the run with that process id has written of piece I
 
-A mark without a fingerprint is of a folder that is being made or removed, and is made anew. A copy
-that is missing is put back from its input, which has the digest of the mark.
+A folder whose mark has no fingerprint is being made or removed, and is made anew. A copy that is
+missing is put back from its input, once that is seen to have the digest of the mark.
 
 A piece is a part of a tuning or a share of a check. It is done when `I.done` is there, which is
 written once the piece has a result, so neither a kill nor a crash leaves half of one.
@@ -59,8 +59,8 @@ class SpreadFolder(OwnFolder):
     """A folder that `cwtune-spread` made.
 
     Its subclasses say how a piece is called (`PIECE`), which files of the folder are its own
-    (`OWN_FILES`) and which of these a kill may leave (`UNFINISHED_FILES`), and the kinds of files
-    that a run of a piece reads beside the copies (`SENT_KINDS`) and writes (`RETURNED_KINDS`).
+    (`OWN_FILES`), what else a kill may leave (`UNFINISHED_FILES`), and the kinds of files that a
+    run of a piece reads beside the copies (`SENT_KINDS`) and writes (`RETURNED_KINDS`).
     `RESULT` is the schema of what is written of a piece that is done.
     """
 

@@ -104,8 +104,8 @@ class PartResult:
 
 
 def fault_of_job(path, otherwise):
-    """Returns what the job of a cluster wrote of its fault, `otherwise` if it had none, or that it
-    wrote nothing."""
+    """Returns the fault that a job of a cluster wrote to a file, `otherwise` if that is empty, or
+    where to look if it is not there."""
     try:
         lines = pathlib.Path(path).read_text(errors="replace").splitlines()
     except FileNotFoundError:

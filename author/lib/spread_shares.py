@@ -52,9 +52,8 @@ def verdict_of(texts, cert):
 
 
 def first_rejection(rejections, cert):
-    """Returns the first of several rejections, each a record and a reason, in the order of a check:
-    it looks at refused and cap rows first and at `same` rows last, and each share does so with its
-    own."""
+    """Returns the rejection, a record and a reason, that a check of the whole finds first. Like
+    each share, it looks at `same` rows last."""
     same = same_rows(cert) if len(rejections) > 1 else set()
 
     def order(rejection):
@@ -108,7 +107,7 @@ class ClusterShares:
                             "of shares or --keep")
 
     def refuse_changed_inputs(self):
-        """Does nothing: `piece` takes only what is between two digests of CERT as it is now."""
+        """Does nothing: `result` takes only what is between two digests of CERT as it is now."""
 
     def clean_up(self):
         """Leaves the files of the jobs where they are."""

@@ -3,8 +3,8 @@ import sys, time
 
 
 class Watch:
-    """When the last line was shown: at a terminal, where it is rewritten, twice a second, and
-    elsewhere each 15 seconds."""
+    """The lines of progress: at a terminal one that is rewritten twice a second, elsewhere a new
+    one each 15 seconds. `shown_at` is when the last one was shown."""
 
     shown_at = time.monotonic()
     at_terminal = sys.stderr.isatty()
