@@ -164,9 +164,9 @@ def end_by(signal_number):
 
 
 def end_by_kill_as_by_interrupt():
-    """Lets what `kill` and a terminal that is closed send end the command as Ctrl-C does, unless
-    `nohup` or another parent has it ignored."""
-    for signal_number in (signal.SIGTERM, signal.SIGHUP):
+    """Has Ctrl-C raise a KeyboardInterrupt, and so what `kill` and a terminal that is closed send,
+    unless `nohup` or another parent has it ignored."""
+    for signal_number in (signal.SIGINT, signal.SIGTERM, signal.SIGHUP):
         if signal.getsignal(signal_number) != signal.SIG_IGN:
             signal.signal(signal_number, signal.default_int_handler)
 

@@ -241,6 +241,27 @@ def dropped_interrupts(place):
                   (completed.returncode, completed.stderr))
 
 
+EARLY = """import signal, sys
+from author.lib import start
+class Finder:
+    def find_spec(self, name, *_):
+        if name == "author.lib.endings":
+            signal.raise_signal(signal.SIGINT)
+sys.meta_path.insert(0, Finder())
+start.run("files")
+"""
+
+
+def early_interrupts(place):
+    """Interrupts a command while it imports its modules."""
+    completed = subprocess.run(
+        [sys.executable, "-c", EARLY], capture_output=True,
+        env={**os.environ, "PYTHONPATH": str(AUTHOR.parent)},
+        preexec_fn=lambda: signal.signal(signal.SIGINT, signal.SIG_DFL))
+    yield compare("it ends, and says nothing", (-signal.SIGINT, b""),
+                  (completed.returncode, completed.stderr))
+
+
 def old_pythons(place):
     """Starts each command as a Python 3.10 does, and reads with the grammar of 3.6 what is read
     before that is seen."""
@@ -407,5 +428,5 @@ def trials(program):
     return in_folders(lambda folder: Place(program, folder, {
         **FILES, "step.cert": (TUNING / "step.cert").read_bytes()}), [
         dashes, terminals, hostile_inputs, endless, memory, shown_while_read, unforeseen,
-        dropped_interrupts, old_pythons, encodings, orphans, hang_ups, left_files, settings,
-        schemas])
+        dropped_interrupts, early_interrupts, old_pythons, encodings, orphans, hang_ups, left_files,
+        settings, schemas])
