@@ -110,9 +110,9 @@ class HostJobs:
         environment = {**os.environ, "PARALLEL_SHELL": "/bin/sh", "PARALLEL_SSH": ssh,
                        "CWTUNE_SPREAD_FOLDER": str(self.folder.path)}
         self.parallel = subprocess.Popen(
-            ["parallel", "--will-cite", "--sshloginfile", self.folder.file(0, "hosts").name,
-             *options], cwd=self.folder.path, env=environment, stdin=stdin, stdout=output,
-            stderr=subprocess.STDOUT, start_new_session=True)
+            ["parallel", "--will-cite", "--tmpdir", ".", "--sshloginfile",
+             self.folder.file(0, "hosts").name, *options], cwd=self.folder.path, env=environment,
+            stdin=stdin, stdout=output, stderr=subprocess.STDOUT, start_new_session=True)
         self.guard = subprocess.Popen(["sh", "-c", GUARD, str(self.parallel.pid)],
                                       stdin=subprocess.PIPE, stdout=subprocess.DEVNULL,
                                       stderr=subprocess.DEVNULL, start_new_session=True)
