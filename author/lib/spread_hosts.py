@@ -11,6 +11,7 @@ from a copy of their file. What is for all pieces, as that copy, has the number 
 import contextlib, hashlib, os, pathlib, re, shlex, shutil, socket, subprocess, sys, tarfile
 
 from .endings import Fault, escaped
+from .watching import rewrite
 from .writing import naming
 
 # What a host says if it can run pieces.
@@ -68,8 +69,9 @@ def tell_left_out(reasons):
     if len(lines) > MOST_TOLD:
         lines[MOST_TOLD:] = [f"note: so are {len(lines) - MOST_TOLD} more hosts"]
     for line in lines:
-        # A terminal may show the progress, and a host may send anything.
-        print("\r\x1b[K" * sys.stderr.isatty() + escaped(line), file=sys.stderr)
+        if sys.stderr.isatty():  # which may show the progress
+            rewrite()
+        print(escaped(line), file=sys.stderr)
 
 
 class HostJobs:

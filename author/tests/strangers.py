@@ -1,11 +1,12 @@
 """Gives the commands names, texts and files that a stranger chose, and looks what they leave."""
-import ast, contextlib, os, pathlib, re, signal, subprocess, sys, tempfile, time
+import ast, contextlib, fcntl, os, pathlib, pty, re, signal, struct, subprocess, sys, tempfile
+import termios, time
 from unittest import mock
 
 from author.lib import regular, tuning_files, writing
 from author.lib.schema import Malformed, from_json
 from author.lib.study_folder import quoted
-from gate.play import Place
+from gate import play
 from gate.tally import compare
 
 from .commands import (AUTHOR, SECONDS, TUNING, command, in_folders, run, started, wait_until)
@@ -206,6 +207,14 @@ def shown_while_read(place):
                                text=True, env={**os.environ, "PYTHONPATH": str(AUTHOR.parent)})
     yield compare("how far it is", (0, "rows of big.cert: 1024 of 10000"), (
         completed.returncode, completed.stderr.splitlines()[0]))
+    screen, terminal = pty.openpty()
+    fcntl.ioctl(terminal, termios.TIOCSWINSZ, struct.pack("4H", 9, 20, 0, 0))
+    subprocess.run([sys.executable, *words], cwd=place.folder, stdout=subprocess.DEVNULL,
+                   stderr=terminal, env={**os.environ, "PYTHONPATH": str(AUTHOR.parent)})
+    os.close(terminal)
+    lines = play.shown(screen).decode().split("\r")
+    yield compare("a terminal's line is cut to its width, and cleared", (
+        "rows of big.cert: 1\x1b[K", "\x1b[K"), (lines[1], lines[-1]))
 
 
 def unforeseen(place):
@@ -425,7 +434,7 @@ def schemas(place):
 
 
 def trials(program):
-    return in_folders(lambda folder: Place(program, folder, {
+    return in_folders(lambda folder: play.Place(program, folder, {
         **FILES, "step.cert": (TUNING / "step.cert").read_bytes()}), [
         dashes, terminals, hostile_inputs, endless, memory, shown_while_read, unforeseen,
         dropped_interrupts, early_interrupts, old_pythons, encodings, orphans, hang_ups, left_files,
