@@ -17,8 +17,8 @@ warrior. Several commands use
 - series, holdout, landscape, seek and vary: commands of which `cwtune-study` imports functions.
 
 A spread has its options in spread_words. spread_parts and spread_shares say what its jobs are, in a
-folder as spread_folder makes it; spread_jobs runs them here and spread_hosts, with spread_job.sh, on
-other hosts, spread_progress shows how far they are, and spread_report puts parts together.
+folder as spread_folder makes it; spread_jobs runs them here and spread_hosts, with spread_job.sh,
+on other hosts, spread_progress shows how far they are, and spread_report puts parts together.
 
 A study reads its inputs in study_inputs, and keeps its stages in study_folder. study_fresh plays
 the heats, study_result collects the numbers of report.json, and study_report makes the page of

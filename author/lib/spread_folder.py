@@ -24,7 +24,7 @@ from .tuning_files import MOST_SETTINGS
 # What the jobs of pieces have: their output, and on other hosts their archives, the inputs of all
 # pieces, the hosts, what rsync has not ended, and what GNU parallel keeps while it runs.
 JOB_FILES = (r"\d+\.\d+\.(report|fault|status|new|tar|taken|inputs[0-9a-f]{16}|hosts)|"
-             r"\.\d+\.\d+\.tar\.\w{6}|par\w{5}\.\w+")
+             r"\.\d+\.\d+\.tar\.\w{6}|par\w{5}\.(all|par|df)")
 
 
 class Copy(NamedTuple):
