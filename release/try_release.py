@@ -41,7 +41,7 @@ COMPLETIONS = [("cwtune che", "check"), ("cwtune tune --ca", "--cache"),
                ("cwtune check --sh", "--share"),
                ("cwtune fight --fi", "--first"), ("cwtune-scores --te", "--template"),
                ("cwtune-spread --me", "--merge"), ("cwtune-spread --check-o", "--check-only"),
-               ("cwtune-seek --st", "--starts"), ("cwtune-study --fr", "--fresh")]
+               ("cwtune-seek --mi", "--minutes"), ("cwtune-study --fr", "--fresh")]
 
 
 def run(words, folder, path):
