@@ -4,7 +4,8 @@ Each process plays one setting, as the only one of a template, in some blocks; -
 side by side. What was played is a list of records, which a study keeps in a file: a race that is
 begun again with them goes the same way, without a fight, up to where it was stopped.
 """
-import argparse, concurrent.futures, operator, os, pathlib, random, resource, subprocess, sys, time
+import argparse, concurrent.futures, operator, os, pathlib, random, resource, shutil
+import subprocess, sys, time
 from typing import NamedTuple
 
 from .endings import Fault, fault_of
@@ -20,6 +21,9 @@ BLOCKS_OF_PROCESS = 8
 END_PART, END_SECONDS = 0.01, 0.4
 # The seconds between two lines of progress.
 PROGRESS_SECONDS = 15
+# Has the kernel end a process with the thread that started it. A function that is called in the
+# new process would do so, too, but it takes Python three times as long.
+WITH_PARENT = ["setpriv", "--pdeathsig", "KILL", "--"] if shutil.which("setpriv") else []
 
 
 def processor_seconds():
@@ -84,11 +88,12 @@ class Arena:
         self.news, self.told_at = "", time.monotonic()
 
     def __enter__(self):
-        self.running = set()
+        self.running, self.is_over = set(), False
         self.threads = concurrent.futures.ThreadPoolExecutor(self.args.jobs)
         return self
 
     def __exit__(self, *_):
+        self.is_over = True
         self.threads.shutdown(wait=False, cancel_futures=True)
         for process in list(self.running):
             process.kill()
@@ -169,9 +174,11 @@ class Arena:
         words = [self.args.program, "tune", "--all", *self.rules.words(), "--",
                  self.folder / f"{number}.red", self.folder / f"{piece}.csv", "/dev/stdout",
                  *self.opponents]
-        with subprocess.Popen(words, stdin=subprocess.DEVNULL, stdout=subprocess.PIPE,
-                              stderr=subprocess.PIPE) as process:
+        with subprocess.Popen([*WITH_PARENT, *words], stdin=subprocess.DEVNULL,
+                              stdout=subprocess.PIPE, stderr=subprocess.PIPE) as process:
             self.running.add(process)
+            if self.is_over:
+                process.kill()
             stdout, stderr = process.communicate()
             self.running.discard(process)
         self.seconds_of_jobs += time.monotonic() - began_at

@@ -19,6 +19,7 @@ import math, sys
 from . import holdout
 from .endings import Fault, end_by_kill_as_by_interrupt
 from .grid import Grid
+from .program import run_program
 from .race import Race
 from .race_fights import Arena, add_budget, budget_of
 from .tuning_files import MOST_SETTINGS
@@ -96,6 +97,7 @@ def main():
     if not grid.names:
         raise Fault(f"{args.template}: no range line, which begins `;@tune` at the left margin "
                     "(cwtune-vary makes a template of a text with EQU lines)")
+    run_program(args.program, "--version")
     weights = holdout.weights_by_opponent(args.schedule, len(args.opponent))
     winner = seek(args, grid, weights)
     sys.stdout.buffer.write(grid.text(ranges_of(args, grid, winner), winner))

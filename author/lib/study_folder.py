@@ -113,13 +113,11 @@ class StudyFolder(OwnFolder):
     def read_mark(self):
         """Returns the mark. Refuses one whose stages have results that are none."""
         mark = super().read_mark()
-        for name, stage in mark.stages.items() if mark else ():
-            for pattern, schema in RESULTS.items():
-                try:
-                    if re.fullmatch(pattern, name):
-                        checked(schema, stage["result"], f"stages.{name}.result")
-                except Malformed as fault:
-                    raise Fault(f"{self.given_path}/{self.MARK}: {fault}", 2) from None
+        try:
+            for name, stage in mark.stages.items() if mark else ():
+                checked(result_schema(name), stage["result"], f"stages.{name}.result")
+        except Malformed as fault:
+            raise Fault(f"{self.given_path}/{self.MARK}: {fault}", 2) from None
         return mark
 
     def remove_unfinished(self):
@@ -135,7 +133,8 @@ class StudyFolder(OwnFolder):
         digests = {file: self.digest(file) for file in files}
         if name not in self.mark.stages or None in digests.values():
             self.stage_commands = []
-            result = run_stage()
+            # Through JSON, as a repeated command reads it: lists for tuples, texts for keys.
+            result = checked(result_schema(name), json.loads(json.dumps(run_stage())), name)
             digests = {file: self.digest(file) for file in files}
             self.mark.stages[name] = {"result": result, "commands": self.stage_commands,
                                       "files": digests}
@@ -145,8 +144,7 @@ class StudyFolder(OwnFolder):
             if digest is None or self.mark.stages[name]["files"].get(file) != digest:
                 raise Fault(f"{self.given_path}/{file} is not as it was written: give --anew to "
                             "begin again", 2)
-        # Through JSON, as a repeated command reads it: lists for tuples, texts for keys.
-        return json.loads(json.dumps(self.mark.stages[name]["result"]))
+        return self.mark.stages[name]["result"]
 
     @contextlib.contextmanager
     def reading(self, name):
@@ -202,6 +200,11 @@ class StudyFolder(OwnFolder):
                 sys.exit(status_of(status))
         self.log_command(words, output_name, time.monotonic() - began_at, messages)
         return messages
+
+
+def result_schema(stage):
+    """Returns the schema of the result of a stage."""
+    return next((schema for names, schema in RESULTS.items() if re.fullmatch(names, stage)), Any)
 
 
 def quoted(word):

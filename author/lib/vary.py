@@ -114,8 +114,8 @@ def equ_of(path, equs, name, values):
         raise Fault(f"{path}: no line `{name} EQU number`{hint}")
     if equ.value is None:
         text = shown(equ.text) or "nothing"
-        raise Fault(f"{path}, line {equ.line}: {text} is not a plain number, so {equ.name} can have "
-                    "no range")
+        raise Fault(f"{path}, line {equ.line}: {text} is not a plain number, so {equ.name} can "
+                    "have no range")
     if equ.value not in values:
         below = [value for value in values if value < equ.value]
         above = [value for value in values if value > equ.value]
