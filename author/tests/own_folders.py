@@ -7,7 +7,7 @@ a study at all its places; `run` plays fewer of both.
 import json, os, random, shutil, signal, subprocess, sys, tempfile
 
 from author.lib import endings, spread, study
-from author.lib.endings import run_tool
+from author.lib.endings import STATUS_WORDS, run_tool
 from author.lib.program import program_of
 from author.lib.regular import digest_of
 from author.lib.words import add_built, module_parser, number_from
@@ -16,6 +16,8 @@ from gate.tally import compare, tally
 from .commands import SECONDS, command, in_folders, played
 from .spread_place import DECOY, SpreadPlace
 from .study_place import StudyPlace, texts
+
+FAULTS = tuple(f"{word}: " for word in STATUS_WORDS.values())
 
 STUDY = ["t.red", "all"]
 PARTS = ["--jobs=1", "--parts=4", *DECOY]
@@ -169,7 +171,6 @@ def forged_reports(place):
             2, "error: t.study/report.json is malformed: give --anew to begin again\n"),
             (status, err))
     for name, result, fault in [
-        ("box", {"sought": 1, "fights": 0, "start": None}, ".sought: not true or false"),
         ("best", {"fights": "9", "check": ""}, ".fights: not a whole number"),
         ("fresh 1", {"0": ["2"]}, ".0[0]: not of its form"), ("winner", [], ": not null"),
     ]:
@@ -247,9 +248,9 @@ def kills_of_studies(place, step=11):
         shutil.copytree(place.folder / "kept", place.folder / "t.study")
         met = at_unlink(place, number, signal_name, "cwtune-study", ["--anew", *words])
         status, _, err = place.study(*words)
-        yield compare(f"{signal_name} at unlink {number}", (0, "", report), (
-            status, "".join(line for line in err.splitlines() if "fresh" not in line),
-            place.report("t")))
+        faults = [line for line in err.splitlines() if line.startswith(FAULTS)]
+        yield compare(f"{signal_name} at unlink {number}", (0, [], report), (
+            status, faults, place.report("t")))
         number += step
     yield compare("kills met a study that removes its files", True,
                   number > files or not shutil.which("strace"))
