@@ -180,7 +180,7 @@ class OwnFolder:
         with self.room_of(name) as (room, file_name):
             descriptor = os.open(file_name, os.O_RDWR | os.O_APPEND | os.O_CREAT | os.O_NOFOLLOW,
                                  0o666, dir_fd=room.descriptor)
-        return open(descriptor, "r+b", buffering=0)
+        return open(descriptor, "r+b")
 
     def write(self, name, text):
         """Writes a file of the folder, whole."""
