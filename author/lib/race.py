@@ -22,9 +22,9 @@ from .race_settings import anywhere, child, spread_evenly
 
 # Which part of the budget is used when exploring, the rounds and the final end.
 EXPLORED, RACED, DECIDED = 0.33, 0.70, 0.88
-# The blocks of START's first fights, which show how long the race takes; of the first heat of a
-# round; and of its longest. Each heat is twice as long as the one before.
-TRIAL_BLOCKS, FIRST_HEAT, LONGEST_HEAT = 16, 2, 8
+# The blocks of the first heat of a round, and of its longest. Each heat is twice as long as the one
+# before.
+FIRST_HEAT, LONGEST_HEAT = 2, 8
 # Which part of the settings of a heat goes on to the next. At least SURVIVORS do, and as many
 # survive the round.
 GOES_ON, SURVIVORS = 0.34, 8
@@ -93,7 +93,7 @@ class Race:
 
     def run(self):
         """Runs the race to its end. Returns the outcome."""
-        self.start.add(self.arena.rates([self.start], self.arena.new_blocks(TRIAL_BLOCKS))[0])
+        self.start.add(self.arena.rates([self.start], self.arena.trial_blocks())[0])
         self.start.guess = self.start.rate()
         self.arena.tell_estimate(f"a race of {self.grid.count()} settings")
         self.explore()

@@ -17,6 +17,8 @@ from .words import counted, number_from
 DEFAULT_FIGHTS = 300000
 # The blocks of one process, so that a long heat runs on several processors.
 BLOCKS_OF_PROCESS = 8
+# The most blocks, and about the most fights, of the trial before a race.
+TRIAL_BLOCKS, TRIAL_FIGHTS = 16, 200
 # How much of --minutes is left for the end of the command: a part of them, and some seconds.
 END_PART, END_SECONDS = 0.01, 0.4
 # The seconds between two lines of progress.
@@ -127,6 +129,11 @@ class Arena:
         self.block_count += count
         return [[positions.fight(opponent, number)
                  for opponent, positions in enumerate(self.positions)] for number in numbers]
+
+    def trial_blocks(self):
+        """Returns the first blocks, of START alone, which show how long the race takes. They take
+        two seconds at most, but in very slow fights."""
+        return self.new_blocks(max(1, min(TRIAL_BLOCKS, TRIAL_FIGHTS // len(self.opponents))))
 
     def rates(self, contenders, blocks):
         """Returns the rates of contenders in blocks, or None for one that does not assemble."""

@@ -25,7 +25,7 @@ from . import study_fresh, study_inputs, study_report
 from .endings import end_by_kill_as_by_interrupt
 from .grid import Grid
 from .program import Rules, rules_of
-from .race import TRIAL_BLOCKS, Contender
+from .race import Contender
 from .race_fights import Arena, Budget, add_budget
 from .series import series_fights
 from .study_folder import StudyFolder
@@ -137,7 +137,7 @@ class Study:
         with (temporary_folder() as folder,
               Arena(self.args, Budget(fights), grid, paths, self.args.weights, [],
                     folder) as arena):
-            arena.play([Contender(grid.start_values)], arena.new_blocks(TRIAL_BLOCKS))
+            arena.play([Contender(grid.start_values)], arena.trial_blocks())
             arena.tell_estimate("the tuning and its check")
 
     def write_winner(self, setting, template):
