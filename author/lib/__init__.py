@@ -23,7 +23,7 @@ other hosts, spread_progress shows how far they are, and spread_report puts part
 A study reads its inputs in study_inputs, and keeps its stages in study_folder. study_fresh plays
 the heats, study_result collects the numbers of report.json, and study_report makes the page of
 these, with the pictures of study_charts and study_map, the pieces of study_page and the style sheet
-of study_style.
+of study_style. race_hosts, with race_job.sh, has hosts play what a race is about to play.
 
 Where nothing else is said, a name means this:
 

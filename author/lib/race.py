@@ -121,14 +121,15 @@ class Race:
         return entered
 
     def play(self, phase, contenders, count, limit):
-        """Plays `count` new blocks, as far as `limit` of the race's budget allows. Returns those
-        who played and assemble."""
-        blocks, played = self.arena.new_blocks(count), []
+        """Plays new blocks, as far as `limit` of the race's budget allows: the first of `count`
+        that are to come. Returns those who played and assemble."""
+        blocks, played = self.arena.new_blocks(min(count, BLOCKS_AT_ONCE)), []
         for first in range(0, len(contenders), SETTINGS_AT_ONCE):
             some = contenders[first:first + SETTINGS_AT_ONCE]
-            if not self.arena.has_room(len(some) * count, limit * self.share):
+            if not self.arena.has_room(len(some) * len(blocks), limit * self.share):
                 break
             self.arena.news = f"{phase}, {len(self.contenders)} settings"
+            self.arena.hosts.play_ahead(contenders[first:], blocks, count, limit * self.share)
             for contender, rates in zip(some, self.arena.rates(some, blocks)):
                 contender.add(rates)
             played += some
@@ -213,8 +214,8 @@ class Race:
             out = [player for player in players[count:] if player.values != kept] + out
             players = [player for player in players if player not in out]
             plays = self.plays_until(limit) / (len(counts) - heat)
-            for length in pieces(int(plays / len(players))):
-                self.play(phase, players, length, limit)
+            for to_come in range(int(plays / len(players)), 0, -BLOCKS_AT_ONCE):
+                self.play(phase, players, to_come, limit)
             players.sort(key=Contender.rate, reverse=True)
         return players + out
 
@@ -224,9 +225,10 @@ class Race:
         pair, points = [Contender(first), Contender(second)], ([], [])
         while self.arena.has_room(2 * BLOCKS_AT_ONCE, limit * self.share):
             self.arena.news = f"{phase}, {len(self.contenders)} settings"
-            played = self.arena.play(pair, self.arena.new_blocks(BLOCKS_AT_ONCE))
-            for player_points, blocks in zip(points, played):
-                player_points.extend(blocks)
+            blocks = self.arena.new_blocks(BLOCKS_AT_ONCE)
+            self.arena.hosts.play_ahead(pair, blocks, math.inf, limit * self.share)
+            for player_points, of_blocks in zip(points, self.arena.play(pair, blocks)):
+                player_points.extend(of_blocks)
         return tuple(["".join(column) for column in zip(*blocks)] for blocks in points)
 
 
@@ -237,9 +239,3 @@ def plays_of_exploring():
         runners, length = GOES_ON * runners, min(2 * length, LONGEST_HEAT)
         plays += runners * length
     return plays
-
-
-def pieces(count):
-    """Yields the lengths of the pieces in which `count` blocks are played."""
-    for first in range(0, count, BLOCKS_AT_ONCE):
-        yield min(BLOCKS_AT_ONCE, count - first)
