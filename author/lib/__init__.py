@@ -21,7 +21,8 @@ folder as spread_folder makes it. spread_jobs runs them here, and spread_hosts, 
 on other hosts; spread_progress shows how far they are, and spread_report puts parts together.
 
 A race is in race. race_settings makes its new settings, race_model guesses what they make,
-race_fights plays its fights and keeps its budget, and race_journal keeps what was played in a file.
+race_fights plays its fights and keeps its budget, race_hosts, with race_job.sh, has hosts play what
+it is about to play, and race_journal keeps what was played in a file.
 
 A study reads its inputs in study_inputs, and keeps its stages in study_folder. study_race has the
 stages of a template that is too large to be tuned whole; of others study_fresh plays the heats.

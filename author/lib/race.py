@@ -127,13 +127,14 @@ class Race:
         return entered
 
     def play(self, contenders, count, limit):
-        """Plays `count` new blocks, until the part `limit` of the race's budget is used. Returns
-        the contenders that played and assemble."""
-        blocks, played = self.arena.new_blocks(count), []
+        """Plays new blocks, until the part `limit` of the race's budget is used: the first of
+        `count` that are to come. Returns the contenders that played and assemble."""
+        blocks, played = self.arena.new_blocks(min(count, BLOCKS_AT_ONCE)), []
         for first in range(0, len(contenders), SETTINGS_AT_ONCE):
             some = contenders[first:first + SETTINGS_AT_ONCE]
-            if not self.arena.has_room(len(some) * count, limit * self.share):
+            if not self.arena.has_room(len(some) * len(blocks), limit * self.share):
                 break
+            self.arena.hosts.play_ahead(contenders[first:], blocks, count, limit * self.share)
             for contender, rates in zip(some, self.arena.rates(some, blocks)):
                 contender.add(rates)
             played += some
@@ -222,8 +223,8 @@ class Race:
             out = [player for player in players[count:] if player.values != kept] + out
             players = [player for player in players if player not in out]
             plays = self.plays_until(limit) / (len(counts) - heat)
-            for length in pieces(int(plays / len(players))):
-                self.play(players, length, limit)
+            for to_come in range(int(plays / len(players)), 0, -BLOCKS_AT_ONCE):
+                self.play(players, to_come, limit)
             players.sort(key=Contender.rate, reverse=True)
         return players + out
 
@@ -232,9 +233,10 @@ class Race:
         Returns the points of both: a text for each opponent, with a digit for each fight."""
         pair, points = [Contender(first), Contender(second)], ([], [])
         while self.arena.has_room(2 * BLOCKS_AT_ONCE, limit * self.share):
-            played = self.arena.play(pair, self.arena.new_blocks(BLOCKS_AT_ONCE))
-            for player_points, blocks in zip(points, played):
-                player_points.extend(blocks)
+            blocks = self.arena.new_blocks(BLOCKS_AT_ONCE)
+            self.arena.hosts.play_ahead(pair, blocks, math.inf, limit * self.share)
+            for player_points, of_blocks in zip(points, self.arena.play(pair, blocks)):
+                player_points.extend(of_blocks)
         return tuple(["".join(column) for column in zip(*blocks)] for blocks in points)
 
 
@@ -245,9 +247,3 @@ def plays_of_exploring():
         runners, length = GOES_ON * runners, min(2 * length, LONGEST_HEAT)
         plays += runners * length
     return plays
-
-
-def pieces(count):
-    """Yields the lengths of the pieces in which `count` blocks are played."""
-    for first in range(0, count, BLOCKS_AT_ONCE):
-        yield min(BLOCKS_AT_ONCE, count - first)

@@ -58,8 +58,10 @@ class Study:
 
     def spread_words(self, *words):
         """Returns the words by which cwtune-spread tunes the box."""
-        return self.author_words("cwtune-spread", *words, f"--jobs={self.args.jobs}", "--progress",
-                                 "box.red", "schedule.csv", "best.cert", *self.opponents)
+        hosts = [f"--hosts={self.args.hosts}"] if self.args.hosts else []
+        return self.author_words("cwtune-spread", *words, *hosts, f"--jobs={self.args.jobs}",
+                                 "--progress", "box.red", "schedule.csv", "best.cert",
+                                 *self.opponents)
 
     def write_series(self, seed, rounds, name):
         """Writes the schedule that `cwtune-series` writes, which the log has."""
