@@ -176,7 +176,7 @@ class OwnFolder:
         with self.room_of(name) as (room, file_name):
             descriptor = os.open(file_name, os.O_RDWR | os.O_APPEND | os.O_CREAT | os.O_NOFOLLOW,
                                  0o666, dir_fd=room.descriptor)
-        file = open(descriptor, "r+b", buffering=0)
+        file = open(descriptor, "r+b")
         if os.fstat(descriptor).st_nlink > 1:
             file.close()
             raise untouched(f"{self.given_path}/{name}", "another name of a file")

@@ -1,8 +1,8 @@
 """Plays the fights of a race by `cwtune`, and keeps its budget.
 
 Each process plays one setting, as the only one of a template, in some blocks; --jobs of them run
-side by side. What was played is a list of records, which a study keeps in a file: a race that is
-begun again with them goes the same way, without a fight, up to where it was stopped.
+side by side. What was played is a list of records, which a study keeps in a file. A race that is
+begun again with these takes the points from them, up to where it was stopped.
 """
 import argparse, concurrent.futures, operator, os, pathlib, random, resource, shutil
 import subprocess, sys, time
@@ -10,6 +10,8 @@ from typing import NamedTuple
 
 from .endings import Fault, fault_of
 from .program import NO_CANDIDATE, reading_output, rules_of
+from .race_hosts import Hosts, points_of
+from .spread_hosts import read_hosts
 from .tuning_files import Fight, schedule_text
 from .words import counted, number_from
 
@@ -17,7 +19,9 @@ from .words import counted, number_from
 DEFAULT_FIGHTS = 300000
 # The blocks of one process, so that a long heat runs on several processors.
 BLOCKS_OF_PROCESS = 8
-# The part of --minutes that is left for the end of the command, and the seconds of it.
+# The most blocks, and about the most fights, of the trial before a race.
+TRIAL_BLOCKS, TRIAL_FIGHTS = 16, 200
+# How much of --minutes is left for the end of the command: a part of them, and some seconds.
 END_PART, END_SECONDS = 0.01, 0.4
 # The seconds between two lines of progress.
 PROGRESS_SECONDS = 15
@@ -47,7 +51,7 @@ class Budget(NamedTuple):
     seconds: float | None = None
 
     def used(self, fights, seconds):
-        """Returns which part of it some fights in some seconds are."""
+        """Returns which part of the budget is used by some fights that took some seconds."""
         parts = [fights / self.fights] if self.fights else []
         if self.seconds:
             parts.append(seconds / max(0.001, self.seconds * (1 - END_PART) - END_SECONDS))
@@ -55,24 +59,27 @@ class Budget(NamedTuple):
 
 
 class Positions:
-    """Where one opponent is placed, and who moves first, in one block after the other: in all
-    places once, in an order drawn by the seed, before one comes again, with the other first."""
+    """The fights against one opponent. It is placed at each possible position once, in an order
+    drawn by the seed. Then the positions come again, and the other warrior moves first."""
 
     def __init__(self, rules, dice):
-        self.places = list(range(rules.distance, rules.core - rules.distance + 1))
-        dice.shuffle(self.places)
+        self.positions = list(range(rules.distance, rules.core - rules.distance + 1))
+        dice.shuffle(self.positions)
         self.shift = dice.randrange(2)
 
     def fight(self, opponent, block):
-        cycle, index = divmod(block, len(self.places))
-        return Fight(opponent, self.places[index], "co"[(index + cycle + self.shift) % 2])
+        """Returns the fight of a block, which is given by its number."""
+        cycle, index = divmod(block, len(self.positions))
+        return Fight(opponent, self.positions[index], "co"[(index + cycle + self.shift) % 2])
 
 
 class Arena:
     """The fights of a race in the settings of a grid: `with` it, they can be played.
 
     `opponents` are the paths of the opponents, and `weights` how much each counts. `records` is a
-    list of what was played: a race that was stopped goes on by that of its last run.
+    list of what was played, to which each play adds: given those of a race that was stopped, the
+    same race goes on where it was. `news` is what the lines of progress say, and `hosts` play ahead
+    what would take long here.
     """
 
     def __init__(self, args, budget, grid, opponents, weights, records, folder):
@@ -84,7 +91,8 @@ class Arena:
         self.positions = [Positions(self.rules, dice) for _ in self.opponents]
         self.block_count = self.record_count = self.fights = 0
         self.began_at, self.seconds = clock(), 0.0
-        self.seconds_of_play, self.seconds_of_jobs = 0.0, 0.0
+        self.seconds_of_play, self.seconds_of_jobs, self.plays_of_jobs = 0.0, 0.0, 0
+        self.hosts = Hosts(self)
         self.news, self.told_at = "", time.monotonic()
 
     def __enter__(self):
@@ -98,6 +106,10 @@ class Arena:
         for process in list(self.running):
             process.kill()
         self.threads.shutdown()
+
+    def elapsed(self):
+        """Returns the seconds of the race, as its budget counts them."""
+        return clock() - self.began_at
 
     def used(self):
         """Returns which part of the budget is used."""
@@ -120,11 +132,21 @@ class Arena:
         self.began_at = clock() - self.seconds
 
     def new_blocks(self, count):
-        """Returns the next `count` blocks, each a list of fights."""
-        numbers = range(self.block_count, self.block_count + count)
+        """Returns the next `count` blocks, which no others play."""
+        blocks = self.blocks_to_come(count)
         self.block_count += count
-        return [[positions.fight(opponent, number)
-                 for opponent, positions in enumerate(self.positions)] for number in numbers]
+        return blocks
+
+    def blocks_to_come(self, count):
+        """Returns the next `count` blocks, each a tuple of fights."""
+        numbers = range(self.block_count, self.block_count + count)
+        return [tuple(positions.fight(opponent, number)
+                      for opponent, positions in enumerate(self.positions)) for number in numbers]
+
+    def trial_blocks(self):
+        """Returns the first blocks, of START alone, which show how long the race takes. They take
+        two seconds at most, but in very slow fights."""
+        return self.new_blocks(max(1, min(TRIAL_BLOCKS, TRIAL_FIGHTS // len(self.opponents))))
 
     def rates(self, contenders, blocks):
         """Returns the rates of contenders in blocks, or None for one that does not assemble."""
@@ -132,14 +154,18 @@ class Arena:
         return [points and [sum(map(operator.mul, self.weights, map(int, block))) / greatest
                             for block in points] for points in self.play(contenders, blocks)]
 
+    def is_recorded(self):
+        """Returns whether what comes next was played before."""
+        return self.record_count < len(self.records)
+
     def play(self, contenders, blocks):
         """Returns the points of contenders in blocks, or None for one that does not assemble. The
         points of a block are a text with a digit for each opponent."""
         settings = [list(contender.values) for contender in contenders]
-        if self.record_count == len(self.records):
-            points = self.run(settings, blocks)
+        if not self.is_recorded():
+            points = self.hosts.take(settings, blocks) or self.run(settings, blocks)
             self.records.append({"settings": settings, "points": points,
-                                 "seconds": round(clock() - self.began_at, 3)})
+                                 "seconds": round(self.elapsed(), 3)})
         record, plays = self.records[self.record_count], len(settings) * len(blocks)
         if record["settings"] != settings or not all(
                 points is None or [*map(len, points)] == [len(self.opponents)] * len(blocks)
@@ -166,14 +192,19 @@ class Arena:
         for of_setting in futures:
             points.append(joined([future.result() for future in of_setting]))
             self.tell_progress()
+        self.plays_of_jobs += len(settings) * len(blocks)
         return points
+
+    def words(self, program, template, schedule, opponents):
+        """Returns the words that play a setting, the only one of a template."""
+        return [program, "tune", "--all", *self.rules.words(), "--", template, schedule,
+                "/dev/stdout", *opponents]
 
     def run_process(self, number, piece):
         """Plays a setting in a piece of the blocks. Returns its points, or None."""
         began_at = time.monotonic()
-        words = [self.args.program, "tune", "--all", *self.rules.words(), "--",
-                 self.folder / f"{number}.red", self.folder / f"{piece}.csv", "/dev/stdout",
-                 *self.opponents]
+        words = self.words(self.args.program, self.folder / f"{number}.red",
+                           self.folder / f"{piece}.csv", self.opponents)
         with subprocess.Popen([*WITH_PARENT, *words], stdin=subprocess.DEVNULL,
                               stdout=subprocess.PIPE, stderr=subprocess.PIPE) as process:
             self.running.add(process)
@@ -188,12 +219,7 @@ class Arena:
         if process.returncode:
             raise fault_of(completed)
         with reading_output(self.args.program, "tune"):
-            row = stdout.split(b"\n", 3)[2].split(b",")[2].split(b" ")
-            points = {int(fight): digit for fight, _, digit in (item.partition(b":")
-                                                                for item in row)}
-            digits = b"".join(points[fight] for fight in range(len(points))).decode()
-        width = len(self.opponents)
-        return [digits[first:first + width] for first in range(0, len(digits), width)]
+            return points_of(stdout.split(b"\n", 3)[2], len(self.opponents))
 
     def tell_estimate(self, what):
         """Prints about how long the budget lasts, by the fights so far."""
@@ -237,6 +263,14 @@ def add_budget(parser):
                        help="end after N minutes, such as 10 or 0.5")
     group.add_argument("--jobs", type=number_from(1), default=os.cpu_count(), metavar="N",
                        help="jobs that run side by side [default: the processors]")
+    group.add_argument("--hosts", type=hosts_file, metavar="FILE", help="run on these hosts what "
+                       "takes more than a minute here, as `cwtune-spread --hosts`")
+
+
+def hosts_file(word):
+    """Reads the name of a file of hosts for argparse. Refuses a file without any."""
+    read_hosts(word)
+    return os.path.abspath(word)
 
 
 def minutes(word):

@@ -58,14 +58,14 @@ class HostsPlace(SpreadPlace):
 NOTHING = [], [], []
 
 
-def with_hosts(program, trial):
+def with_hosts(program, trial, make_place=HostsPlace):
     """Plays a trial with hosts, in a new folder. Yields names, and what was wrong."""
     refuse_missing_tools()
     with tempfile.TemporaryDirectory() as folder, SshHosts(f"{folder}/hosts") as hosts:
         work = pathlib.Path(folder, "work")
         work.mkdir()
         with mock.patch.dict(os.environ, hosts.environment()):
-            yield from trial(HostsPlace(program, work, hosts))
+            yield from trial(make_place(program, work, hosts))
 
 
 def good(place):

@@ -29,7 +29,8 @@ class MadeUpArena(race_fights.Arena):
     """An arena whose fights are made up: a setting wins the more, the nearer it is to `best`."""
 
     def __init__(self, values, fights, records=(), seed=1):
-        args = argparse.Namespace(seed=seed, jobs=1, hill="nano", program="")
+        args = argparse.Namespace(seed=seed, jobs=1, hosts=None, hill="nano",
+                                  program="")
         super().__init__(args, race_fights.Budget(fights), values, ["a", "b"], [1, 1],
                          list(records), ".")
         self.best, self.calls = (3, 4), []
@@ -151,6 +152,11 @@ def refusals(place):
                         ("--minutes=x", "argument --minutes: x is not a number of minutes")]:
         yield compare(word, (2, f"cwtune-seek: error: {fault}"),
                       (seek(place, word).status, seek(place, word).err.splitlines()[-1]))
+    place.write("empty", "# no host\n")
+    for name, fault in [("empty", (2, "error: empty: no host in it\n")),
+                        ("none", (3, "failed: none: No such file or directory\n"))]:
+        status, _, err = seek(place, f"--hosts={name}")
+        yield compare(f"--hosts={name}", fault, (status, err))
     status, out, err = seek(place, "--box=9999", options=["--fights=1000", "--hill=nano"],
                             files=("large.red", *rest))
     yield compare("a box of too many settings is not cut", (

@@ -17,7 +17,7 @@ from author.lib.words import add_built, module_parser
 from gate.tally import LeftOut, compare, tally
 
 from . import (clusters, hosts, landscapes, merging, origins, own_folders, racing, refusals,
-               reporting, sharing, spreading, strangers, studying, varying, warriors)
+               reporting, sharing, spreading, strangers, study_hosts, studying, varying, warriors)
 from .commands import (AUTHOR, SECONDS, TUNING, command, played, printed, run, started,
                        wait_until)
 
@@ -200,7 +200,8 @@ def all_trials(program, replaces):
             "refusals": refusals.trials(python), "signals": signals(),
             **{f"{module.__name__.rpartition('.')[2]}.{name}": trial
                for module in (warriors, varying, racing, origins, landscapes, strangers,
-                              own_folders, studying, spreading, merging, sharing, hosts, clusters)
+                              own_folders, studying, spreading, merging, sharing, hosts, study_hosts,
+                              clusters)
                for name, trial in module.trials(program).items()},
             **{f"reporting.{name}": trial for name, trial in reporting.trials().items()}}
 

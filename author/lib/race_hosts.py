@@ -1,0 +1,158 @@
+"""Has hosts play what a race is about to play, if that takes long here.
+
+What they played waits until the race comes to it. So the race goes the same way, and is recorded
+the same way, as without hosts. A piece of the work is some settings in some blocks.
+"""
+import math, os, pathlib, shutil, subprocess, time
+from typing import NamedTuple
+
+from .endings import Fault, fault_of
+from .program import reading_output
+from .race import SETTINGS_AT_ONCE
+from .spread_hosts import HostJobs, read_hosts
+from .tuning_files import MOST_FIGHTS, schedule_text
+
+# Hosts play what takes longer than that here; for one of their processors it is a piece.
+SECONDS = 60
+# How many pieces a processor of the hosts gets before the race goes on, and how many plays may wait
+# in memory: this much is lost by a kill.
+PIECES_AT_ONCE, MOST_PLAYS = 4, 500000
+SCRIPT = pathlib.Path(__file__).with_name("race_job.sh")
+
+
+def points_of(row, width):
+    """Returns the points of blocks of `width` fights, given the row of a certificate that lists
+    them all: a text for each block."""
+    points = {int(fight): digit for fight, _, digit in (item.partition(b":") for item
+                                                        in row.split(b",")[2].split(b" "))}
+    digits = b"".join(points[fight] for fight in range(len(points))).decode()
+    return [digits[first:first + width] for first in range(0, len(digits), width)]
+
+
+class Piece(NamedTuple):
+    """Settings that play in blocks."""
+
+    settings: list
+    blocks: list
+
+
+def pieces_of(settings, blocks, plays, most_blocks):
+    """Yields the pieces of about `plays` plays each, of at most `most_blocks` blocks."""
+    width = max(1, min(len(blocks), most_blocks, plays))
+    height = max(1, plays // width)
+    for block in range(0, len(blocks), width):
+        for setting in range(0, len(settings), height):
+            yield Piece(settings[setting:setting + height], blocks[block:block + width])
+
+
+class PiecesFolder:
+    """A temporary folder with pieces, as `HostJobs` wants it."""
+
+    SENT_KINDS, RETURNED_KINDS = ["settings", "csv"], ["report", "fault"]
+
+    def __init__(self, arena, pieces):
+        self.arena, self.pieces, self.pid = arena, dict(enumerate(pieces, 1)), os.getpid()
+        self.path = arena.folder / "pieces"
+        self.path.mkdir()
+        opponents = {f"o{index}.red": path for index, path in enumerate(arena.opponents)}
+        sources = {"cwtune": arena.args.program, "race_job": SCRIPT, **opponents}
+        for name, source in sources.items():
+            shutil.copy(source, self.path / name)
+        (self.path / "t.red").write_bytes(b"\n".join(arena.grid.lines))
+        self.opponents, self.copies = list(opponents), [*self.path.iterdir()]
+
+    def file(self, number, kind):
+        return self.path / f"{number}.{self.pid}.{kind}"
+
+    def prepare(self, number):
+        """Writes the settings of a piece, as scripts for sed, and the schedule of its blocks."""
+        piece, grid = self.pieces[number], self.arena.grid
+        with self.file(number, "settings").open("wb") as file:
+            for values in piece.settings:
+                lines = grid.line_through(values, ()).split(b"\n")
+                file.write(b";".join(b"%ds/.*/%s/" % (index + 1, lines[index])
+                                     for index in grid.line_indices) + b"\n")
+        fights = (fight for block in piece.blocks for fight in block)
+        self.file(number, "csv").write_text(schedule_text(fights))
+
+    def words(self, number):
+        """Returns the words that play a piece in the folder."""
+        name = f"{number}.{self.pid}"
+        return ["sh", "./race_job", f"{name}.settings",
+                *self.arena.words("./cwtune", "setting.red", f"{name}.csv", self.opponents)]
+
+    def result(self, number, status):
+        """Returns the points of a piece, by setting and block."""
+        piece, fault = self.pieces[number], self.file(number, "fault").read_bytes()
+        if status:
+            raise fault_of(subprocess.CompletedProcess(["cwtune"], status, b"", fault))
+        rows, points = self.file(number, "report").read_bytes().split(b"\n"), {}
+        with reading_output(self.arena.args.program, "tune"):
+            for values, row in zip(piece.settings, rows[:-1], strict=True):
+                of_blocks = (points_of(row, len(self.opponents)) if row
+                             else [None] * len(piece.blocks))
+                points |= {(values, block): point
+                           for block, point in zip(piece.blocks, of_blocks, strict=True)}
+        return points
+
+
+class Hosts:
+    """The hosts of a race, if there are any. `points` are those of what they played and the race
+    did not come to, by setting and block, and `seconds` those that a play of it took."""
+
+    def __init__(self, arena):
+        self.arena, self.points, self.seconds = arena, {}, 0.0
+
+    def play_ahead(self, contenders, blocks, count, limit):
+        """Has hosts play, if that takes long, what contenders are about to play: `blocks`, and the
+        blocks that come next, `count` in all, as far as `limit` of the budget allows."""
+        arena, settings = self.arena, [contender.values for contender in contenders]
+        if (not (arena.args.hosts and arena.plays_of_jobs) or arena.is_recorded()
+                or (settings[0], blocks[0]) in self.points):
+            return
+        plays, left = len(settings) * count, arena.plays_until(limit)
+        seconds_of_play = arena.seconds_of_jobs / arena.plays_of_jobs
+        if min(plays, left) * seconds_of_play < SECONDS * arena.args.jobs:
+            return
+        processors = len(read_hosts(arena.args.hosts)) * arena.args.jobs
+        most = min(left, MOST_PLAYS, PIECES_AT_ONCE * SECONDS * processors / seconds_of_play)
+        if plays > most:
+            # The race comes to this many plays, or a multiple of it, before it ends for the budget.
+            at_once = min(len(settings), SETTINGS_AT_ONCE) * len(blocks)
+            plays = max(1, int(most / at_once)) * at_once
+        more = min(count, plays // len(settings)) - len(blocks)
+        blocks = blocks + arena.blocks_to_come(max(0, more))
+        settings = settings[:max(1, plays // len(blocks))]
+        piece_count = max(processors, plays * seconds_of_play / SECONDS)
+        pieces = pieces_of(settings, blocks, math.ceil(plays / piece_count),
+                           MOST_FIGHTS // len(arena.opponents))
+        began_at = arena.elapsed()
+        self.points = self.play(PiecesFolder(arena, pieces))
+        seconds = arena.elapsed() - began_at
+        arena.began_at += seconds
+        self.seconds = seconds / len(self.points)
+
+    def play(self, folder):
+        """Plays the pieces of a folder. Returns the points."""
+        jobs, points = HostJobs(self.arena.args, folder, folder.pieces), {}
+        try:
+            while jobs.keep_running():
+                for number, status in jobs.take_ended():
+                    points |= folder.result(number, status)
+                self.arena.tell_progress()
+                time.sleep(0.02)
+            if jobs.waiting:
+                raise Fault(f"hosts have no result ({jobs.fault})", 3)
+        finally:
+            jobs.stop()
+            shutil.rmtree(folder.path)
+        return points
+
+    def take(self, settings, blocks):
+        """Returns the points of settings in blocks, or None if hosts did not play all of it."""
+        keys = [[(tuple(values), block) for block in blocks] for values in settings]
+        if not self.points or not all(key in self.points for of_one in keys for key in of_one):
+            return None
+        self.arena.began_at -= self.seconds * len(settings) * len(blocks)
+        points = [[self.points.pop(key) for key in of_one] for of_one in keys]
+        return [None if None in of_one else of_one for of_one in points]
