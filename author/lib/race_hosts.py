@@ -52,7 +52,7 @@ class PiecesFolder:
 
     def __init__(self, arena, pieces):
         self.arena, self.pieces, self.pid = arena, dict(enumerate(pieces, 1)), os.getpid()
-        self.path = arena.folder / "pieces"
+        self.path, self.work = arena.folder / "pieces", arena.work
         self.path.mkdir()
         opponents = {f"o{index}.red": path for index, path in enumerate(arena.opponents)}
         sources = {"cwtune": arena.args.program, "race_job": SCRIPT, **opponents}
