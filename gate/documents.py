@@ -21,7 +21,7 @@ BLOCK = re.compile(r"(?:^    .*\n)+", re.M)
 # What is saved: `Save this as NAME`, and the next block.
 SAVED = re.compile(r"Save this as\s+`([^`]+)`")
 END = "end of a command"
-SECONDS = 300
+SECONDS = 600
 
 
 def without_margin(block):

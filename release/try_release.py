@@ -32,7 +32,7 @@ AUTHOR_RUNS = [
     ("cwtune-spread --jobs 2 a.red fights.csv b.cert dwarf.red", "vectors 3\n"),
     ("cwtune-files a.red a.cert", "a.red: template of 3 settings"),
     ("cwtune-vary dwarf.red", "step=4: line 12, "),
-    ("cwtune-seek a.red fights.csv dwarf.red", ";redcode-94\n"),
+    ("cwtune-seek --fights 1000 a.red fights.csv dwarf.red", ";redcode-94\n"),
     ("cwtune-study --rounds 2 --fresh 2 a.red dwarf.red", "all 3 settings are tuned"),
 ]
 # Begun words of a command line, and how bash completes the last.
@@ -41,7 +41,7 @@ COMPLETIONS = [("cwtune che", "check"), ("cwtune tune --ca", "--cache"),
                ("cwtune check --sh", "--share"),
                ("cwtune fight --fi", "--first"), ("cwtune-scores --te", "--template"),
                ("cwtune-spread --me", "--merge"), ("cwtune-spread --check-o", "--check-only"),
-               ("cwtune-seek --st", "--starts"), ("cwtune-study --fr", "--fresh")]
+               ("cwtune-seek --mi", "--minutes"), ("cwtune-study --fr", "--fresh")]
 
 
 def run(words, folder, path):

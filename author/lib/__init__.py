@@ -14,16 +14,20 @@ warrior. Several commands use
 - cert_inputs: which inputs a certificate is for, by CERT.inputs;
 - own_folder: the folder in which a spread or a study keeps its work;
 - mean_error: the standard error of a mean;
-- series, holdout, landscape, seek and vary: commands of which `cwtune-study` imports functions.
+- series, holdout, landscape and vary: commands of which `cwtune-study` imports functions.
 
 A spread has its options in spread_words. spread_parts and spread_shares say what its jobs are, in a
-folder as spread_folder makes it; spread_jobs runs them here and spread_hosts, with spread_job.sh, on
-other hosts, spread_progress shows how far they are, and spread_report puts parts together.
+folder as spread_folder makes it. spread_jobs runs them here, and spread_hosts, with spread_job.sh,
+on other hosts; spread_progress shows how far they are, and spread_report puts parts together.
 
-A study reads its inputs in study_inputs, and keeps its stages in study_folder. study_fresh plays
-the heats, study_result collects the numbers of report.json, and study_report makes the page of
-these, with the pictures of study_charts and study_map, the pieces of study_page and the style sheet
-of study_style. race_hosts, with race_job.sh, has hosts play what a race is about to play.
+A race is in race. race_settings makes its new settings, race_model guesses what they make,
+race_fights plays its fights and keeps its budget, race_hosts, with race_job.sh, has hosts play what
+it is about to play, and race_journal keeps what was played in a file.
+
+A study reads its inputs in study_inputs, and keeps its stages in study_folder. study_race has the
+stages of a template that is too large to be tuned whole; of others study_fresh plays the heats.
+study_result collects the numbers of report.json, and study_report makes the page of these, with the
+pictures of study_charts and study_map, the pieces of study_page and the style sheet of study_style.
 
 Where nothing else is said, a name means this:
 

@@ -80,6 +80,7 @@ def run_tool(main):
     A closed pipe and Ctrl-C end it by their signals and without a word, as they end `cat`.
     """
     end_by_kill_as_by_interrupt()
+    sys.unraisablehook = interrupt_again
     try:
         status = main()
         sys.stdout.flush()
@@ -163,11 +164,21 @@ def end_by(signal_number):
 
 
 def end_by_kill_as_by_interrupt():
-    """Lets what `kill` and a terminal that is closed send end the command as Ctrl-C does, unless
-    `nohup` or another parent has it ignored."""
-    for signal_number in (signal.SIGTERM, signal.SIGHUP):
+    """Has Ctrl-C raise a KeyboardInterrupt, and so what `kill` and a terminal that is closed send,
+    unless `nohup` or another parent has it ignored."""
+    for signal_number in (signal.SIGINT, signal.SIGTERM, signal.SIGHUP):
         if signal.getsignal(signal_number) != signal.SIG_IGN:
             signal.signal(signal_number, signal.default_int_handler)
+
+
+def interrupt_again(unraisable):
+    """Has an interrupt come again that came where Python drops exceptions: in a destructor, or in
+    what it calls back when an object is gone, of which matplotlib has thousands."""
+    if unraisable.exc_type is not KeyboardInterrupt:
+        sys.__unraisablehook__(unraisable)
+        return
+    signal.signal(signal.SIGALRM, signal.default_int_handler)
+    signal.setitimer(signal.ITIMER_REAL, 0.01)
 
 
 def end_with_parent():

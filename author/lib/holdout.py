@@ -145,7 +145,8 @@ class Holdout:
         self.cert = tuning_files.Certificate(args.cert)
         self.template = tuning_files.Template(args.template).checked_for(self.cert)
         self.fights = self.cert.fights(args.schedule)
-        self.fresh_fights = FreshFights(args, weights_by_opponent(args.schedule, len(args.opponents)))
+        weights = weights_by_opponent(args.schedule, len(args.opponents))
+        self.fresh_fights = FreshFights(args, weights)
         self.ranking = self.cert.ranked(self.fights)
         self.points = {}
 

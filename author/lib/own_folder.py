@@ -4,10 +4,10 @@ The folder is locked while the command is at work in it. Its mark, a file of JSO
 command made it and of what, so that no folder of somebody else is touched.
 
 A folder may come from a stranger, with links where the command writes. The path to it may go
-through links. But it and its rooms, the folders in it, have to be real folders of the user, and
-what has a name that the command gives has to be a regular file of the user; anything else is
-refused with its name. What has another name is left alone. All is done by the descriptors of the
-folders, so nothing is written or removed through a link.
+through links, but the folder and its rooms, the folders in it, have to be real ones of the user.
+Each name that the command gives has to be that of a regular file of the user, if it is there;
+anything else is refused with its name. What has another name is left alone. All is done by the
+descriptors of the folders, so nothing is written or removed through a link.
 """
 import contextlib, dataclasses, errno, fcntl, json, os, pathlib, re, stat
 
@@ -73,9 +73,9 @@ class OwnFolder:
     """A folder of the command `COMMAND`, locked until the command ends.
 
     `MARK` is the name of its mark, and `SCHEMA` its dataclass, with the entry `by`. `THROWN` and
-    `INSTEAD` are words of the fault for other inputs: what --anew throws away, and what to name
-    otherwise to get a new folder. `given_path` is its path as the user or the command gives it, and
-    `path` the whole one.
+    `INSTEAD` are words of the fault for other inputs: what --anew throws away, and which word of
+    the command names another folder. `given_path` is its path as the user or the command gives it,
+    and `path` the whole one.
     """
 
     COMMAND = MARK = THROWN = INSTEAD = ""
@@ -99,7 +99,7 @@ class OwnFolder:
         raise NotImplementedError
 
     def patterns(self):
-        """Yields the rooms, each with the pattern of its names and of those that writing uses."""
+        """Yields the rooms, each with the pattern of its names, also while they are written."""
         for room, names in self.rooms().items():
             more = "" if room else rf"|{re.escape(self.MARK)}\.\d+\.new"
             yield room, rf"({names})(\.\d+\.new)?{more}"
@@ -153,12 +153,7 @@ class OwnFolder:
         """Returns what a file of JSON says, as the schema has it. Raises a Malformed, or a
         FileNotFoundError."""
         with self.room_of(name) as (room, file_name):
-            try:
-                return from_json(schema, read_regular(MOST_BYTES, **room.place(file_name)))
-            except Malformed:
-                raise
-            except ValueError as fault:
-                raise Malformed(str(fault)) from None
+            return from_json(schema, read_regular(MOST_BYTES, **room.place(file_name)))
 
     def write_mark(self, mark):
         with self.whole_file(self.MARK) as file:
@@ -176,11 +171,16 @@ class OwnFolder:
         return open_new(self.top.descriptor, name, "wb")
 
     def open_to_append(self, name):
-        """Opens a file of the folder, or makes it, to read it and to write at its end."""
+        """Opens a file of the folder, or makes it, to read it and to write at its end. Refuses one
+        that has a name elsewhere, too, as it would change there."""
         with self.room_of(name) as (room, file_name):
             descriptor = os.open(file_name, os.O_RDWR | os.O_APPEND | os.O_CREAT | os.O_NOFOLLOW,
                                  0o666, dir_fd=room.descriptor)
-        return open(descriptor, "r+b", buffering=0)
+        file = open(descriptor, "r+b")
+        if os.fstat(descriptor).st_nlink > 1:
+            file.close()
+            raise untouched(f"{self.given_path}/{name}", "another name of a file")
+        return file
 
     def write(self, name, text):
         """Writes a file of the folder, whole."""
@@ -206,8 +206,8 @@ class OwnFolder:
                     room.refuse_strange(pattern)
 
     def remove_all(self):
-        """Removes the rooms and all files of the command but the mark, which has to say so before,
-        since a kill may come between two of them."""
+        """Removes the rooms and all files of the command but the mark. The mark has to say so
+        before, since a kill may come in between."""
         for name, pattern in self.patterns():
             with self.room(name) as room:
                 if room:
@@ -227,7 +227,7 @@ class OwnFolder:
 
 
 def real_parent(path):
-    """Returns the path whose folders, but not its last name, are without links."""
+    """Returns a path without links in its folders; its last name may be one."""
     folder, name = os.path.split(str(path).rstrip("/") or "/")
     if name in ("", ".", ".."):
         return pathlib.Path(os.path.realpath(path))

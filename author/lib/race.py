@@ -22,10 +22,11 @@ from .race_settings import anywhere, child, spread_evenly
 
 # Which part of the budget is used when exploring, the rounds and the final end.
 EXPLORED, RACED, DECIDED = 0.33, 0.70, 0.88
-# The blocks of START's first fights, which show how long the race takes; of the first heat of a
-# round; and of its longest. Each heat is twice as long as the one before.
-TRIAL_BLOCKS, FIRST_HEAT, LONGEST_HEAT = 16, 2, 8
-# Which part of a heat goes on, and how many at least: those that survive a round.
+# The blocks of the first heat of a round, and of its longest. Each heat is twice as long as the one
+# before.
+FIRST_HEAT, LONGEST_HEAT = 2, 8
+# Which part of the settings of a heat goes on to the next. At least SURVIVORS do, and as many
+# survive the round.
 GOES_ON, SURVIVORS = 0.34, 8
 # How many new settings a round has, and how many of these come from anywhere. For each, TRIES are
 # made, of which the model takes one.
@@ -92,7 +93,7 @@ class Race:
 
     def run(self):
         """Runs the race to its end. Returns the outcome."""
-        self.start.add(self.arena.rates([self.start], self.arena.new_blocks(TRIAL_BLOCKS))[0])
+        self.start.add(self.arena.rates([self.start], self.arena.trial_blocks())[0])
         self.start.guess = self.start.rate()
         self.arena.tell_estimate(f"a race of {self.grid.count()} settings")
         self.explore()
@@ -104,14 +105,19 @@ class Race:
         if winner == self.start.values or not self.start.assembles:
             return Outcome(winner, finalists, None, None)
         rise = self.contenders[winner].rate() - self.start.rate()
-        return Outcome(winner, finalists, rise, self.measure("gain", winner, self.start.values, 1))
+        self.tell("gain")
+        return Outcome(winner, finalists, rise, self.measure(winner, self.start.values, 1))
+
+    def tell(self, news):
+        """Has the lines of progress say what is played from now on."""
+        self.arena.news = f"{news}, {len(self.contenders)} settings"
 
     def leader(self):
         """Returns the values of the best setting, by what is known so far."""
         return (self.survivors or [self.start])[0].values
 
     def enter(self, settings):
-        """Returns new contenders: those of some settings that never entered."""
+        """Enters those of some settings that did not enter before. Returns them."""
         entered = []
         for values in settings:
             if values not in self.contenders:
@@ -120,15 +126,14 @@ class Race:
                 entered.append(self.contenders[values])
         return entered
 
-    def play(self, phase, contenders, count, limit):
-        """Plays new blocks, as far as `limit` of the race's budget allows: the first of `count`
-        that are to come. Returns those who played and assemble."""
+    def play(self, contenders, count, limit):
+        """Plays new blocks, until the part `limit` of the race's budget is used: the first of
+        `count` that are to come. Returns the contenders that played and assemble."""
         blocks, played = self.arena.new_blocks(min(count, BLOCKS_AT_ONCE)), []
         for first in range(0, len(contenders), SETTINGS_AT_ONCE):
             some = contenders[first:first + SETTINGS_AT_ONCE]
             if not self.arena.has_room(len(some) * len(blocks), limit * self.share):
                 break
-            self.arena.news = f"{phase}, {len(self.contenders)} settings"
             self.arena.hosts.play_ahead(contenders[first:], blocks, count, limit * self.share)
             for contender, rates in zip(some, self.arena.rates(some, blocks)):
                 contender.add(rates)
@@ -136,36 +141,38 @@ class Race:
         return [contender for contender in played if contender.assembles]
 
     def plays_until(self, limit):
-        """Returns how many plays are left of a part of the race's budget."""
+        """Returns how many plays are left until the part `limit` of the race's budget is used."""
         return self.arena.plays_until(limit * self.share)
 
     def explore(self):
         """Races settings from everywhere, as many as their part of the budget has room for."""
         count = int(self.plays_until(EXPLORED) / plays_of_exploring())
         new = self.enter(spread_evenly(self.grid.ranges, count, self.dice))
-        played = self.play("exploring", new, FIRST_HEAT, EXPLORED)
+        self.tell("exploring")
+        played = self.play(new, FIRST_HEAT, EXPLORED)
         mean = sum(map(Contender.rate, played)) / max(1, len(played))
         for contender in played:
             contender.guess = mean
-        self.race("exploring", played, EXPLORED)
+        self.race(played, EXPLORED)
 
     def improve(self, number):
         """Runs a round. Returns whether the budget had room for it, and a new setting was found."""
         known = [contender for contender in self.contenders.values() if contender.blocks]
         if not known or self.plays_until(RACED) < NEW_SETTINGS * FIRST_HEAT:
             return False
-        phase, self.model = f"round {number}", Model(self.grid.ranges, known)
+        self.model = Model(self.grid.ranges, known)
         new = self.enter(self.choices())
-        self.race(phase, self.play(phase, new, FIRST_HEAT, RACED), RACED)
+        self.tell(f"round {number}")
+        self.race(self.play(new, FIRST_HEAT, RACED), RACED)
         return bool(new)
 
-    def race(self, phase, new, limit):
-        """Races those who played the first heat of a round against the survivors of the last one.
-        Sets those that survive."""
+    def race(self, new, limit):
+        """Races those that played the first heat of a round against the survivors of the round
+        before. Sets the survivors of this one."""
         runners, length = self.best([*new, *self.survivors]), FIRST_HEAT
         while length < LONGEST_HEAT or len(runners) > SURVIVORS + 1:
             length = min(2 * length, LONGEST_HEAT)
-            played = self.play(phase, runners, length, limit)
+            played = self.play(runners, length, limit)
             runners = self.best(runners)
             if not played:
                 break
@@ -201,30 +208,31 @@ class Race:
         if not finalists:
             raise Fault("no setting that was tried assembles; `cwtune asm --setting start` says "
                         "why of START")
-        ranked = self.knock_out("final", finalists, FINALISTS, self.start.values, DECIDED)
+        self.tell("final")
+        ranked = self.knock_out(finalists, FINALISTS, self.start.values, DECIDED)
         for finalist in ranked:
             self.contenders[finalist.values].add([finalist.rate()] * finalist.blocks)
         return ranked
 
-    def knock_out(self, phase, settings, counts, kept, limit):
-        """Plays settings in heats of fresh blocks, in which nothing else counts. In each heat play
-        the first of `counts` and `kept`. Returns them as new contenders, the best first."""
+    def knock_out(self, settings, counts, kept, limit):
+        """Plays settings in heats of fresh blocks, which alone count. `counts` says how many play
+        in each heat, the best so far; the setting `kept` plays in all. Returns the settings as new
+        contenders, the best first."""
         players, out = [Contender(values) for values in settings], []
         for heat, count in enumerate(counts if len(players) > 1 else ()):
             out = [player for player in players[count:] if player.values != kept] + out
             players = [player for player in players if player not in out]
             plays = self.plays_until(limit) / (len(counts) - heat)
             for to_come in range(int(plays / len(players)), 0, -BLOCKS_AT_ONCE):
-                self.play(phase, players, to_come, limit)
+                self.play(players, to_come, limit)
             players.sort(key=Contender.rate, reverse=True)
         return players + out
 
-    def measure(self, phase, first, second, limit):
-        """Plays two settings in fresh blocks, until `limit` of the race's budget is used. Returns
-        the points of both: a text for each opponent, with a digit for each fight."""
+    def measure(self, first, second, limit):
+        """Plays two settings in fresh blocks, until the part `limit` of the race's budget is used.
+        Returns the points of both: a text for each opponent, with a digit for each fight."""
         pair, points = [Contender(first), Contender(second)], ([], [])
         while self.arena.has_room(2 * BLOCKS_AT_ONCE, limit * self.share):
-            self.arena.news = f"{phase}, {len(self.contenders)} settings"
             blocks = self.arena.new_blocks(BLOCKS_AT_ONCE)
             self.arena.hosts.play_ahead(pair, blocks, math.inf, limit * self.share)
             for player_points, of_blocks in zip(points, self.arena.play(pair, blocks)):

@@ -1,8 +1,8 @@
 """Plays the fights of a race by `cwtune`, and keeps its budget.
 
 Each process plays one setting, as the only one of a template, in some blocks; --jobs of them run
-side by side. What was played is a list of records, which a study keeps in a file: a race that is
-begun again with them goes the same way, without a fight, up to where it was stopped.
+side by side. What was played is a list of records, which a study keeps in a file. A race that is
+begun again with these takes the points from them, up to where it was stopped.
 """
 import argparse, concurrent.futures, operator, os, pathlib, random, resource, shutil
 import subprocess, sys, time
@@ -19,7 +19,9 @@ from .words import counted, number_from
 DEFAULT_FIGHTS = 300000
 # The blocks of one process, so that a long heat runs on several processors.
 BLOCKS_OF_PROCESS = 8
-# The part of --minutes that is left for the end of the command, and the seconds of it.
+# The most blocks, and about the most fights, of the trial before a race.
+TRIAL_BLOCKS, TRIAL_FIGHTS = 16, 200
+# How much of --minutes is left for the end of the command: a part of them, and some seconds.
 END_PART, END_SECONDS = 0.01, 0.4
 # The seconds between two lines of progress.
 PROGRESS_SECONDS = 15
@@ -49,7 +51,7 @@ class Budget(NamedTuple):
     seconds: float | None = None
 
     def used(self, fights, seconds):
-        """Returns which part of it some fights in some seconds are."""
+        """Returns which part of the budget is used by some fights that took some seconds."""
         parts = [fights / self.fights] if self.fights else []
         if self.seconds:
             parts.append(seconds / max(0.001, self.seconds * (1 - END_PART) - END_SECONDS))
@@ -57,25 +59,27 @@ class Budget(NamedTuple):
 
 
 class Positions:
-    """Where one opponent is placed, and who moves first, in one block after the other: in all
-    places once, in an order drawn by the seed, before one comes again, with the other first."""
+    """The fights against one opponent. It is placed at each possible position once, in an order
+    drawn by the seed. Then the positions come again, and the other warrior moves first."""
 
     def __init__(self, rules, dice):
-        self.places = list(range(rules.distance, rules.core - rules.distance + 1))
-        dice.shuffle(self.places)
+        self.positions = list(range(rules.distance, rules.core - rules.distance + 1))
+        dice.shuffle(self.positions)
         self.shift = dice.randrange(2)
 
     def fight(self, opponent, block):
-        cycle, index = divmod(block, len(self.places))
-        return Fight(opponent, self.places[index], "co"[(index + cycle + self.shift) % 2])
+        """Returns the fight of a block, which is given by its number."""
+        cycle, index = divmod(block, len(self.positions))
+        return Fight(opponent, self.positions[index], "co"[(index + cycle + self.shift) % 2])
 
 
 class Arena:
     """The fights of a race in the settings of a grid: `with` it, they can be played.
 
     `opponents` are the paths of the opponents, and `weights` how much each counts. `records` is a
-    list of what was played: a race that was stopped goes on by that of its last run. `hosts` play
-    ahead what would take long here; `work` is a name by which they know what an earlier run left.
+    list of what was played, to which each play adds: given those of a race that was stopped, the
+    same race goes on where it was. `news` is what the lines of progress say, and `hosts` play ahead
+    what would take long here; `work` is a name by which they know what an earlier run left.
     """
 
     def __init__(self, args, budget, grid, opponents, weights, records, folder, work=None):
@@ -139,6 +143,11 @@ class Arena:
         numbers = range(self.block_count, self.block_count + count)
         return [tuple(positions.fight(opponent, number)
                       for opponent, positions in enumerate(self.positions)) for number in numbers]
+
+    def trial_blocks(self):
+        """Returns the first blocks, of START alone, which show how long the race takes. They take
+        two seconds at most, but in very slow fights."""
+        return self.new_blocks(max(1, min(TRIAL_BLOCKS, TRIAL_FIGHTS // len(self.opponents))))
 
     def rates(self, contenders, blocks):
         """Returns the rates of contenders in blocks, or None for one that does not assemble."""

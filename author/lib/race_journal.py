@@ -5,6 +5,8 @@ from typing import Annotated, TypedDict
 from .endings import Fault
 from .schema import Malformed, from_json
 
+# More than a line has.
+MOST_BYTES = 1 << 20
 Block = Annotated[str, re.compile("[013]+")]
 
 
@@ -21,22 +23,31 @@ class Journal(list):
     is removed. `shown` is the file's name for faults."""
 
     def __init__(self, file, shown):
-        self.file, self.shown = file, shown
-        lines = file.read().split(b"\n")
-        self.file.truncate(sum(len(line) + 1 for line in lines[:-1]))
-        super().__init__(self.read(number, line) for number, line in enumerate(lines[:-1], 1))
+        super().__init__()
+        self.file, self.shown, whole_bytes = file, shown, 0
+        while (line := file.readline(MOST_BYTES)).endswith(b"\n"):
+            super().append(self.read(line))
+            whole_bytes += len(line)
+        if len(line) == MOST_BYTES:
+            raise self.fault(f"{MOST_BYTES} bytes or more")
+        file.truncate(whole_bytes)
 
-    def read(self, number, line):
-        """Returns the record of a line. Refuses one that is none."""
+    def fault(self, what):
+        """Returns what is wrong with the next line."""
+        return Fault(f"{self.shown}: line {len(self) + 1}: {what}", 2)
+
+    def read(self, line):
+        """Returns the record of the next line. Refuses one that is none."""
         try:
             record = from_json(Record, line)
             if len(record["settings"]) == len(record["points"]):
                 return record
             raise Malformed("a list of another length")
         except Malformed as fault:
-            raise Fault(f"{self.shown}: line {number}: {fault}", 2) from None
+            raise self.fault(fault) from None
 
     def append(self, record):
         """Adds a record, and writes it."""
         super().append(record)
         self.file.write(json.dumps(record, separators=(",", ":")).encode() + b"\n")
+        self.file.flush()

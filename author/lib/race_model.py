@@ -1,15 +1,16 @@
 """Guesses what a setting makes from what others made: an additive model of the constants.
 
-A guess is the mean of all settings, and what each of its values adds to it. That is a smooth curve
-over the values of the constant, and what the value itself adds beyond the curve, drawn to 0 where
-it played little. The constants are fitted in turn, each to what the others leave over.
+A guess is the mean of all settings, plus what each value of the setting adds. What a value adds is
+the height of a smooth curve over the constant's values, plus a part of its own; the less a value
+was played, the nearer its own part is to 0. The constants are fitted in turn, each to what the
+others leave over.
 """
 import math
 
 # The width of a curve's kernel, as a part of the range, and the most cells of a curve.
 WIDTH, MOST_CELLS = 0.03, 200
-# How many blocks draw a rate half way to the guess, and how many settings a curve and a value's own
-# part to 0.
+# After PRIOR_BLOCKS an estimate is half way between the guess and the rate. So are a curve after
+# CURVE_PRIOR settings and the own part of a value after OWN_PRIOR, between 0 and their mean.
 PRIOR_BLOCKS, CURVE_PRIOR, OWN_PRIOR = 6, 2, 4
 
 
@@ -60,7 +61,7 @@ class Sums:
 
 
 class Model:
-    """The model of what some contenders made, which have the values `values`, blocks and rates."""
+    """The model of what some contenders made."""
 
     def __init__(self, ranges, contenders):
         known = [contender for contender in contenders if contender.blocks]

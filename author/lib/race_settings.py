@@ -24,7 +24,8 @@ def anywhere(ranges, dice):
 
 def child(parents, ranges, reach, dice):
     """Returns a setting near one of the parents, which are given best first: with values of a
-    second one, with one or two values moved, or both. `reach` is how far, as a part of a range."""
+    second one, with one or two values moved, or both. `reach` is how far a value moves, as a part
+    of its range."""
     first, second = dice.choice(parents[:max(2, len(parents) // 2)]), dice.choice(parents)
     values = [other if dice.random() < SECOND_PARENT else own for own, other in zip(first, second)]
     if tuple(values) == first or dice.random() < CHANGED:

@@ -2,6 +2,7 @@
 import errno, hashlib, os, stat
 
 from .endings import Fault
+from .schema import Malformed
 
 KINDS = {stat.S_IFLNK: "a link", stat.S_IFIFO: "a FIFO", stat.S_IFSOCK: "a socket",
          stat.S_IFDIR: "a folder", stat.S_IFREG: "a file"}
@@ -43,11 +44,11 @@ def refuse_endless(paths):
 
 
 def read_regular(most, *place, **more):
-    """Returns what a regular file has, and raises a ValueError if that is more than `most` bytes.
+    """Returns what a regular file has, and raises a Malformed if that is more than `most` bytes.
     `place` and `more` are arguments of `open_regular`."""
     with open_regular(*place, **more) as file:
         if os.fstat(file.fileno()).st_size > most or len(text := file.read(most + 1)) > most:
-            raise ValueError(f"more than {most} bytes")
+            raise Malformed(f"more than {most} bytes")
         return text
 
 

@@ -1,8 +1,8 @@
 """Reads values of JSON by a schema, and says in which entry one is wrong.
 
-A schema is a type, a dataclass or a TypedDict. `Annotated` bounds one: by a range what a number may
-be, or how many a list may have, and by a pattern what a text may be. Entries that a schema does not
-name are ignored, and kept in the dict of a TypedDict.
+A schema is a type, a dataclass or a TypedDict, and `Annotated` bounds one: a range bounds a number,
+or the length of a list, and a pattern has to match a text. Entries that a schema does not name are
+ignored, and kept in the dict of a TypedDict.
 """
 import dataclasses, json, math, re, types, typing
 from typing import Annotated
@@ -102,10 +102,10 @@ CONTAINERS = {list: checked_list, tuple: checked_tuple, dict: checked_dict}
 
 
 def entries(schema, values, entry):
-    """Returns the entries that a dataclass or a TypedDict names, those without a default all."""
-    optional = {field.name for field in dataclasses.fields(schema)
-                if field.default is not dataclasses.MISSING} if dataclasses.is_dataclass(
-                    schema) else set()
+    """Returns the entries that a dataclass or a TypedDict names. Refuses values that lack one
+    without a default."""
+    fields = dataclasses.fields(schema) if dataclasses.is_dataclass(schema) else ()
+    optional = {field.name for field in fields if field.default is not dataclasses.MISSING}
     hints = typing.get_type_hints(schema, include_extras=True)
     if missing := [name for name in hints if name not in values and name not in optional]:
         raise named(entry, f"no entry `{missing[0]}`")

@@ -6,8 +6,8 @@
     I.done           what came of piece I
     I.PID.*          what the run with that process id has written of piece I
 
-A mark without a fingerprint is of a folder that is being made or removed, and is made anew. A copy
-that is missing is put back from its input, which has the digest of the mark.
+A folder whose mark has no fingerprint is being made or removed, and is made anew. A copy that is
+missing is put back from its input, once that is seen to have the digest of the mark.
 
 A piece is a part of a tuning or a share of a check. It is done when `I.done` is there, which is
 written once the piece has a result, so neither a kill nor a crash leaves half of one.
@@ -20,6 +20,11 @@ from .own_folder import OwnFolder
 from .regular import open_regular, sha256_of
 from .schema import Malformed, NotJson
 from .tuning_files import MOST_SETTINGS
+
+# What the jobs of pieces have: their output, and on other hosts their archives, the inputs of all
+# pieces, the hosts, what rsync has not ended, and what GNU parallel keeps while it runs.
+JOB_FILES = (r"\d+\.\d+\.(report|fault|status|new|tar|taken|inputs[0-9a-f]{16}|hosts)|"
+             r"\.\d+\.\d+\.tar\.\w{6}|par\w{5}\.\w+")
 
 
 class Copy(NamedTuple):
@@ -54,8 +59,8 @@ class SpreadFolder(OwnFolder):
     """A folder that `cwtune-spread` made.
 
     Its subclasses say how a piece is called (`PIECE`), which files of the folder are its own
-    (`OWN_FILES`) and which of these a kill may leave (`UNFINISHED_FILES`), and the kinds of files
-    that a run of a piece reads beside the copies (`SENT_KINDS`) and writes (`RETURNED_KINDS`).
+    (`OWN_FILES`), what else a kill may leave (`UNFINISHED_FILES`), and the kinds of files that a
+    run of a piece reads beside the copies (`SENT_KINDS`) and writes (`RETURNED_KINDS`).
     `RESULT` is the schema of what is written of a piece that is done.
     """
 
@@ -85,7 +90,7 @@ class SpreadFolder(OwnFolder):
         self.put_back_copies()
         self.refuse_other_inputs(mark.of, self.copies_fingerprint(),
                                  f"the copies in {given_path} were changed")
-        self.top.remove(self.UNFINISHED_FILES)
+        self.top.remove(rf"{self.UNFINISHED_FILES}|({self.OWN_FILES})\.\d+\.new")
         self.piece_count, self.setting_count = mark.parts, mark.count
 
     def read_mark(self):

@@ -1,39 +1,42 @@
 """Runs the pieces of `cwtune-spread` on other hosts, by GNU parallel over ssh and rsync.
 
 GNU parallel sends the program and the inputs as one archive to a temporary folder of its own on the
-host, where spread_job.sh runs the piece, and takes an archive of what came of it back. On this host
-the same is done without sending. No word that GNU parallel or a shell reads has a name of the
-user's in it: all names in the folder of the pieces are fixed ones, its own path is in the
-environment of the jobs of this host, and the hosts are read from a copy of their file. What is for
-all pieces, as that copy, has the number 0 in its name.
+host, where spread_job.sh runs the piece, and brings back an archive of what came of it. On this
+host the same is done without sending.
+
+No name of the user's is in a word that GNU parallel or a shell reads: the names in the folder of
+the pieces are fixed, jobs of this host have its path in their environment, and the hosts are read
+from a copy of their file. What is for all pieces, as that copy, has the number 0 in its name.
 """
 import contextlib, hashlib, os, pathlib, re, shlex, shutil, socket, subprocess, sys, tarfile
 
-from .endings import Fault
+from .endings import Fault, escaped
+from .watching import rewrite
 from .writing import naming
 
 # What a host says if it can run pieces.
 ANSWER = "ready"
-# What asks a host for that. First removes what earlier runs of the same work left there that were
-# killed, or lost the host: temporary folders with inputs of this work, and empty ones.
+# Asks a host for that. First removes what earlier runs of the same work left there that were
+# killed, or lost the host: temporary folders of GNU parallel with inputs of this work, and empty
+# ones in which no process is, as a job of somebody else's that has written nothing yet.
 PROBE = """cd ~/.parallel/tmp 2>/dev/null && for old in *-[0-9]*-[0-9]*; do
     for file in "$old"/0.*.{inputs} "$old"/.0.*.{inputs}.*; do
         if [ -e "$file" ]; then rm -rf "$old"; fi
     done
-    rmdir "$old" 2>/dev/null
+    ls -l /proc/[0-9]*/cwd 2>/dev/null | grep -qF "/$old" || rmdir "$old" 2>/dev/null
 done
 if command -v tar >/dev/null && command -v rsync >/dev/null; then echo {answer}
 else echo no tar or no rsync; fi
 """
 # What GNU parallel runs for a piece. `echo` fails if the connection is gone already, which GNU
-# parallel only sees later. The archive of the inputs also says of which work a folder is.
+# parallel only sees later. `touch` says of which work the folder is, where no inputs are sent.
 JOB = ("echo && touch {inputs} && cd $(mktemp -d ./XXXXXX) && to=${{CWTUNE_SPREAD_FOLDER:-..}} && "
        'tar -xf - <"$to/{inputs}" && exec sh ./job {piece} "$to" {words}')
 SCRIPT = pathlib.Path(__file__).with_name("spread_job.sh")
 # With these statuses a piece has a result, which any host would have. With another one, as 3 on a
 # host without memory and 126 on one that cannot run the program, it is tried on another host.
 RESULTS = {0, 1, 2}
-# After how long a silent host is given up: a job there ends after two thirds of it, and then two
+# A silent host is given up after these seconds: ssh waits for two thirds of them, and then two new
 # connections fail. Only trials set the variable.
 SECONDS = int(os.environ.get("CWTUNE_SILENT_SECONDS", "60"))
 SSH_OPTIONS = (f"-o BatchMode=yes -o ConnectTimeout={max(2, SECONDS // 6)} "
@@ -73,14 +76,14 @@ def tell_left_out(reasons):
     if len(lines) > MOST_TOLD:
         lines[MOST_TOLD:] = [f"note: so are {len(lines) - MOST_TOLD} more hosts"]
     for line in lines:
-        # A terminal may show the progress, and a host may send anything.
-        print("\r\x1b[K" * sys.stderr.isatty() + re.sub(r"[^ -~\xa0-\U0010ffff]", "?", line),
-              file=sys.stderr)
+        if sys.stderr.isatty():  # which may show the progress
+            rewrite()
+        print(escaped(line), file=sys.stderr)
 
 
 class HostJobs:
-    """Jobs that GNU parallel runs. Those without a status once it has ended stay in `waiting`;
-    `fault` is why."""
+    """Jobs that GNU parallel runs. Once it has ended, `waiting` has those without a status, and
+    `fault` says why."""
 
     fault = None
 
@@ -108,15 +111,15 @@ class HostJobs:
             stdin.write("".join(f"{number}\n" for number in self.waiting).encode())
 
     def start(self, options, stdin, output):
-        """Starts GNU parallel in the folder, in a session of its own, whatever the login shell, and
-        what ends it if this process is killed."""
+        """Starts GNU parallel in the folder and in a session of its own, and a guard, which ends it
+        if this process is killed. Jobs run by `sh`, whatever the login shell."""
         ssh = f"{os.environ.get('PARALLEL_SSH', 'ssh')} {SSH_OPTIONS}"
         environment = {**os.environ, "PARALLEL_SHELL": "/bin/sh", "PARALLEL_SSH": ssh,
                        "CWTUNE_SPREAD_FOLDER": str(self.folder.path)}
         self.parallel = subprocess.Popen(
-            ["parallel", "--will-cite", "--sshloginfile", self.folder.file(0, "hosts").name,
-             *options], cwd=self.folder.path, env=environment, stdin=stdin, stdout=output,
-            stderr=subprocess.STDOUT, start_new_session=True)
+            ["parallel", "--will-cite", "--tmpdir", ".", "--sshloginfile",
+             self.folder.file(0, "hosts").name, *options], cwd=self.folder.path, env=environment,
+            stdin=stdin, stdout=output, stderr=subprocess.STDOUT, start_new_session=True)
         self.guard = subprocess.Popen(["sh", "-c", GUARD, str(self.parallel.pid)],
                                       stdin=subprocess.PIPE, stdout=subprocess.DEVNULL,
                                       stderr=subprocess.DEVNULL, start_new_session=True)
@@ -178,8 +181,8 @@ class HostJobs:
         return ended
 
     def end_round(self):
-        """Begins again for jobs that are lost, as if a host dies before it sends what came of one,
-        unless all are."""
+        """Begins again for jobs that are lost, as when a host dies before it sends what came of
+        them, unless all of this round are."""
         self.is_over, is_any_done = True, len(self.waiting) < len(self.started)
         if self.waiting:
             self.fault = self.complaint()

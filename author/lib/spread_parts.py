@@ -18,14 +18,11 @@ from .grid import NAME
 from .program import NO_CANDIDATE, rules_of
 from .regular import read_regular, sha256_of
 from .schema import Sha256
-from .spread_folder import SpreadFolder, copies_of
+from .spread_folder import JOB_FILES, SpreadFolder, copies_of
 from .tuning_files import MOST_BYTES, Template
 
 # A count that `cwtune` prints, and the values of a setting.
 COUNT, CONSTANTS = r"\d{1,20}", rf"{NAME}=-?\d{{1,5}}(?: {NAME}=-?\d{{1,5}})*"
-# The kinds of files that the job of a piece has: its output, and on other hosts its archives, the
-# inputs of all pieces, and the hosts.
-JOB_KINDS = r"report|fault|status|new|tar|taken|inputs[0-9a-f]{16}|hosts"
 # More than a report has that ranks as many as `cwtune` keeps.
 MOST_REPORT_BYTES = 1 << 20
 RANK = rf"rank {COUNT} setting ({COUNT}) total ({COUNT})(?: ({CONSTANTS}))?\n"
@@ -107,8 +104,8 @@ class PartResult:
 
 
 def fault_of_job(path, otherwise):
-    """Returns what the job of a cluster wrote of its fault, `otherwise` if it had none, or that it
-    wrote nothing."""
+    """Returns the fault that a job of a cluster wrote to a file, `otherwise` if that is empty, or
+    where to look if it is not there."""
     try:
         lines = pathlib.Path(path).read_text(errors="replace").splitlines()
     except FileNotFoundError:
@@ -170,10 +167,9 @@ class Parts(SpreadFolder):
     PIECE, THROWN, INSTEAD = "part", "the parts", "CERT"
     RESULT = PartResult
     OWN_FILES = r"cwtune|[ts]\.(red|csv)|o\d+\.red|whole\.cert|\d+\.(cert|done)"
-    # What a run that was killed may leave: `tune` writes a certificate to a file beside it, and
-    # then CERT.inputs, and jobs on hosts what `spread_hosts` says.
-    UNFINISHED_FILES = (rf"(\d+|start)\.\d+\.(red|cert(\.inputs)?(\.unfinished-\d+)?|{JOB_KINDS})|"
-                        rf"\.\d+\.\d+\.tar\.\w{{6}}|({OWN_FILES})\.\d+\.new")
+    # `tune` writes a certificate to a file beside it, and then CERT.inputs.
+    UNFINISHED_FILES = (rf"(\d+|start)\.\d+\.(red|report|cert(\.inputs)?(\.unfinished-\d+)?)|"
+                        f"{JOB_FILES}")
     SENT_KINDS = ["red"]
     RETURNED_KINDS = ["cert", "report", "fault"]
 

@@ -1,8 +1,9 @@
 """Keeps which pieces of `cwtune-spread` are done, and prints the line that says so."""
-import os, sys, time
+import sys, time
 
 from .spread_parts import settings_of
 from .spread_report import best_of, index_of, summed
+from .watching import rewrite
 
 # Seconds from a line in a log to the next.
 PAUSE = 20
@@ -27,22 +28,20 @@ class Progress:
         return [number for number, result in self.results.items() if result is None]
 
     def show(self):
-        """Rewrites the line if it says something new, cut to the width of the terminal."""
-        if not sys.stderr.isatty():
-            if self.in_log and time.monotonic() - self.last_line_at >= PAUSE:
-                print(self.line(), file=sys.stderr, flush=True)
-                self.last_line_at = time.monotonic()
-            return
-        width = os.get_terminal_size(sys.stderr.fileno()).columns or 80
-        line = self.line()[:width - 1]
-        if line != self.shown:
-            print(f"\r{line}\x1b[K", end="", file=sys.stderr, flush=True)
-        self.shown = line
+        """Shows the line: at a terminal if it says something new, in a log if it is time."""
+        if sys.stderr.isatty():
+            line = self.line()
+            if line != self.shown:
+                rewrite(line)
+            self.shown = line
+        elif self.in_log and time.monotonic() - self.last_line_at >= PAUSE:
+            print(self.line(), file=sys.stderr, flush=True)
+            self.last_line_at = time.monotonic()
 
     def clear(self):
         """Clears the line at a terminal."""
         if self.shown:
-            print("\r\x1b[K", end="", file=sys.stderr, flush=True)
+            rewrite()
 
     def time_left(self):
         """Returns the text of the time that is left, once a piece was done in this run."""

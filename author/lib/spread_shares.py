@@ -11,8 +11,8 @@ from typing import Annotated
 from .endings import Fault
 from .program import rules_of
 from .regular import read_regular, sha256_of
-from .spread_folder import Copy, SpreadFolder, copies_of
-from .spread_parts import COUNT, JOB_KINDS, MOST_REPORT_BYTES, RANK, fault_of_job
+from .spread_folder import JOB_FILES, Copy, SpreadFolder, copies_of
+from .spread_parts import COUNT, MOST_REPORT_BYTES, RANK, fault_of_job
 
 ACCEPTED = re.compile(rf"accepted share ({COUNT})/({COUNT}) best ({COUNT}) total ({COUNT})\n"
                       rf"(?P<ranks>({RANK})*)")
@@ -52,9 +52,8 @@ def verdict_of(texts, cert):
 
 
 def first_rejection(rejections, cert):
-    """Returns the first of several rejections, each a record and a reason, in the order of a check:
-    it looks at refused and cap rows first and at `same` rows last, and each share does so with its
-    own."""
+    """Returns the rejection, a record and a reason, that a check of the whole finds first. Like
+    each share, it looks at `same` rows last."""
     same = same_rows(cert) if len(rejections) > 1 else set()
 
     def order(rejection):
@@ -108,7 +107,7 @@ class ClusterShares:
                             "of shares or --keep")
 
     def refuse_changed_inputs(self):
-        """Does nothing: `piece` takes only what is between two digests of CERT as it is now."""
+        """Does nothing: `result` takes only what is between two digests of CERT as it is now."""
 
     def clean_up(self):
         """Leaves the files of the jobs where they are."""
@@ -119,8 +118,7 @@ class Shares(SpreadFolder):
 
     PIECE, THROWN, INSTEAD = "share", "the shares", "folder by --work"
     OWN_FILES = r"cwtune|[ts]\.(red|csv)|o\d+\.red|c\.cert|\d+\.done"
-    UNFINISHED_FILES = (rf"\d+\.\d+\.({JOB_KINDS})|\.\d+\.\d+\.tar\.\w{{6}}|"
-                        rf"({OWN_FILES})\.\d+\.new")
+    UNFINISHED_FILES = JOB_FILES
     RESULT = Annotated[str, re.compile(f"{ACCEPTED.pattern}|{REJECTED.pattern}")]
     RETURNED_KINDS = ["report", "fault"]
 

@@ -11,7 +11,8 @@ MOST_PIECES = 2 ** 32 - 1
 def add_options(parser):
     """Adds all options and words of the command."""
     parser.add_argument("--progress", action="store_true",
-                        help="print a line a minute on standard error, if it is not a terminal")
+                        help="print a line every 20 seconds on standard error, if it is not a "
+                        "terminal")
     parser.add_argument("--explain", action="store_true",
                         help="explain a refusal, say what is ignored in the template, and print "
                         "the total of START, as at a terminal")

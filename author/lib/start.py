@@ -1,9 +1,11 @@
 """Starts a command. Any Python 3 can read this file, so that an old one is told what is wanted."""
-import sys
+import signal, sys
 
 
 def run(name):
-    """Runs the command of a module."""
+    """Runs the command of a module. Until `run_tool` does, Ctrl-C ends it without a word."""
+    if signal.getsignal(signal.SIGINT) == signal.default_int_handler:
+        signal.signal(signal.SIGINT, signal.SIG_DFL)
     if sys.version_info < (3, 11):
         sys.stderr.write("failed: cwtune-%s needs Python 3.11, and this is Python %d.%d\n"
                          % ((name,) + sys.version_info[:2]))

@@ -1,7 +1,7 @@
 """Improves a warrior: tuning or race, fresh fights and report, in one folder.
 
 WARRIOR is a template, or an ordinary text with words NAME=LOW:HIGH:STEP, as cwtune-vary takes them.
-An opponent is a file, or a folder whose files *.red are taken by their names; with `=N` behind it,
+An opponent is a file, or a folder whose files *.red are taken by their names; with `=N` after it,
 as in papers/=2, its fights count N times.
 
 A template with at most --exact settings is tuned whole: all fights of all settings are played and
@@ -25,7 +25,7 @@ from . import study_fresh, study_inputs, study_report
 from .endings import end_by_kill_as_by_interrupt
 from .grid import Grid
 from .program import Rules, rules_of
-from .race import TRIAL_BLOCKS, Contender
+from .race import Contender
 from .race_fights import Arena, Budget, add_budget
 from .series import series_fights
 from .study_folder import StudyFolder
@@ -139,7 +139,7 @@ class Study:
         with (temporary_folder() as folder,
               Arena(self.args, Budget(fights), grid, paths, self.args.weights, [],
                     folder) as arena):
-            arena.play([Contender(grid.start_values)], arena.new_blocks(TRIAL_BLOCKS))
+            arena.play([Contender(grid.start_values)], arena.trial_blocks())
             arena.tell_estimate("the tuning and its check")
 
     def write_winner(self, setting, template):
@@ -185,7 +185,10 @@ def print_raced(report):
     if report["gain"]:
         print_fresh("winner", report["winner"])
         print_fresh("START", report["start"])
-        print(f"luck: the winner was {race['rise']:+.1f}% over START in the fights that picked it")
+    if report["gain"] and not (box and box["replaces"]):
+        luck = race["rise"] - report["gain"]["percent"]
+        print(f"in the fights that picked it, the winner was {race['rise']:+.1f}% over START; "
+              f"{luck:+.1f}% of that was luck")
 
 
 def print_end(folder, report):
@@ -216,8 +219,8 @@ def make_parser():
                         help="fresh fights of a heat against each opponent, in a template that is "
                         "tuned whole [default: 100]")
     parser.add_argument("--box", type=number_from(1), default=2, metavar="N",
-                        help="values on both sides of a race's winner that are tuned; 1 if these "
-                        "are more than --exact settings [default: 2]")
+                        help="values on both sides of those of a race's winner, which are tuned; 1 "
+                        "if that makes more than --exact settings [default: 2]")
     parser.add_argument("--certify", action="store_true", help="tune the box around a race's "
                         "winner with all fights, check the certificate, and draw its totals")
     parser.add_argument("--by-kind", action="store_true",
@@ -231,7 +234,7 @@ def make_parser():
                         "NAME=LOW:HIGH:STEP a Redcode text with EQU lines")
     parser.add_argument("opponents", metavar="OPPONENT", nargs="*", default=[],
                         help="the opponents: folders with files *.red, or files (write ./*.red: a "
-                        "name in *.red may be an option); `=N` behind one has its fights count N "
+                        "name in *.red may be an option); `=N` after one has its fights count N "
                         "times, 1 to 1000")
     parser.add_argument("ranges", metavar="NAME=LOW:HIGH:STEP", nargs="*", default=[],
                         help="a constant and its values, as for cwtune-vary")

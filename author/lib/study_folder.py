@@ -41,9 +41,10 @@ RESULTS = {
         "winner": list[int], "rise": float | None, "points": list[list[Points]] | None,
         "finalists": list[TypedDict("Finalist", {"values": list[int], "percent": float,
                                                  "fights": Count})],
-        "settings": Count, "blocks": Count, "fights": Count, "seconds": float}),
+        "settings": Count, "blocks": Count, "fights": Count, "charged": Count,
+        "seconds": float}),
     "box": TypedDict("Box", {"settings": Count, "blocks": Count, "fights": Count,
-                             "seconds": float, "check": str | None}),
+                             "charged": Count, "seconds": float, "check": str | None}),
     "challenge": TypedDict("Challenge", {"best": list[int], "compared": list[list[Points]],
                                          "points": list[list[Points]] | None}),
 }

@@ -12,6 +12,7 @@ import itertools, sys, time
 
 from .endings import end_as
 from .program import rules_of
+from .race_fights import PROGRESS_SECONDS
 from .spread_jobs import LocalJobs
 from .tuning_files import MOST_FIGHTS, Certificate
 
@@ -50,11 +51,16 @@ class Heat:
         print(f"fresh fights, heat {self.number}: {shown}, "
               f"{self.fights * len(self.study.opponents)} each", file=sys.stderr, flush=True)
         jobs, seconds = LocalJobs(self.study.args, self, players), {}
+        told_at = time.monotonic()
         try:
             while jobs.keep_running():
                 for player, status in jobs.take_ended():
                     self.refuse_failed(player, status)
                     seconds[player] = time.monotonic() - self.began_at[player]
+                if time.monotonic() - told_at > PROGRESS_SECONDS:
+                    told_at = time.monotonic()
+                    print(f"heat {self.number}: {len(seconds)} of {len(players)} have played",
+                          file=sys.stderr, flush=True)
                 time.sleep(0.01)
         finally:
             jobs.stop()

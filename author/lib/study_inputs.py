@@ -1,4 +1,4 @@
-"""Reads what `cwtune-study` is given, and refuses what no study can be made of."""
+"""Reads the words and files of `cwtune-study`, and refuses those that make no study."""
 import argparse, hashlib, json, math, os, pathlib, re
 from typing import NamedTuple
 
@@ -67,7 +67,7 @@ def sort_words(parser, args):
 
 def opponents_named(parser, word):
     """Returns the opponents that a word names: a file, or of a folder all *.red by their names;
-    with `=N` behind it, their fights count N times."""
+    with `=N` after it, their fights count N times."""
     path, _, weight = word.rpartition("=")
     if os.path.exists(word) or not os.path.exists(path):
         path, weight = word, "1"
@@ -77,8 +77,8 @@ def opponents_named(parser, word):
 
 
 def weights_of(parser, opponents, by_kind):
-    """Returns the weight of each opponent. With `by_kind` those of a word have the same sum as
-    those of another of its weight."""
+    """Returns the weight of each opponent. With `by_kind`, the opponents of a word together weigh
+    as much as those of another word with the same `=N`."""
     whole = math.lcm(*(len(word.paths) for word in opponents)) if by_kind else 1
     weights = [word.weight * whole // (len(word.paths) if by_kind else 1)
                for word in opponents for _ in word.paths]
@@ -118,7 +118,7 @@ def settle_options(parser, args):
 
 
 def read(parser, args):
-    """Reads the files of the words, and refuses those that no study can be made of."""
+    """Reads the files that the words name, and refuses those that make no study."""
     sort_words(parser, args)
     settle_options(parser, args)
     args.program = os.path.abspath(args.program)

@@ -1,9 +1,9 @@
 """Races in the template of a study that is too large to be tuned whole.
 
-If the race's winner gains, the box around it is tuned, in fights that the race did not play, and
-the first of its ranking play against the winner in others. The best of them takes its place only if
-fights that picked nothing show that it is better. `race.jsonl` and `challenge.jsonl` have what was
-played, so that a race that was stopped goes on.
+If the race's winner gains, the box around it is tuned, in fights that the race did not play. The
+first of the box's ranking then play against the winner. The best of these takes the winner's place
+only if further fights, which picked nothing, show that it is better. What was played is kept in
+`race.jsonl` and `challenge.jsonl`, so that a race that was stopped goes on.
 """
 import contextlib, math, sys, time
 
@@ -15,9 +15,10 @@ from .study_fresh import FIRST_HEAT_PLAYERS
 from .tuning_files import Certificate, Template, read_schedule, schedule_text
 from .writing import temporary_folder
 
-# Which part of the budget is used when the race ends, if a box is to follow; the most that the box
-# takes; and the parts used when its first have played, and when the best was compared.
-RACED, BOX_PART, CHALLENGED, COMPARED = 0.78, 0.10, 0.90, 0.95
+# The budget, if a box may follow the race. Which part is used when the race ends, when the best of
+# the box's first is picked, and when it was compared with the race's winner. The box itself takes
+# at most BOX_PART.
+RACED, CHALLENGED, COMPARED, BOX_PART = 0.78, 0.90, 0.95, 0.10
 # The fewest fights against each opponent in which a box is tuned.
 LEAST_ROUNDS = 5
 # How many play in the heats against the race's winner.
@@ -36,7 +37,8 @@ class RaceOfStudy:
         race = stage("race", self.race)
         results = {"race": race, "box": None, "challenge": None, "winner": race["winner"],
                    "points": race["points"]}
-        if self.rounds(race["winner"], race["fights"]) and (self.args.certify or gains(race, self.args.weights)):
+        has_gained = gains(race["points"], self.args.weights)
+        if self.rounds(race["fights"]) and (has_gained or self.args.certify):
             results["box"] = box = stage("box", lambda: self.tune_box(race), "box.red",
                                          "schedule.csv", "best.cert", "best.txt")
             results["challenge"] = found = stage("challenge", lambda: self.challenge(race, box))
@@ -55,16 +57,16 @@ class RaceOfStudy:
                     Journal(file, f"{self.folder.given_path}/{name}"), folder,
                     self.folder.path) as arena):
             for result in spent:
-                arena.charge(result["fights"], result["seconds"])
+                arena.charge(result["charged"], result["seconds"])
                 arena.block_count += result["blocks"]
             yield arena
 
     def race(self):
         """Races. Returns the winner, its `rise` and `points` as in an `Outcome`, the final, and
         what the race used of the budget."""
-        has_box = self.rounds(self.grid.start_values, budget_of(self.args).fights)
+        share = RACED if self.rounds(budget_of(self.args).fights) else 1
         with self.arena("race.jsonl") as arena:
-            race = Race(self.grid, arena, self.args.seed, RACED if has_box else 1)
+            race = Race(self.grid, arena, self.args.seed, share)
             outcome = race.run()
             settings, opponents = len(race.contenders), len(arena.opponents)
             self.folder.log_note(f"a race of {settings} settings, {arena.fights} fights",
@@ -73,30 +75,34 @@ class RaceOfStudy:
                     "finalists": [{"values": one.values, "percent": 100 * one.rate(),
                                    "fights": one.blocks * opponents}
                                   for one in outcome.finalists],
-                    "settings": settings, "blocks": arena.block_count, "fights": arena.fights,
+                    "settings": settings, "blocks": arena.block_count,
+                    "fights": arena.fights, "charged": arena.fights,
                     "seconds": arena.seconds}
 
-    def box(self, values):
-        """Returns the ranges of the box around a setting."""
-        box = self.grid.box(values, self.args.box)
-        return box if settings_of(box) <= self.args.exact else self.grid.box(values, 1)
+    def reach(self):
+        """Returns how many values of each constant the box has on both sides of the winner's."""
+        return self.args.box if self.most_settings(self.args.box) <= self.args.exact else 1
 
-    def rounds(self, values, fights):
-        """Returns how many fights against each opponent the box around a setting may play if the
-        race has `fights`; None is no limit. 0 is too few."""
-        opponents = sum(map(bool, self.args.weights))
+    def most_settings(self, reach):
+        """Returns how many settings a box has that no end of a range cuts."""
+        return math.prod(min(2 * reach + 1, len(values)) for values in self.grid.ranges)
+
+    def rounds(self, fights):
+        """Returns how many fights the box plays against each opponent after a race of `fights`; 0
+        if there is room for too few. None is no limit."""
         if self.args.certify or fights is None:
             return self.args.rounds
-        plays = BOX_PART * fights / (settings_of(self.box(values)) * opponents)
-        return min(self.args.rounds, int(plays)) if plays >= LEAST_ROUNDS else 0
+        plays = self.most_settings(self.reach()) * len(self.study.opponents)
+        rounds = int(BOX_PART * fights / plays)
+        return min(self.args.rounds, rounds) if rounds >= LEAST_ROUNDS else 0
 
     def tune_box(self, race):
         """Tunes the box around the race's winner, in fights that the race did not play. Returns
         its settings, and what that used of the budget; `check` is what the check said, if any."""
         folder, began_at, winner = self.folder, time.monotonic(), race["winner"]
-        ranges, rounds = self.box(winner), self.rounds(winner, race["fights"])
-        print(f"the {settings_of(ranges)} settings around the winner are tuned", file=sys.stderr,
-              flush=True)
+        ranges, rounds = self.grid.box(winner, self.reach()), self.rounds(race["fights"])
+        settings = math.prod(map(len, ranges))
+        print(f"the {settings} settings around the winner are tuned", file=sys.stderr, flush=True)
         folder.write("box.red", self.grid.text(ranges, winner))
         with self.arena("challenge.jsonl", race) as arena:
             fights = sorted(fight for block in arena.new_blocks(rounds) for fight in block)
@@ -107,7 +113,9 @@ class RaceOfStudy:
         folder.run(self.study.spread_words(*words), "best.txt", logs_messages=False)
         lines = (folder.path / "best.txt").read_text().splitlines()
         played = next(line.split()[1] for line in lines if line.startswith("fights "))
-        return {"settings": settings_of(ranges), "blocks": rounds, "fights": int(played),
+        # Which fights a search plays depends on --jobs, so the budget is charged with all.
+        return {"settings": settings, "blocks": rounds, "fights": int(played),
+                "charged": settings * rounds * len(self.study.opponents),
                 "seconds": time.monotonic() - began_at,
                 "check": lines[-1] if self.args.certify else None}
 
@@ -119,20 +127,19 @@ class RaceOfStudy:
         return [values[setting] for _, setting in ranking.full[:CHALLENGERS[0]]]
 
     def challenge(self, race, box):
-        """Has the first of the box play against the race's winner. Returns the best of them; its
-        points and the winner's in fights that did not pick it; and if it is better by these, its
-        points and START's in others."""
+        """Has the first of the box play against the race's winner. Returns the best of the box;
+        its points and the winner's in fights that did not pick it; and, if these show that it is
+        better, its points and START's in further fights."""
         winner = tuple(race["winner"])
         others = [values for values in self.first_of_box() if values != winner]
         with self.arena("challenge.jsonl", race, box) as arena:
             match = Race(self.grid, arena, self.args.seed)
-            ranked = match.knock_out("challenge", [*others, winner], CHALLENGERS, winner,
-                                     CHALLENGED)
+            arena.news = "the first of the box against the winner"
+            ranked = match.knock_out([*others, winner], CHALLENGERS, winner, CHALLENGED)
             best = next((one.values for one in ranked if one.values != winner), winner)
-            compared = match.measure("challenge", best, winner, COMPARED)
-            gain = gain_of(compared, self.args.weights)
-            points = (match.measure("gain", best, self.grid.start_values, 1)
-                      if gain and is_gain(gain) else None)
+            compared = match.measure(best, winner, COMPARED)
+            points = (match.measure(best, self.grid.start_values, 1)
+                      if gains(compared, self.args.weights) else None)
             self.folder.log_note("the first of the box against the race's winner", arena.seconds)
         return {"best": best, "compared": compared, "points": points}
 
@@ -142,11 +149,7 @@ class RaceOfStudy:
         self.study.write_winner("start", "found.red")
 
 
-def settings_of(ranges):
-    return math.prod(map(len, ranges))
-
-
-def gains(race, weights):
-    """Returns whether the race's winner is better than START by the fights that picked nothing."""
-    gain = race["points"] and gain_of(race["points"], weights)
+def gains(points, weights):
+    """Returns whether one setting is better than another by the points of both, if they played."""
+    gain = points and gain_of(points, weights)
     return bool(gain) and is_gain(gain)

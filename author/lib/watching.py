@@ -1,10 +1,16 @@
-"""Says on standard error how far a loop over many items is."""
-import sys, time
+"""Says on standard error how far a command is."""
+import os, sys, time
+
+
+def rewrite(line=""):
+    """Rewrites the line of the terminal, cut to its width. Without a new one it is cleared."""
+    width = os.get_terminal_size(sys.stderr.fileno()).columns or 80
+    print(f"\r{line[:width - 1]}\x1b[K", end="", file=sys.stderr, flush=True)
 
 
 class Watch:
-    """When the last line was shown: at a terminal, where it is rewritten, twice a second, and
-    elsewhere each 15 seconds."""
+    """The lines of progress: at a terminal one that is rewritten twice a second, elsewhere a new
+    one each 15 seconds. `shown_at` is when the last one was shown."""
 
     shown_at = time.monotonic()
     at_terminal = sys.stderr.isatty()
@@ -16,8 +22,10 @@ class Watch:
         if time.monotonic() - cls.shown_at < cls.pause:
             return False
         cls.shown_at = time.monotonic()
-        start, end = ("\r", "\x1b[K") if cls.at_terminal else ("", "\n")
-        print(f"{start}{line}{end}", end="", file=sys.stderr, flush=True)
+        if cls.at_terminal:
+            rewrite(line)
+        else:
+            print(line, file=sys.stderr, flush=True)
         return True
 
 
@@ -29,4 +37,4 @@ def watched(items, count, what):
             shown |= Watch.show(f"{what}: {index + 1} of {count}")
         yield item
     if shown and Watch.at_terminal:
-        print("\r\x1b[K", end="", file=sys.stderr, flush=True)
+        rewrite()

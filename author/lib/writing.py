@@ -65,8 +65,8 @@ def open_new(folder, name, mode):
 
 
 def remove_left(folder, pattern):
-    """Removes what killed runs have left in a folder: what has a name by the pattern, whose last
-    group is the process id of its maker, if it is of this user and its maker is gone. A maker on
+    """Removes what killed runs of this user have left in a folder. The pattern is of the names,
+    with the process id of the maker as its last group: what a process still makes stays. One on
     another host holds a lock."""
     with contextlib.suppress(OSError):
         for name in os.listdir(folder):

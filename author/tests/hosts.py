@@ -4,7 +4,7 @@ from unittest import mock
 
 from gate.tally import LeftOut, compare
 
-from .commands import SECONDS, Result, running_in
+from .commands import SECONDS, Result, running_in, wait_until
 from .spread_place import DECOY, SpreadPlace, without_fights
 from .ssh_hosts import SHELLS, SSHD, SshHosts
 
@@ -81,6 +81,19 @@ def good(place):
     note = "note: dead is left out: ssh: connect to host 127.0.0.1 port "
     yield compare("a dead host is named once", [note],
                   [line[:len(note)] for line in err.splitlines()])
+    yield from idle_folders(place)
+
+
+def idle_folders(place):
+    """Tunes on a host where other runs of GNU parallel have folders with nothing in them."""
+    used, left = (place.hosts.home("good") / f".parallel/tmp/other-{pid}-1" for pid in (1, 2))
+    for path in used, left:
+        path.mkdir()
+    with subprocess.Popen(["sleep", str(SECONDS)], cwd=used) as job:
+        status = place.on("good", "--parts=1", *DECOY).status
+        job.kill()
+    yield compare("an empty folder goes, unless a process is in it", (0, True, False), (
+        status, used.is_dir(), left.is_dir()))
 
 
 def failing(place):
@@ -182,6 +195,28 @@ def kills(place):
         place.found(DECOY, place.spread(*words)), place.remains()))
 
 
+def kills_at_start(place):
+    """Kills a spread while it waits for the answer of a host, and tunes on another one."""
+    temporary = place.folder / "temporary"
+    temporary.mkdir()
+    place.hosts.proxy.silence.set()
+    place.write("hosts", "silent\n")
+    words = ["--parts=1", *DECOY]
+    with mock.patch.dict(os.environ, {"TMPDIR": str(temporary)}):
+        for signal_number in [signal.SIGKILL, signal.SIGTERM]:
+            with place.start_spread("--hosts=hosts", *words, stderr=subprocess.DEVNULL) as job:
+                wait_until(lambda: [*place.folder.glob("*/par*")], job)
+                job.send_signal(signal_number)
+                job.wait(SECONDS)
+            running, _, _ = place.remains()
+            yield compare(f"signal {signal_number} leaves nothing running, or in the temporary "
+                          "folder", ([], []), (running, os.listdir(temporary)))
+        status = place.on("good", *words).status
+    yield compare("nor does the next run", (0, NOTHING, []), (
+        status, place.remains(), os.listdir(temporary)))
+
+
 def trials(program):
     return {trial.__name__: with_hosts(program, trial)
-            for trial in [good, failing, three, refused, shared, names, shells, kills]}
+            for trial in [good, failing, three, refused, shared, names, shells, kills,
+                          kills_at_start]}

@@ -181,6 +181,31 @@ def forged_reports(place):
             place.study(*STUDY))
 
 
+def files_of_races(place):
+    """Puts links, and what never ends, where a study keeps what a race has played."""
+    victim(place)
+    place.write("victim/secret", "mine, without a line feed")
+    words = ["--exact=9", "--fights=1000", "p.red", "all"]
+    place.study(*words)
+    mark, before = json.loads(place.read("p.study/study.json")), texts(place, "victim")
+    stages = {"inputs": mark["stages"]["inputs"]}
+    place.write("p.study/study.json", json.dumps(mark | {"stages": stages}))
+    for name, what, make in [
+        ("race.jsonl", "a link", link_to("../victim/secret")), ("race.jsonl", "a FIFO", os.mkfifo),
+        ("race.jsonl", "another name of a file", lambda path: os.link(
+            place.folder / "victim/secret", path)),
+        ("challenge.jsonl", "a link", link_to("../victim/none")),
+        ("challenge.jsonl", "a folder", os.mkdir),
+    ]:
+        path = place.folder / "p.study" / name
+        replaced(path, make)
+        yield compare(f"{name} is {what}", (
+            2, "", f"error: p.study/{name} is {what}, and is not touched\n", before),
+            (*place.study(*words), texts(place, "victim")))
+        replaced(path, lambda path: None)
+    yield compare("without them the study goes on", 0, place.study(*words).status)
+
+
 def missing_copies(place):
     """Removes copies and results, as a kill of an older version may have."""
     place.clear()
@@ -413,7 +438,8 @@ def trials(program, count=300):
     return (in_folders(lambda folder: SpreadPlace(program, folder), [
                 links_of_spreads, forged, missing_copies, kills_of_spreads])
             | in_folders(lambda folder: StudyPlace(program, folder), [
-                links_of_studies, forged_reports, missing_files, kills_of_studies])
+                links_of_studies, files_of_races, forged_reports, missing_files,
+                kills_of_studies])
             | {"fuzz": fuzz(program, count)})
 
 

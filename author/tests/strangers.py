@@ -1,11 +1,12 @@
 """Gives the commands names, texts and files that a stranger chose, and looks what they leave."""
-import ast, contextlib, os, pathlib, re, signal, subprocess, sys, tempfile, time
+import ast, contextlib, fcntl, os, pathlib, pty, re, signal, struct, subprocess, sys, tempfile
+import termios, time
 from unittest import mock
 
 from author.lib import regular, tuning_files, writing
 from author.lib.schema import Malformed, from_json
 from author.lib.study_folder import quoted
-from gate.play import Place
+from gate import play
 from gate.tally import compare
 
 from .commands import (AUTHOR, SECONDS, TUNING, command, in_folders, run, started, wait_until)
@@ -50,7 +51,7 @@ def dashes(place):
         ("cwtune-study", True, [*STUDY, "--", "-t.red", "--program=x.red", "dat.red"]),
         ("cwtune-study", True, [*STUDY, "--", "-w.red", "--program=x.red", "K=0:1"]),
         ("cwtune-spread", True, ["--jobs=1", "--", "-t.red", "-s.csv", "-c", "--program=x.red"]),
-        ("cwtune-seek", True, ["--", "-t.red", "-s.csv", "--program=x.red"]),
+        ("cwtune-seek", True, ["--fights=1000", "--", "-t.red", "-s.csv", "--program=x.red"]),
         ("cwtune-scores", True, ["--", "-cert", "-s.csv"]),
         ("cwtune-vary", True, ["--", "-w.red", "K=0:1"]),
         ("cwtune-holdout", True, ["--rounds=2", "--", "-t.red", "-cert", "--program=x.red"]),
@@ -82,7 +83,8 @@ def terminals(place):
                 + "\ntotal 1 of 3\nfights 2 of 2\n")
     place.write("CERT.1.fault", "")
     place.write("CERT.1", "cwcert,1,2\nbest,0,1\ncap,0,0:1\nsame,1,0\n")
-    yield compare("cwtune-spread --merge", (3, "", "failed: no result for part 1 of 1\n"),
+    yield compare("cwtune-spread --merge", (3, "", "failed: no result for part 1 of 1 "
+                                                "(CERT.1.report is cut, or not there)\n"),
                   run_in(place, "cwtune-spread", "--merge=1", "t.red", "s.csv", "CERT", "dat.red"))
     name = f"no{ESCAPE}.red"
     for words in [["cwtune-files", name], ["cwtune-landscape", "t.red", "esc.cert", name]]:
@@ -206,6 +208,14 @@ def shown_while_read(place):
                                text=True, env={**os.environ, "PYTHONPATH": str(AUTHOR.parent)})
     yield compare("how far it is", (0, "rows of big.cert: 1024 of 10000"), (
         completed.returncode, completed.stderr.splitlines()[0]))
+    screen, terminal = pty.openpty()
+    fcntl.ioctl(terminal, termios.TIOCSWINSZ, struct.pack("4H", 9, 20, 0, 0))
+    subprocess.run([sys.executable, *words], cwd=place.folder, stdout=subprocess.DEVNULL,
+                   stderr=terminal, env={**os.environ, "PYTHONPATH": str(AUTHOR.parent)})
+    os.close(terminal)
+    lines = play.shown(screen).decode().split("\r")
+    yield compare("a terminal's line is cut to its width, and cleared", (
+        "rows of big.cert: 1\x1b[K", "\x1b[K"), (lines[1], lines[-1]))
 
 
 def unforeseen(place):
@@ -219,6 +229,47 @@ def unforeseen(place):
             expected, traceback == "1", traceback == "1" or "failed: KeyError in <string>, line 2:"
             in completed.stderr and completed.stderr.count("\n") == 1), (
             completed.returncode, "Traceback" in completed.stderr, True))
+
+
+DROPPED = """import signal, time
+from author.lib.endings import run_tool
+class Ending:
+    def __del__(self):
+        signal.raise_signal(signal.SIGTERM)
+def main():
+    Ending()
+    time.sleep(9)
+run_tool(main)
+"""
+
+
+def dropped_interrupts(place):
+    """Interrupts a command in a destructor, where Python drops the exception."""
+    completed = subprocess.run([sys.executable, "-c", DROPPED], capture_output=True,
+                               env={**os.environ, "PYTHONPATH": str(AUTHOR.parent)})
+    yield compare("it ends, and says nothing", (-signal.SIGINT, b""),
+                  (completed.returncode, completed.stderr))
+
+
+EARLY = """import signal, sys
+from author.lib import start
+class Finder:
+    def find_spec(self, name, *_):
+        if name == "author.lib.endings":
+            signal.raise_signal(signal.SIGINT)
+sys.meta_path.insert(0, Finder())
+start.run("files")
+"""
+
+
+def early_interrupts(place):
+    """Interrupts a command while it imports its modules."""
+    completed = subprocess.run(
+        [sys.executable, "-c", EARLY], capture_output=True,
+        env={**os.environ, "PYTHONPATH": str(AUTHOR.parent)},
+        preexec_fn=lambda: signal.signal(signal.SIGINT, signal.SIG_DFL))
+    yield compare("it ends, and says nothing", (-signal.SIGINT, b""),
+                  (completed.returncode, completed.stderr))
 
 
 def old_pythons(place):
@@ -278,6 +329,7 @@ def ended_by(place, signal_number, words):
     with started(command(*given), cwd=place.folder, stdout=subprocess.DEVNULL,
                  stderr=subprocess.DEVNULL) as job:
         wait_until(lambda: pids(place), job)
+        time.sleep(0.5)  # others begin, too
         job.send_signal(signal_number)
         status = job.wait(SECONDS)
     deadline = time.monotonic() + 1
@@ -384,7 +436,8 @@ def schemas(place):
 
 
 def trials(program):
-    return in_folders(lambda folder: Place(program, folder, {
+    return in_folders(lambda folder: play.Place(program, folder, {
         **FILES, "step.cert": (TUNING / "step.cert").read_bytes()}), [
         dashes, terminals, hostile_inputs, endless, memory, shown_while_read, unforeseen,
-        old_pythons, encodings, orphans, hang_ups, left_files, settings, schemas])
+        dropped_interrupts, early_interrupts, old_pythons, encodings, orphans, hang_ups, left_files,
+        settings, schemas])

@@ -173,10 +173,10 @@ def after_kills(place, words):
     mark = json.loads(place.read("p.study/study.json"))
     mark["stages"] = {"inputs": mark["stages"]["inputs"]}
     place.write("p.study/study.json", json.dumps(mark))
-    place.write("p.study/race.jsonl", "{}\n")
-    yield compare("a file of what was played that is none", (
-        2, "error: p.study/race.jsonl: line 1: no entry `settings`\n"),
-        place.study(*words)[::2])
+    for text, fault in [("{}\n", "no entry `settings`"), ("[" * 2000000, "1048576 bytes or more")]:
+        place.write("p.study/race.jsonl", text)
+        yield compare(f"what was played is {text[:9]}", (
+            2, f"error: p.study/race.jsonl: line 1: {fault}\n"), place.study(*words)[::2])
 
 
 def whole(place):

@@ -1,8 +1,10 @@
 """Plays `cwtune-vary` with the program."""
+import subprocess
+
 from gate.play import Place
 from gate.tally import compare
 
-from .commands import Refusal, in_folders, refused, run, usage_error
+from .commands import SECONDS, Refusal, command, in_folders, refused, run, usage_error
 
 TEXT = """;redcode-94
 ;name Two Numbers
