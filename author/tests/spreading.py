@@ -62,10 +62,11 @@ def stops(place):
 
 def killed(place):
     """Kills a tuning in a part."""
-    for signal_number in [signal.SIGKILL, signal.SIGHUP]:
+    for signal_number, ended_by in [(signal.SIGKILL, signal.SIGKILL),
+                                    (signal.SIGHUP, signal.SIGINT)]:
         status, _ = place.stop_in("--part=2/3", signal_number, "--jobs=1", "--parts=3", *DECOY)
         time.sleep(0.5)
-        yield compare(f"signal {signal_number} leaves nothing running", (-signal_number, []),
+        yield compare(f"signal {signal_number} leaves nothing running", (-ended_by, []),
                       (status, running_in(place.folder)))
         place.clear()
 
