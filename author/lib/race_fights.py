@@ -11,7 +11,7 @@ from typing import NamedTuple
 from .endings import Fault, fault_of
 from .program import NO_CANDIDATE, reading_output, rules_of
 from .race_hosts import Hosts, points_of
-from .spread_hosts import read_hosts
+from .spread_hosts import read_hosts, refuse_missing_tools
 from .tuning_files import Fight, schedule_text
 from .words import counted, number_from
 
@@ -79,15 +79,16 @@ class Arena:
     `opponents` are the paths of the opponents, and `weights` how much each counts. `records` is a
     list of what was played, to which each play adds: given those of a race that was stopped, the
     same race goes on where it was. `news` is what the lines of progress say, and `hosts` play ahead
-    what would take long here.
+    what would take long here; `work` is a name by which they know what an earlier run left.
     """
 
-    def __init__(self, args, budget, grid, opponents, weights, records, folder):
+    def __init__(self, args, budget, grid, opponents, weights, records, folder, work=None):
         self.args, self.budget, self.grid, self.records = args, budget, grid, records
         self.rules = rules_of(args)
         self.opponents, self.weights = zip(*((path, weight) for path, weight
                                              in zip(opponents, weights) if weight))
         self.folder, dice = pathlib.Path(folder), random.Random(args.seed)
+        self.work = work or self.folder
         self.positions = [Positions(self.rules, dice) for _ in self.opponents]
         self.block_count = self.record_count = self.fights = 0
         self.began_at, self.seconds = clock(), 0.0
@@ -268,8 +269,9 @@ def add_budget(parser):
 
 
 def hosts_file(word):
-    """Reads the name of a file of hosts for argparse. Refuses a file without any."""
+    """Reads the name of a file of hosts for argparse. Refuses it now if it cannot be used."""
     read_hosts(word)
+    refuse_missing_tools()
     return os.path.abspath(word)
 
 

@@ -52,7 +52,7 @@ class PiecesFolder:
 
     def __init__(self, arena, pieces):
         self.arena, self.pieces, self.pid = arena, dict(enumerate(pieces, 1)), os.getpid()
-        self.path = arena.folder / "pieces"
+        self.path, self.work = arena.folder / "pieces", arena.work
         self.path.mkdir()
         opponents = {f"o{index}.red": path for index, path in enumerate(arena.opponents)}
         sources = {"cwtune": arena.args.program, "race_job": SCRIPT, **opponents}
@@ -110,27 +110,44 @@ class Hosts:
         if (not (arena.args.hosts and arena.plays_of_jobs) or arena.is_recorded()
                 or (settings[0], blocks[0]) in self.points):
             return
-        plays, left = len(settings) * count, arena.plays_until(limit)
-        seconds_of_play = arena.seconds_of_jobs / arena.plays_of_jobs
+        at_once = min(len(settings), SETTINGS_AT_ONCE) * len(blocks)
+        plays = self.plays_ahead(len(settings) * count, at_once, limit)
+        if plays:
+            more = min(count, plays // len(settings)) - len(blocks)
+            blocks = blocks + arena.blocks_to_come(max(0, more))
+            self.play_pieces(settings[:max(1, plays // len(blocks))], blocks)
+
+    def plays_ahead(self, plays, at_once, limit):
+        """Returns how many of some plays hosts play now: all, or a multiple of `at_once`, which
+        the race plays between two looks at the budget. Returns 0 if they do not take long."""
+        arena, seconds_of_play = self.arena, self.seconds_here()
+        left = arena.plays_until(limit)
+        if arena.budget.seconds:
+            left /= 2  # Hosts may be slower.
         if min(plays, left) * seconds_of_play < SECONDS * arena.args.jobs:
-            return
-        processors = len(read_hosts(arena.args.hosts)) * arena.args.jobs
-        most = min(left, MOST_PLAYS, PIECES_AT_ONCE * SECONDS * processors / seconds_of_play)
-        if plays > most:
-            # The race comes to this many plays, or a multiple of it, before it ends for the budget.
-            at_once = min(len(settings), SETTINGS_AT_ONCE) * len(blocks)
-            plays = max(1, int(most / at_once)) * at_once
-        more = min(count, plays // len(settings)) - len(blocks)
-        blocks = blocks + arena.blocks_to_come(max(0, more))
-        settings = settings[:max(1, plays // len(blocks))]
-        piece_count = max(processors, plays * seconds_of_play / SECONDS)
-        pieces = pieces_of(settings, blocks, math.ceil(plays / piece_count),
-                           MOST_FIGHTS // len(arena.opponents))
+            return 0
+        most = min(left, MOST_PLAYS, PIECES_AT_ONCE * SECONDS * self.processors() / seconds_of_play)
+        return plays if plays <= most else max(1, int(most / at_once)) * at_once
+
+    def seconds_here(self):
+        """Returns the seconds of a play on a processor of this host."""
+        return self.arena.seconds_of_jobs / self.arena.plays_of_jobs
+
+    def processors(self):
+        """Returns how many pieces run side by side, if all hosts answer."""
+        return len(read_hosts(self.arena.args.hosts)) * self.arena.args.jobs
+
+    def play_pieces(self, settings, blocks):
+        """Has hosts play settings in blocks."""
+        arena, plays = self.arena, len(settings) * len(blocks)
+        plays_of_piece = math.ceil(min(plays / self.processors(), SECONDS / self.seconds_here()))
+        pieces = pieces_of(settings, blocks, plays_of_piece, MOST_FIGHTS // len(arena.opponents))
         began_at = arena.elapsed()
         self.points = self.play(PiecesFolder(arena, pieces))
         seconds = arena.elapsed() - began_at
+        # The time counts when the race comes to what was played.
         arena.began_at += seconds
-        self.seconds = seconds / len(self.points)
+        self.seconds = seconds / plays
 
     def play(self, folder):
         """Plays the pieces of a folder. Returns the points."""

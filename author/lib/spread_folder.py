@@ -76,6 +76,7 @@ class SpreadFolder(OwnFolder):
         """
         super().__init__(given_path)
         self.copies, self.input_options, self.pid = copies, options, os.getpid()
+        self.work = self.path  # what hosts keep of it is known by this name
         self.opponents = [copy.name for copy in copies if copy.kind == "opponents"]
         self.is_removed = False
         mark = self.read_mark()

@@ -48,6 +48,13 @@ MOST_TOLD = 5
 TOLD = set()
 
 
+def refuse_missing_tools():
+    """Refuses --hosts where what it runs is not installed."""
+    for tool in ["parallel", "rsync"]:
+        if not shutil.which(tool):
+            raise Fault(f"--hosts needs GNU parallel and rsync, and there is no {tool}", 2)
+
+
 def read_hosts(path):
     """Returns the lines of a file of hosts that name one, with the options of ssh in those that say
     how to run ssh. Refuses a file without any."""
@@ -81,11 +88,9 @@ class HostJobs:
     fault = None
 
     def __init__(self, args, folder, numbers):
-        for tool in ["parallel", "rsync"]:
-            if not shutil.which(tool):
-                raise Fault(f"--hosts needs GNU parallel and rsync, and there is no {tool}", 2)
+        refuse_missing_tools()
         self.args, self.folder, self.waiting = args, folder, list(numbers)
-        of_folder = hashlib.sha256(os.fsencode(f"{socket.gethostname()} {folder.path}"))
+        of_folder = hashlib.sha256(os.fsencode(f"{socket.gethostname()} {folder.work}"))
         self.inputs = folder.file(0, f"inputs{of_folder.hexdigest()[:16]}")
         self.hosts, self.parallel = read_hosts(args.hosts), None
         try:

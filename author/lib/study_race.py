@@ -54,7 +54,8 @@ class RaceOfStudy:
         paths = [str(self.folder.path / path) for path in self.study.opponents]
         with (temporary_folder() as folder, self.folder.open_to_append(name) as file,
               Arena(self.args, budget_of(self.args), self.grid, paths, self.args.weights,
-                    Journal(file, f"{self.folder.given_path}/{name}"), folder) as arena):
+                    Journal(file, f"{self.folder.given_path}/{name}"), folder,
+                    self.folder.path) as arena):
             for result in spent:
                 arena.charge(result["charged"], result["seconds"])
                 arena.block_count += result["blocks"]

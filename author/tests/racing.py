@@ -1,5 +1,6 @@
 """Plays `cwtune-seek` with the program, and races with made-up fights."""
 import argparse, os, random, signal, subprocess
+from unittest import mock
 
 from author.lib import grid, race, race_fights
 from author.lib.endings import Fault
@@ -157,6 +158,10 @@ def refusals(place):
                         ("none", (3, "failed: none: No such file or directory\n"))]:
         status, _, err = seek(place, f"--hosts={name}")
         yield compare(f"--hosts={name}", fault, (status, err))
+    place.write("one-host", "good\n")
+    with mock.patch.dict(os.environ, {"PATH": str(place.folder)}):
+        yield compare("hosts without GNU parallel", (2, "", "error: --hosts needs GNU parallel and "
+                      "rsync, and there is no parallel\n"), seek(place, "--hosts=one-host"))
     status, out, err = seek(place, "--box=9999", options=["--fights=1000", "--hill=nano"],
                             files=("large.red", *rest))
     yield compare("a box of too many settings is not cut", (

@@ -62,11 +62,11 @@ def stops(place):
 
 def killed(place):
     """Kills a tuning in a part."""
-    # A terminal that is closed ends it as Ctrl-C does.
-    for sent, ended_by in [(signal.SIGKILL, signal.SIGKILL), (signal.SIGHUP, signal.SIGINT)]:
-        status, _ = place.stop_in("--part=2/3", sent, "--jobs=1", "--parts=3", *DECOY)
+    for signal_number, ended_by in [(signal.SIGKILL, signal.SIGKILL),
+                                    (signal.SIGHUP, signal.SIGINT)]:
+        status, _ = place.stop_in("--part=2/3", signal_number, "--jobs=1", "--parts=3", *DECOY)
         time.sleep(0.5)
-        yield compare(f"signal {sent} leaves nothing running", (-ended_by, []),
+        yield compare(f"signal {signal_number} leaves nothing running", (-ended_by, []),
                       (status, running_in(place.folder)))
         place.clear()
 
