@@ -88,7 +88,7 @@ def idle_folders(place):
     """Tunes on a host where other runs of GNU parallel have folders with nothing in them."""
     used, left = (place.hosts.home("good") / f".parallel/tmp/other-{pid}-1" for pid in (1, 2))
     for path in used, left:
-        path.mkdir()
+        path.mkdir(parents=True)
     with subprocess.Popen(["sleep", str(SECONDS)], cwd=used) as job:
         status = place.on("good", "--parts=1", *DECOY).status
         job.kill()
