@@ -17,7 +17,7 @@ Example: cwtune-seek --minutes 10 my.red fights.csv dwarf.red scanner.red > bett
 import math, sys
 
 from . import holdout
-from .endings import Fault, end_by_kill_as_by_interrupt
+from .endings import Fault
 from .grid import Grid
 from .program import run_program
 from .race import Race
@@ -91,7 +91,6 @@ def seek(args, grid, weights):
 
 
 def main():
-    end_by_kill_as_by_interrupt()
     args = make_parser().parse_args()
     grid = Grid(args.template)
     if not grid.names:

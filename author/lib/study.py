@@ -22,7 +22,6 @@ Example: cwtune-study --minutes 10 my.red opponents/ STEP=5:7995:10 GATE=-3500:-
 import json, os, pathlib, sys
 
 from . import study_fresh, study_inputs, study_report
-from .endings import end_by_kill_as_by_interrupt
 from .grid import Grid
 from .program import Rules, rules_of
 from .race import Contender
@@ -242,7 +241,6 @@ def make_parser():
 
 
 def main():
-    end_by_kill_as_by_interrupt()
     parser = make_parser()
     args = parser.parse_mixed()
     study = Study(args, study_inputs.read(parser, args))
