@@ -27,7 +27,7 @@ class FolderStub:
     pid, copies, SENT_KINDS, RETURNED_KINDS = 1, [], [], ["report"]
 
     def __init__(self, path):
-        self.path = path
+        self.path = self.work = path
 
     def prepare(self, number):
         pass
