@@ -158,7 +158,7 @@ class Race:
     def improve(self, number):
         """Runs a round. Returns whether the budget had room for it, and a new setting was found."""
         known = [contender for contender in self.contenders.values() if contender.blocks]
-        if not known or self.plays_until(RACED) < NEW_SETTINGS * FIRST_HEAT:
+        if not known or not self.arena.has_room(NEW_SETTINGS * FIRST_HEAT, RACED * self.share):
             return False
         self.model = Model(self.grid.ranges, known)
         new = self.enter(self.choices())

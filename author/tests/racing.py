@@ -1,6 +1,7 @@
 """Plays `cwtune-seek` with the program, and races with made-up fights."""
 import argparse, os, random, signal, subprocess
 from unittest import mock
+from unittest import mock
 
 from author.lib import grid, race, race_fights
 from author.lib.endings import Fault
@@ -96,6 +97,41 @@ def goes_on(place):
         fault = str(refusal)
     yield compare("records of another race", "what was played before is not of this race: give "
                   "--anew to begin again", fault)
+
+
+def slow_play(place):
+    """Races by the clock, and has one play take long near the end of the rounds."""
+    place.write("hidden.red", LARGE)
+    now, slow = [0.0], []
+
+    class SlowArena(MadeUpArena):
+        def run(self, settings, blocks):
+            now[0] += 0.005 * len(settings) * len(blocks)
+            if self.used() > 0.62 and not slow:
+                slow.append(now[0])
+                now[0] += 3
+            if len(self.calls) > 9999 or now[0] > 99:
+                raise ValueError("it does not end")
+            return super().run(settings, blocks)
+
+    with mock.patch.object(race_fights, "clock", lambda: now[0]):
+        arena = SlowArena(grid.Grid(place.folder / "hidden.red"), None)
+        arena.budget = race_fights.Budget(None, 60)
+        racing = race.Race(arena.grid, arena, 1)
+        with mock.patch.object(racing, "improve", ended(racing.improve)):
+            racing.run()
+    yield compare("the race ends in time", (True, True), (bool(slow), 55 < now[0] <= 60))
+
+
+def ended(improve):
+    """Returns a method that improves a race, and fails if it is called more often than a race has
+    rounds."""
+    def counted(number):
+        if number > 500:
+            raise ValueError("the rounds do not end")
+        return improve(number)
+
+    return counted
 
 
 def finds(place):
@@ -202,4 +238,4 @@ def stopped(place, words, signal_number, begun, line=b""):
 
 def trials(program):
     return in_folders(lambda folder: Place(program, folder, FILES), [
-        rounds, goes_on, finds, refusals, stops])
+        rounds, goes_on, slow_play, finds, refusals, stops])
