@@ -18,6 +18,9 @@ PLANE = (";@tune STEP 1 9 2 3\n;@tune aim -4 4 1 4\n        ADD  #STEP, 3\n     
 FILES = {"plane.red": PLANE, "large.red": LARGE, "dat.red": "DAT 0\n", "imp.red": "MOV 0, 1\n",
          "s.csv": "opponent,position,first,weight\n0,40,c,1\n1,40,c,3\n",
          "one.csv": "opponent,position,first\n1,40,c\n"}
+WRONG_BUDGETS = [("--fights=999", "argument --fights: 999 is not 1000 or more"),
+                 ("--minutes=0", "argument --minutes: 0 is not 0.01 to 100000"),
+                 ("--minutes=x", "argument --minutes: x is not a number of minutes")]
 NANO = ["--hill=nano", "--fights=2000", "--jobs=2"]
 
 
@@ -184,9 +187,7 @@ def refusals(place):
         status, out, err = seek(place, files=files)
         yield compare(f"cwtune-seek {files}", (*expected, ""),
                       (status, err.splitlines()[-1], out))
-    for word, fault in [("--fights=999", "argument --fights: 999 is not 1000 or more"),
-                        ("--minutes=0", "argument --minutes: 0 is not 0.01 to 100000"),
-                        ("--minutes=x", "argument --minutes: x is not a number of minutes")]:
+    for word, fault in WRONG_BUDGETS:
         yield compare(word, (2, f"cwtune-seek: error: {fault}"),
                       (seek(place, word).status, seek(place, word).err.splitlines()[-1]))
     place.write("empty", "# no host\n")
