@@ -1,8 +1,7 @@
 """What `make test` runs beside `rt ci`. At the top: `python3 -m gate.NAME`, with `--help` for more.
 
 Each module prints what failed, and as its last line `N passed, N failed`. Its exit status is 1 if
-something failed, or if nothing was tried. One is an exception: without the kit that the hot loop
-was placed for, `loop_place` judges no place, and its status is 0.
+something failed, or if nothing was tried.
 
 gate             runs all of it, on a copy of the tree
 edits            wrong bodies (crates/*/must-fail/) that the prover has to refuse, and for each
@@ -19,7 +18,6 @@ ranking_trials   searches for the first of the ranking and with a floor
 races_trials     the races of bench, with stand-ins, and their table
 scripts          the scripts of examples/
 runners          the modules of all rooms: their help, and programs that do not exist or fail
-loop_place       where the hot loop lies in the program
 refuse.memory    the program, with each of its requests for memory refused
 refuse.growth    the tests of calls that allocate, likewise
 refuse.writes    the program, with each of its writes failing

@@ -12,7 +12,7 @@ from author.lib.words import module_parser
 
 ROOT = pathlib.Path(__file__).resolve().parent.parent
 EDITS = "gate.edits"
-STEPS = [EDITS, "gate.loop_place", "author.tests.run", "gate.documents",
+STEPS = [EDITS, "author.tests.run", "gate.documents",
          "gate.play_cases", "gate.pipes", "gate.terminals", "gate.cert_inputs_trials",
          "gate.cuts", "gate.shares", "gate.ranking_trials", "gate.races_trials", "gate.scripts",
          "gate.runners", "release.try_release", "gate.refuse.two_devices", "gate.refuse.memory",

@@ -23,10 +23,11 @@ HELPED = ["gate.gate", "gate.edits", "gate.runners", "release.dist", "release.ma
 # The others, which take a program as their last word, by the command that builds it.
 REFUSED = {
     "make build": ["author.tests.run", "author.tests.own_folders", "gate.play_cases", "gate.cuts",
-                   "gate.pipes", "gate.terminals", "gate.documents", "gate.loop_place",
+                   "gate.pipes", "gate.terminals", "gate.documents",
                    "gate.ranking_trials", "gate.scripts", "gate.shares", "gate.cert_inputs_trials",
                    "gate.races_trials", "gate.refuse.memory", "gate.refuse.writes",
                    "gate.refuse.two_devices", "release.try_release", "bench.measure --program",
+                   "bench.loop_place --program",
                    "bench.searches none --program", "bench.races --results=none --program",
                    "bench.naive 1 1 none none --program"],
     "make pmars": ["pmars.compare", "bench.measure --pmars", "bench.random_pairs --pmars",

@@ -7,7 +7,7 @@ use Rattle.rc_instr.specs.Instruction.{empty_cell, same_instruction}
 use Rattle.rc_instr.specs.declared.instruction.Instruction.{Instruction}
 use Rattle.mars_core.specs.Core.{filled_in}
 use Rattle.mars_core.specs.Packed.{packed, unpacked, is_marked, empty_word}
-use Rattle.mars_core.specs.Store.{IsStore, marks_after}
+use Rattle.mars_core.specs.Store.{IsStore, IsPacked, marks_after, counts_as_marked}
 use Rattle.mars_core.proofs.Packing.{unpacked_packed}
 use Rattle.mars_core.proofs.Stores.{empty_unmarked}
 
@@ -57,21 +57,27 @@ still_all cells old e = ap (λ n. replicate n true) e
 pub one_each : (words : List ℕ) → length (map is_marked words) ≡ length (map unpacked words)
 one_each words = length-map words is_marked ∙ sym (length-map words unpacked)
 
-pub mark_set : (words : List ℕ) (at w : ℕ) → is_marked w ≡ true → map is_marked (slice_set words at w) ≡ slice_set (map is_marked words) at true
-mark_set words at w m = map-set is_marked words at w ∙ ap (λ b. slice_set (map is_marked words) at b) m
+-- a test of words, and a word that passes it
+pub mark_set : (p : ℕ → Bool) (words : List ℕ) (at w : ℕ) → p w ≡ true → map p (slice_set words at w) ≡ slice_set (map p words) at true
+mark_set p words at w m = map-set p words at w ∙ ap (λ b. slice_set (map p words) at b) m
 
-mark_at : (words : List ℕ) (at : ℕ) → at < length words → get_or (map is_marked words) at true ≡ is_marked (get_or words at 0)
-mark_at [] at l = absurd (omega (arith, l))
-mark_at (w ∷ ws) zero l = refl
-mark_at (w ∷ ws) (suc at) l = mark_at ws at (omega (arith, l))
+mark_at : (p : ℕ → Bool) (words : List ℕ) (at : ℕ) → at < length words → get_or (map p words) at true ≡ p (get_or words at 0)
+mark_at p [] at l = absurd (omega (arith, l))
+mark_at p (w ∷ ws) zero l = refl
+mark_at p (w ∷ ws) (suc at) l = mark_at p ws at (omega (arith, l))
 
 counted : (b : Bool) (n k : ℕ) → (b ≡ false → k ≡ n + 1) → (b ≡ true → k ≡ n) → k ≡ cond b n (n + 1)
 counted true n k first again = again refl
 counted false n k first again = first refl
 
-pub mark_counted : (words : List ℕ) (at n k : ℕ) → at < length words → (is_marked (get_or words at 0) ≡ false → k ≡ n + 1) →
-    (is_marked (get_or words at 0) ≡ true → k ≡ n) → k ≡ marks_after (map is_marked words) at n
-mark_counted words at n k l first again = rw (mark_at words at l) (counted (is_marked (get_or words at 0)) n k first again)
+pub mark_counted : (p : ℕ → Bool) (words : List ℕ) (at n k : ℕ) → at < length words → (p (get_or words at 0) ≡ false → k ≡ n + 1) →
+    (p (get_or words at 0) ≡ true → k ≡ n) → k ≡ marks_after (map p words) at n
+mark_counted p words at n k l first again = rw (mark_at p words at l) (counted (p (get_or words at 0)) n k first again)
+
+-- words beside a closed journal
+pub all_counted : (words : List ℕ) → map (counts_as_marked false) words ≡ replicate (length (map unpacked words)) true
+all_counted [] = refl
+all_counted (w ∷ ws) = ap (λ bs. true ∷ bs) (all_counted ws)
 
 unmarked_copies : (m : ℕ) → map is_marked (replicate m empty_word) ≡ replicate m false
 unmarked_copies zero = refl
@@ -114,3 +120,9 @@ filled_marked (w ∷ ws) h =
 pub few_filled : (words journal : List ℕ) (count : ℕ) → IsStore words journal count → filled_in (map unpacked words) ≤ count
 unfolding filled_in
 few_filled words journal count s = let few = filled_marked words s.empty in let n = s.counted in omega (arith, few, n)
+
+-- no more cells are filled than are marked
+pub packed_few : (words journal : List ℕ) (count : ℕ) (is_open : Bool) → IsPacked words journal count is_open →
+    filled_in (map unpacked words) ≤ cond is_open count (length words)
+packed_few words journal count true s = few_filled words journal count (s.listed refl)
+packed_few words journal count false s = omega (arith, at_most_all (map unpacked words), length-map words unpacked)

@@ -1,9 +1,11 @@
 -- Queues of tasks.
-use Rattle.std.proofs.Common.{◌≡◌, ℕ, ◌<◌, ◌≤◌, arith, List, [], ◌∷◌, ◌++◌, length, drop, true, false, refl, sym, ◌∙◌, ap, subst}
+use Rattle.std.proofs.Common.{◌≡◌, ℕ, ◌+◌, ◌<◌, ◌≤◌, arith, List, [], ◌∷◌, ◌++◌, length, drop, take, get_or, true, false, refl, sym, ◌∙◌, ap, subst}
 use Rattle.std.proofs.lemmas.Bool.Decides.{nat_tests}
 use Rattle.std.specs.Prelude.{Option, Some, None, slice_get, slice_index, unwrap_or, nat_lt, if◌then◌else◌}
+use Rattle.std.proofs.lemmas.List.{length-take-le, take_more}
 use Rattle.std.proofs.lemmas.List.Elements.{All-tail, All-drop, All-push, All-head, All-get_or}
 use Rattle.mars_core.specs.Core.{AreTasks}
+use Rattle.mars_core.specs.Queue.{queue, queue_with}
 use Rattle.mars_core.specs.State.{appended}
 
 -- a list whose first item is x
@@ -34,6 +36,14 @@ room (x ∷ xs) limit some le = omega arith
 
 pub room_test : (xs : List ℕ) (limit : ℕ) → 0 < length xs → length xs ≤ limit → nat_lt (length (drop 1 xs)) limit ≡ true
 room_test xs limit some le = let l : length (drop 1 xs) < limit = room xs limit some le in grind (arith, nat_tests)
+
+-- the next task of a list is appended to those before it
+pub next_copied : (xs : List ℕ) (limit i task : ℕ) → i < length xs → length xs ≤ limit → task ≡ get_or xs i 0 →
+    queue_with (queue (take i xs) limit) (task ∷ []) ≡ queue (take (i + 1) xs) limit
+next_copied xs limit i task l le e =
+    let n = length-take-le i xs (omega arith) in
+    let has_room : nat_lt (length (take i xs)) limit ≡ true = grind (arith, nat_tests) in
+    rw has_room (ap (λ (tasks : List ℕ). queue tasks limit) (ap (λ t. take i xs ++ t ∷ []) e ∙ sym (take_more xs i 0 l)))
 
 -- the first task of a queue that has one
 pub first_of_some : (xs : List ℕ) (o : Option ℕ) (x : ℕ) → 0 < length xs → o ≡ slice_get xs 0 → x ≡ unwrap_or o 0 → Some x ≡ slice_get xs 0

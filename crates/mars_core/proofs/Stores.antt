@@ -9,7 +9,7 @@ use Rattle.rc_instr.specs.Instruction.{empty_cell}
 use Rattle.rc_instr.specs.declared.instruction.Instruction.{Instruction}
 use Rattle.mars_core.specs.Packed.{packed, unpacked, is_marked, empty_word, marked, mark_of, IsClassed}
 use Rattle.mars_core.specs.Classes.{class_of_key}
-use Rattle.mars_core.specs.Store.{IsStore, ListsWritten}
+use Rattle.mars_core.specs.Store.{IsStore, IsPacked, ListsWritten}
 use Rattle.mars_core.proofs.Packing.{unpacked_packed, unpacked_marked, mark_marked, classed_packed}
 
 pub marked_is : (w v : ℕ) → v ≡ marked w → is_marked v ≡ true
@@ -106,8 +106,22 @@ stored_first words journal count at w s l u m p =
     (rw taken (All-push (λ j. j < length words) (take count journal) at s.within l)) p
 
 -- each word keeps a class that is right
-pub word_classed : (words journal : List ℕ) (count at : ℕ) → IsStore words journal count → at < length words → IsClassed (get_or words at 0)
-word_classed words journal count at s l = All-get_or IsClassed words at 0 l s.classed
+pub word_classed : (words journal : List ℕ) (count : ℕ) (is_open : Bool) (at : ℕ) → IsPacked words journal count is_open → at < length words → IsClassed (get_or words at 0)
+word_classed words journal count is_open at s l = All-get_or IsClassed words at 0 l s.classed
+
+-- a journal that is right may be closed
+pub packed_of : (words journal : List ℕ) (count : ℕ) (is_open : Bool) → IsStore words journal count → IsPacked words journal count is_open
+packed_of words journal count is_open s = record { small = s.small; room = s.room; classed = s.classed; listed = λ e. s }
+
+-- beside a closed journal, a word of a right class is all that is needed
+pub packed_set : (words journal : List ℕ) (count : ℕ) (is_open : Bool) (at w : ℕ) → IsPacked words journal count is_open → is_open ≡ false → IsClassed w →
+    IsPacked (slice_set words at w) journal count is_open
+packed_set words journal count is_open at w s e p = record {
+  small = omega (arith, s.small, length-set words at w);
+  room = omega (arith, s.room, length-set words at w);
+  classed = All-set IsClassed words at w p s.classed;
+  listed = λ o. absurd (let t : true ≡ false = sym o ∙ e in cc);
+}
 
 pub item_at : (words : List ℕ) (at : ℕ) → at < length words → get_or (map unpacked words) at empty_cell ≡ unpacked (get_or words at 0)
 item_at words at l = get_or-map unpacked words at 0 empty_cell l

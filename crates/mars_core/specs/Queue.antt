@@ -1,5 +1,5 @@
--- A queue of tasks, and the ring of slots in which it is kept.
-use Rattle.std.specs.Prelude.{◌≡◌, ℕ, zero, suc, ◌+◌, ◌%◌, ◌<◌, ◌≤◌, List, [], ◌∷◌, length, drop, get_or}
+-- A queue of tasks, and the row of slots in which it is kept.
+use Rattle.std.specs.Prelude.{◌≡◌, ℕ, ◌+◌, ◌-◌, ◌≤◌, List, length, drop, take}
 use Rattle.rc_instr.specs.declared.instruction.Instruction.{Instruction}
 use Rattle.mars_core.specs.State.{appended, tasks_after}
 
@@ -22,23 +22,26 @@ without_first q = queue (drop 1 q.items) q.capacity
 abbrev pub queue_after : List Instruction → Queue → Queue
 queue_after core q = queue (tasks_after q.capacity core q.items) q.capacity
 
--- The number of slots in a ring: more than the 8000 tasks that rules allow.
-abbrev pub ring_size : ℕ
-ring_size = 8192
+-- The most cycles that are played at a time.
+abbrev pub stretch : ℕ
+stretch = 2000
 
--- The slot `steps` after `from`: slot 0 comes after the last one.
-abbrev pub slot_after : ℕ → ℕ → ℕ
-slot_after from steps = (from + steps) % ring_size
+-- What a row of slots holds from the slot `first` up to the one before `end`.
+abbrev pub held_in : List ℕ → (first end : ℕ) → List ℕ
+held_in slots first end = drop first (take end slots)
 
--- What `count` slots hold, in order, from the slot `at` on.
-abbrev pub held_from : List ℕ → ℕ → ℕ → List ℕ
-held_from slots at zero = []
-held_from slots at (suc count) = get_or slots at 0 ∷ held_from slots (slot_after at 1) count
+-- A queue in a row of slots, and the turns for which there is room.
+pub record LinearView : Type 0 where
+  pub queue : Queue
+  pub turns : ℕ
 
--- What holds of every ring. It has room for fewer tasks than there are slots, so the slot after
--- the last task is free.
-pub record IsRing (slots : List ℕ) (first count capacity : ℕ) : Type 0 where
-  pub slots_are : length slots ≡ ring_size
-  pub first_is : first < ring_size
-  pub within : count ≤ capacity
-  pub free : capacity < ring_size
+abbrev pub linear_view : List ℕ → (first end capacity : ℕ) → LinearView
+linear_view slots first end capacity = record { queue = queue (held_in slots first end) capacity; turns = stretch - first }
+
+-- What holds of every row of slots: behind the last task, at `end`, there is one more slot.
+pub record IsLinear (slots : List ℕ) (first end capacity : ℕ) : Type 0 where
+  pub slots_are : length slots ≡ capacity + stretch + 1
+  pub first_is : first ≤ stretch
+  pub ordered : first ≤ end
+  pub within : end ≤ first + capacity
+  pub few : capacity ≤ 65535

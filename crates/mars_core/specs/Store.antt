@@ -10,9 +10,13 @@ pub record StoreView : Type 0 where
   pub marked : List Bool
   pub marks : ℕ
 
--- The view of packed words, `count` of them marked.
-abbrev pub store_view : List ℕ → ℕ → StoreView
-store_view words count = record { items = map unpacked words; marked = map is_marked words; marks = count }
+-- Whether a word counts as marked: each does if the journal is closed.
+abbrev pub counts_as_marked : Bool → ℕ → Bool
+counts_as_marked is_open word = if is_open then is_marked word else true
+
+-- The view of packed words with a journal of `count` addresses, which is open or closed.
+abbrev pub packed_view : List ℕ → ℕ → Bool → StoreView
+packed_view words count is_open = record { items = map unpacked words; marked = map (counts_as_marked is_open) words; marks = if is_open then count else length words }
 
 -- The marks after the cell at an address is marked: one more if it was not.
 abbrev pub marks_after : List Bool → ℕ → ℕ → ℕ
@@ -28,6 +32,14 @@ pub record IsStore (words journal : List ℕ) (count : ℕ) : Type 0 where
   pub listed : (k : ℕ) → k < length words → is_marked (slice_index words k) ≡ true → Contains (take count journal) k
   pub within : All (λ j. j < length words) (take count journal)
   pub classed : All IsClassed words
+
+-- Words without a wrong class, and a journal with room for all their addresses. An open journal
+-- lists the words that are marked.
+pub record IsPacked (words journal : List ℕ) (count : ℕ) (is_open : Bool) : Type 0 where
+  pub small : length words ≤ 65535
+  pub room : length journal ≡ length words
+  pub classed : All IsClassed words
+  pub listed : is_open ≡ true → IsStore words journal count
 
 -- A word that is not the empty one has its address in the journal.
 pub record ListsWritten (words journal : List ℕ) : Type 0 where

@@ -7,7 +7,7 @@ ghost use Rattle.mars_core.specs.Seen.{seen_operand};
 ghost use Rattle.mars_core.specs.Executed.{IsFetched, IsExecuted, IsInside, IsEvaluated, IsActed};
 
 use crate::cell::Cell;
-use crate::cells::Cells;
+use crate::cells::Store;
 use crate::codes::{mode_from, modifier_from, opcode_from};
 use crate::effect::{Queued, act};
 use crate::operand::{Located, evaluate};
@@ -18,7 +18,7 @@ use crate::turn::Executed;
 #[tactic(auto, unfolding(crate::specs::Step::step_of))]
 #[inline(always)]
 pub(crate) fn arm<
-    C: Cells,
+    C: Store,
     const OPCODE: u64,
     const MODIFIER: u64,
     const A_MODE: u64,
@@ -42,7 +42,7 @@ pub(crate) fn arm<
 
 // Evaluates an operand in the mode that `MODE` stands for.
 #[inline]
-pub(crate) fn evaluate_in<C: Cells, const MODE: u64>(
+pub(crate) fn evaluate_in<C: Store, const MODE: u64>(
     cells: &mut C,
     size: u32,
     pc: u32,
@@ -60,7 +60,7 @@ pub(crate) fn evaluate_in<C: Cells, const MODE: u64>(
 
 // Executes the opcode and the modifier that the const parameters stand for.
 #[inline]
-fn act_as<C: Cells, const OPCODE: u64, const MODIFIER: u64>(
+fn act_as<C: Store, const OPCODE: u64, const MODIFIER: u64>(
     cells: &mut C,
     size: u32,
     pc: u32,

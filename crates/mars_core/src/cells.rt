@@ -1,24 +1,27 @@
 //! The cells of a core: how they are kept, read, written, and emptied again.
-ghost use Rattle.std.specs.Prelude.{◌≡◌, ℕ, ◌+◌, ◌<◌, ◌≤◌, Bool, true, List, length, replicate, slice_set, All, IfOk};
+ghost use Rattle.std.specs.Prelude.{◌≡◌, ℕ, ◌+◌, ◌*◌, ◌<◌, ◌≤◌, Bool, true, List, length, replicate, slice_set, All, IfOk};
 ghost use Rattle.rc_instr.specs.Instruction.{empty_cell};
 ghost use Rattle.rc_instr.specs.declared.instruction.Instruction.{Instruction};
 ghost use Rattle.rc_instr.specs.Warrior.{IsBelow};
 ghost use Rattle.mars_core.specs.Core.{cell_at, filled_in, loaded_at, IsCore};
+ghost use Rattle.mars_core.specs.Played.{CanPlay, IsPlayed};
+ghost use Rattle.mars_core.specs.Queue.{stretch};
 ghost use Rattle.mars_core.specs.Store.{marks_after};
 
 use crate::cell::Cell;
+use crate::fight_loop::take_turns;
 use crate::plain_queue::PlainQueue;
 use crate::tasks::Tasks;
 use rc_instr::{Instruction, OutOfMemory};
 use std::alloc::Global;
 use std::mem;
 
-/// Keeps the cells of a core, marks those that have to be set to empty it again, and counts the
-/// marks.
+/// A store of cells as a turn uses it: cells are read and replaced, and those that have to be set to
+/// empty the store again are marked and counted.
 ///
 /// Contracts see a list of instructions, a list that says of each cell whether it is marked, and a
 /// number, the marks. Addresses count from 0.
-pub trait Cells {
+pub trait Store {
     /// A cell as the store keeps it.
     type Kept: Cell;
     /// The queue of tasks that goes with the store.
@@ -26,14 +29,10 @@ pub trait Cells {
 
     /// The cells, in the order of their addresses.
     ghost items: { Self → List Instruction };
-    /// For each cell, whether `restore` would set it.
+    /// For each cell, whether it has to be set to empty the store.
     ghost marked: { Self → List Bool };
-    /// The number of cells that `restore` would set.
+    /// The number of marked cells.
     ghost marks: { Self → ℕ };
-    /// The marks of a new store, by its number of cells.
-    ghost new_marks: { ℕ → ℕ };
-    /// Whether the cells of a new store are marked.
-    ghost new_mark: { Bool };
 
     /// Returns the number of cells.
     fn size(&self) -> u32
@@ -52,57 +51,70 @@ pub trait Cells {
         ensures items { items self.new ≡ slice_set (items self.old) at (Self.Kept.held cell) }
         ensures marked { marked self.new ≡ slice_set (marked self.old) at true }
         ensures marks { marks self.new ≡ marks_after (marked self.old) at (marks self.old) };
+}
+
+/// The cells of an arena: a store that plays cycles of a fight, and that `restore` empties.
+pub trait Cells: Store {
+    /// The marks of a new store, by its number of cells.
+    ghost new_marks: { ℕ → ℕ };
+    /// Whether the cells of a new store are marked.
+    ghost new_mark: { Bool };
 
     /// Returns the cell at address `at`, which is below the size.
     fn get(&self, at: u32) -> Instruction
-        requires { at < length (items self.now) }
-        ensures { result ≡ cell_at (items self.now) at }
+        requires { at < length (Self.items self.now) }
+        ensures { result ≡ cell_at (Self.items self.now) at }
     {
         self.cell(at).instruction()
     }
 
     /// Replaces the cell at address `at`, which is below the size, and marks it as `put` does.
     fn set(&mut self, at: u32, instruction: Instruction)
-        requires { at < length (items self.old) }
-        ensures items { items self.new ≡ slice_set (items self.old) at instruction }
-        ensures marked { marked self.new ≡ slice_set (marked self.old) at true }
-        ensures marks { marks self.new ≡ marks_after (marked self.old) at (marks self.old) }
+        requires { at < length (Self.items self.old) }
+        ensures items { Self.items self.new ≡ slice_set (Self.items self.old) at instruction }
+        ensures marked { Self.marked self.new ≡ slice_set (Self.marked self.old) at true }
+        ensures marks { Self.marks self.new ≡ marks_after (Self.marked self.old) at (Self.marks self.old) }
     {
         self.put(at, Self::Kept::of(instruction));
     }
 
     /// Copies all cells of `other`, which has as many, with their marks.
     fn copy_from(&mut self, other: &Self)
-        requires { length (items self.old) ≡ length (items other.now) }
-        ensures items { items self.new ≡ items other.now }
-        ensures marked { marked self.new ≡ marked other.now }
-        ensures marks { marks self.new ≡ marks other.now };
+        requires { length (Self.items self.old) ≡ length (Self.items other.now) }
+        ensures items { Self.items self.new ≡ Self.items other.now }
+        ensures marked { Self.marked self.new ≡ Self.marked other.now }
+        ensures marks { Self.marks self.new ≡ Self.marks other.now };
 
-    /// Moves the store out. Nothing is promised of what is left, which only `put_back` makes whole.
-    ///
-    /// A loop keeps the store in a variable of its own meanwhile, so that the compiler holds the
-    /// pointers to the cells in registers.
-    fn take(&mut self) -> Self
-        ensures items { items result ≡ items self.old }
-        ensures marked { marked result ≡ marked self.old }
-        ensures marks { marks result ≡ marks self.old };
+    /// Alternates turns, `mine` first, until a queue is empty or `cycles` are over. Returns the
+    /// number of turns, each of which adds at most 3 to the marks.
+    fn alternate(
+        &mut self,
+        mine: &mut Self::Queue,
+        theirs: &mut Self::Queue,
+        size: u32,
+        cycles: u32,
+    ) -> u32
+        requires can_play { CanPlay size (Self.items self.old) (Self.Queue.held mine.old) (Self.Queue.held theirs.old) cycles }
+        requires few { cycles ≤ stretch }
+        ensures played { IsPlayed size (Self.items self.old) (Self.Queue.held mine.old) (Self.Queue.held theirs.old) cycles result (Self.items self.new) (Self.Queue.held mine.new) (Self.Queue.held theirs.new) }
+        ensures marks { Self.marks self.new ≤ Self.marks self.old + 3 * result };
 
-    /// Replaces the store that `take` left.
-    fn put_back(&mut self, store: Self)
-        ensures items { items self.new ≡ items store }
-        ensures marked { marked self.new ≡ marked store }
-        ensures marks { marks self.new ≡ marks store };
+    /// Marks every cell. Until the next `restore` no write has to be recorded.
+    fn mark_all(&mut self)
+        ensures items { Self.items self.new ≡ Self.items self.old }
+        ensures marked { Self.marked self.new ≡ replicate (length (Self.items self.old)) true }
+        ensures marks { Self.marks self.new ≡ length (Self.items self.old) };
 
     /// Empties every cell. Returns how many cells it set: the marked ones, and so all that were not
     /// empty.
     ///
     /// Afterwards the marks are as in a new store.
     fn restore(&mut self) -> u32
-        ensures count { result ≡ marks self.old }
-        ensures least { filled_in (items self.old) ≤ result }
-        ensures marked { marked self.new ≡ replicate (length (items self.old)) new_mark }
-        ensures items { items self.new ≡ replicate (length (items self.old)) empty_cell }
-        ensures marks { marks self.new ≡ new_marks (length (items self.old)) };
+        ensures count { result ≡ Self.marks self.old }
+        ensures least { filled_in (Self.items self.old) ≤ result }
+        ensures marked { Self.marked self.new ≡ replicate (length (Self.items self.old)) new_mark }
+        ensures items { Self.items self.new ≡ replicate (length (Self.items self.old)) empty_cell }
+        ensures marks { Self.marks self.new ≡ new_marks (length (Self.items self.old)) };
 }
 
 /// Keeps each cell as an instruction. `restore` sets all cells, so the marks are their number.
@@ -123,7 +135,7 @@ impl PlainCells {
     }
 }
 
-impl Cells for PlainCells {
+impl Store for PlainCells {
     type Kept = Instruction;
 
     type Queue = PlainQueue;
@@ -133,10 +145,6 @@ impl Cells for PlainCells {
     ghost marked = { λ s. replicate (length s.cells.items) true };
 
     ghost marks = { λ s. length s.cells.items };
-
-    ghost new_marks = { λ m. m };
-
-    ghost new_mark = { true };
 
     #[inline]
     #[tactic(auto, using(crate::proofs::Marks::as_many))]
@@ -155,24 +163,37 @@ impl Cells for PlainCells {
     fn put(&mut self, at: u32, cell: Instruction) {
         self.cells[at as usize] = cell;
     }
+}
 
-    #[inline]
-    fn take(&mut self) -> PlainCells {
-        let alloc = *self.cells.allocator();
-        let none = PlainCells {
-            cells: Vec::new(alloc),
-        };
-        mem::replace(self, none)
-    }
+impl Cells for PlainCells {
+    ghost new_marks = { λ m. m };
 
-    #[inline]
-    fn put_back(&mut self, store: PlainCells) {
-        *self = store;
-    }
+    ghost new_mark = { true };
 
     fn copy_from(&mut self, other: &PlainCells) {
         self.cells.copy_from_slice(&other.cells);
     }
+
+    fn alternate(
+        &mut self,
+        mine: &mut PlainQueue,
+        theirs: &mut PlainQueue,
+        size: u32,
+        cycles: u32,
+    ) -> u32 {
+        let none = PlainCells {
+            cells: Vec::new(*self.cells.allocator()),
+        };
+        let cells = mem::replace(self, none);
+        let (one, other) = (mine.take(), theirs.take());
+        let (cells, one, other, turns) = take_turns(cells, one, other, size, cycles);
+        *self = cells;
+        *mine = one;
+        *theirs = other;
+        turns
+    }
+
+    fn mark_all(&mut self) {}
 
     #[tactic(auto, using(crate::proofs::Marks::at_most_all, crate::proofs::Marks::still_all))]
     fn restore(&mut self) -> u32 {
@@ -184,7 +205,7 @@ impl Cells for PlainCells {
 // Reads a cell of a core: its numbers are below the core size.
 #[tactic(auto, using(crate::proofs::Below::cell_below))]
 #[inline]
-pub(crate) fn read<C: Cells>(cells: &C, size: u32, at: u32) -> C::Kept
+pub(crate) fn read<C: Store>(cells: &C, size: u32, at: u32) -> C::Kept
     requires core { IsCore size (C.items cells.now) }
     requires at { at < size }
     ensures value { C.Kept.held result ≡ cell_at (C.items cells.now) at }
@@ -196,7 +217,7 @@ pub(crate) fn read<C: Cells>(cells: &C, size: u32, at: u32) -> C::Kept
 // Replaces a cell of a core.
 #[tactic(auto, using(crate::proofs::Below::core_set, crate::proofs::Marks::one_added))]
 #[inline]
-pub(crate) fn write<C: Cells>(cells: &mut C, size: u32, at: u32, cell: C::Kept)
+pub(crate) fn write<C: Store>(cells: &mut C, size: u32, at: u32, cell: C::Kept)
     requires core { IsCore size (C.items cells.old) }
     requires at { at < size }
     requires below { IsBelow size (C.Kept.held cell) }
@@ -209,7 +230,7 @@ pub(crate) fn write<C: Cells>(cells: &mut C, size: u32, at: u32, cell: C::Kept)
 
 // Writes code into the cells from address `at` on, without wrapping round the end.
 #[tactic(auto, using(crate::proofs::Loading::loaded))]
-pub(crate) fn load_code<C: Cells>(cells: &mut C, size: u32, at: u32, code: &[Instruction])
+pub(crate) fn load_code<C: Store>(cells: &mut C, size: u32, at: u32, code: &[Instruction])
     requires core { IsCore size (C.items cells.old) }
     requires room { at + length code.now ≤ size }
     requires below { All (IsBelow size) code.now }

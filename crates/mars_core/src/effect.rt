@@ -9,7 +9,7 @@ ghost use Rattle.mars_core.specs.Executed.{IsInside, IsActed};
 ghost use Rattle.mars_core.specs.declared.effect.Queued.{Queued};
 
 use crate::cell::Cell;
-use crate::cells::{Cells, read, write};
+use crate::cells::{Store, read, write};
 use crate::effect::Queued::{Jump, Next, Nothing, Skip, Split};
 use crate::operand::Located;
 use crate::pairs::{
@@ -36,7 +36,7 @@ pub(crate) enum Queued {
 // Executes an opcode on its evaluated operands, for the task at `pc`. Returns what the task queues.
 #[tactic(auto, unfolding(crate::specs::Step::effect_of, crate::specs::Pairs::computed))]
 #[inline(always)]
-pub(crate) fn act<C: Cells>(
+pub(crate) fn act<C: Store>(
     cells: &mut C,
     size: u32,
     pc: u32,
@@ -86,7 +86,7 @@ fn choose(test: bool, yes: Queued, no: Queued) -> Queued
 // Runs MOV: writes the A-values into the cell of the B-operand, with I the whole instruction.
 #[tactic(auto, using(crate::proofs::Written::computed_pairs), unfolding(crate::specs::Pairs::computed))]
 #[inline(always)]
-fn move_numbers<C: Cells>(
+fn move_numbers<C: Store>(
     cells: &mut C,
     size: u32,
     modifier: Modifier,
@@ -110,7 +110,7 @@ fn move_numbers<C: Cells>(
 
 // Writes the values of an operation into the cell of the B-operand. The task goes on.
 #[inline(always)]
-fn apply<C: Cells, O: Operation>(
+fn apply<C: Store, O: Operation>(
     cells: &mut C,
     size: u32,
     modifier: Modifier,
@@ -133,7 +133,7 @@ fn apply<C: Cells, O: Operation>(
 
 // Runs DIV or MOD: writes its values, and ends the task if some A-value is 0.
 #[inline(always)]
-fn divide<C: Cells, O: Operation>(
+fn divide<C: Store, O: Operation>(
     cells: &mut C,
     size: u32,
     modifier: Modifier,
@@ -154,7 +154,7 @@ fn divide<C: Cells, O: Operation>(
 
 // Lowers the numbers that DJN tests, in the cell at `at`.
 #[inline(always)]
-fn apply_count_down<C: Cells>(cells: &mut C, size: u32, modifier: Modifier, at: u32)
+fn apply_count_down<C: Store>(cells: &mut C, size: u32, modifier: Modifier, at: u32)
     requires core { IsCore size (C.items cells.old) }
     requires at { at < size }
     ensures items { C.items cells.new ≡ updated_at (C.items cells.old) at (counted_down modifier size) }

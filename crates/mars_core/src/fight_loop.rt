@@ -1,23 +1,54 @@
 //! The loop of a fight: the sides take turns until one of them has no task.
 ghost use Rattle.std.specs.Prelude.{◌≡◌, ◌+◌, ◌*◌, ◌≤◌, length};
 ghost use Rattle.mars_core.specs.Played.{CanPlay, IsPlayed};
+ghost use Rattle.mars_core.specs.Queue.{stretch};
 
-use crate::cells::Cells;
+use crate::cells::{Cells, Store};
 use crate::snapshot::Snapshot;
-use crate::tasks::Tasks;
+use crate::tasks::{STRETCH, Tasks};
 use crate::turn::next_turn;
 
-// The cycles between two looks at whether the state has come back. The first look has nothing to
-// compare with, so a fight of at most two stretches compares no states.
-const STRETCH: u32 = 2000;
-
-// Alternates turns, `mine` first, until a queue is empty or `cycles` are over.
-// Returns the number of turns.
+// Alternates turns, `mine` first, until a queue is empty or `cycles` are over. Returns the cells, both
+// queues and the number of turns.
 //
-// Moves the cells to `take_turns`, which owns them. Through a reference the compiler has to assume
-// that a write to a cell changes the pointer to the cells, and would load it again.
+// Owns the cells and the queues while it runs, so that the compiler keeps their fields in registers:
+// of what is behind a reference it has to assume that each write to a cell changes it. Too large to
+// be inlined.
 #[inline(never)]
-fn alternate<C: Cells>(
+pub(crate) fn take_turns<C: Store>(
+    mut cells: C,
+    mut mine: C::Queue,
+    mut theirs: C::Queue,
+    size: u32,
+    cycles: u32,
+) -> (C, C::Queue, C::Queue, u32)
+    requires can_play { CanPlay size (C.items cells) (C.Queue.held mine) (C.Queue.held theirs) cycles }
+    requires few { cycles ≤ stretch }
+    ensures played { IsPlayed size (C.items cells) (C.Queue.held mine) (C.Queue.held theirs) cycles result.3 (C.items result.0) (C.Queue.held result.1) (C.Queue.held result.2) }
+    ensures marks { C.marks result.0 ≤ C.marks cells + 3 * result.3 }
+{
+    if mine.is_empty() || theirs.is_empty() {
+        return (cells, mine, theirs, 0);
+    }
+    mine.make_room();
+    theirs.make_room();
+    let mut my_task = mine.first();
+    let mut their_task = theirs.first();
+    for cycle in 0..cycles {
+        let Some(next) = next_turn::<C, 0>(&mut cells, &mut mine, size, my_task) else {
+            return (cells, mine, theirs, 2 * cycle + 1);
+        };
+        my_task = next;
+        let Some(next) = next_turn::<C, 1>(&mut cells, &mut theirs, size, their_task) else {
+            return (cells, mine, theirs, 2 * cycle + 2);
+        };
+        their_task = next;
+    }
+    (cells, mine, theirs, 2 * cycles)
+}
+
+// Plays as `alternate` does, for any number of cycles, a stretch at a time.
+fn play_on<C: Cells>(
     cells: &mut C,
     mine: &mut C::Queue,
     theirs: &mut C::Queue,
@@ -28,44 +59,20 @@ fn alternate<C: Cells>(
     ensures played { IsPlayed size (C.items cells.old) (C.Queue.held mine.old) (C.Queue.held theirs.old) cycles result (C.items cells.new) (C.Queue.held mine.new) (C.Queue.held theirs.new) }
     ensures marks { C.marks cells.new ≤ C.marks cells.old + 3 * result }
 {
-    let (store, turns) = take_turns(cells.take(), mine, theirs, size, cycles);
-    cells.put_back(store);
-    turns
+    let mut played = 0;
+    while played + STRETCH < cycles {
+        let turns = cells.alternate(mine, theirs, size, STRETCH);
+        if turns < 2 * STRETCH {
+            return 2 * played + turns;
+        }
+        played += STRETCH;
+    }
+    2 * played + cells.alternate(mine, theirs, size, cycles - played)
 }
 
-// The loop of `alternate`, on cells of its own, which it hands back. Too large to be inlined.
-#[inline(never)]
-fn take_turns<C: Cells>(
-    mut cells: C,
-    mine: &mut C::Queue,
-    theirs: &mut C::Queue,
-    size: u32,
-    cycles: u32,
-) -> (C, u32)
-    requires { CanPlay size (C.items cells) (C.Queue.held mine.old) (C.Queue.held theirs.old) cycles }
-    ensures played { IsPlayed size (C.items cells) (C.Queue.held mine.old) (C.Queue.held theirs.old) cycles result.1 (C.items result.0) (C.Queue.held mine.new) (C.Queue.held theirs.new) }
-    ensures marks { C.marks result.0 ≤ C.marks cells + 3 * result.1 }
-{
-    if mine.is_empty() || theirs.is_empty() {
-        return (cells, 0);
-    }
-    let mut my_task = mine.first();
-    let mut their_task = theirs.first();
-    for cycle in 0..cycles {
-        let Some(next) = next_turn::<C, 0>(&mut cells, mine, size, my_task) else {
-            return (cells, 2 * cycle + 1);
-        };
-        my_task = next;
-        let Some(next) = next_turn::<C, 1>(&mut cells, theirs, size, their_task) else {
-            return (cells, 2 * cycle + 2);
-        };
-        their_task = next;
-    }
-    (cells, 2 * cycles)
-}
-
-// Does what `alternate` does, but plays no whole periods once a state comes back: it will come back
-// again and again, so the fight is a tie.
+// Does what `play_on` does, but plays no whole periods once a state comes back: it will come back
+// again and again, so the fight is a tie. Marks all cells once three for each turn are as many: the
+// marks then bound nothing any more.
 pub(crate) fn decide<C: Cells>(
     cells: &mut C,
     mine: &mut C::Queue,
@@ -83,16 +90,19 @@ pub(crate) fn decide<C: Cells>(
     snapshot.forget();
     let mut done = 0;
     while done + STRETCH < cycles {
-        let turns = alternate(cells, mine, theirs, size, STRETCH);
+        let turns = cells.alternate(mine, theirs, size, STRETCH);
         if turns < 2 * STRETCH {
             return 2 * done + turns;
         }
         done += STRETCH;
         if let Some(period) = snapshot.period(cells, mine, theirs, done) {
-            alternate(cells, mine, theirs, size, (cycles - done) % period);
+            play_on(cells, mine, theirs, size, (cycles - done) % period);
             return 2 * cycles;
         }
         snapshot.renew(cells, mine, theirs, done);
+        if 6 * done >= size {
+            cells.mark_all();
+        }
     }
-    2 * done + alternate(cells, mine, theirs, size, cycles - done)
+    2 * done + cells.alternate(mine, theirs, size, cycles - done)
 }

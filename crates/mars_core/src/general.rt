@@ -9,7 +9,7 @@ ghost use Rattle.mars_core.specs.Executed.{IsFetched, IsExecuted, IsInside, AreE
 
 use crate::arm::evaluate_in;
 use crate::cell::Cell;
-use crate::cells::Cells;
+use crate::cells::Store;
 use crate::codes::{modifier_from, opcode_from};
 use crate::effect::{Queued, act};
 use crate::operand::{Located, Operands};
@@ -18,7 +18,7 @@ use crate::turn::Executed;
 // Executes the instruction at `pc`, which is `cell`, if its class gives its modes.
 #[tactic(auto, unfolding(crate::specs::Step::step_of))]
 #[inline(always)]
-pub(crate) fn execute_by_modes<C: Cells, const PLACE: u64>(
+pub(crate) fn execute_by_modes<C: Store, const PLACE: u64>(
     cells: &mut C,
     size: u32,
     pc: u32,
@@ -42,7 +42,7 @@ pub(crate) fn execute_by_modes<C: Cells, const PLACE: u64>(
 // Evaluates the A-operand of `cell`, which is at `pc`, and then its B-operand (1994 draft). Each
 // pair of modes has an arm, in which both are constants.
 #[inline]
-fn operands<C: Cells, const PLACE: u64>(
+fn operands<C: Store, const PLACE: u64>(
     cells: &mut C,
     size: u32,
     pc: u32,
@@ -129,7 +129,7 @@ fn operands<C: Cells, const PLACE: u64>(
 
 // Evaluates the operands of `cell`, which is at `pc`. The const parameters stand for its modes.
 #[inline(always)]
-fn pair_in<C: Cells, const A_MODE: u64, const B_MODE: u64>(
+fn pair_in<C: Store, const A_MODE: u64, const B_MODE: u64>(
     cells: &mut C,
     size: u32,
     pc: u32,
@@ -150,7 +150,7 @@ fn pair_in<C: Cells, const A_MODE: u64, const B_MODE: u64>(
 
 // Runs the opcode and the modifier whose numbers are in `code` on evaluated operands.
 #[inline]
-fn act_by_code<C: Cells, const PLACE: u64>(
+fn act_by_code<C: Store, const PLACE: u64>(
     cells: &mut C,
     size: u32,
     pc: u32,
@@ -302,7 +302,7 @@ fn act_by_code<C: Cells, const PLACE: u64>(
 // Executes the opcode and the modifier that the const parameters stand for. Not `act_as`, which the
 // arms call too: the compiler inlines more of what has few calls.
 #[inline]
-fn act_once<C: Cells, const PLACE: u64, const OPCODE: u64, const MODIFIER: u64>(
+fn act_once<C: Store, const PLACE: u64, const OPCODE: u64, const MODIFIER: u64>(
     cells: &mut C,
     size: u32,
     pc: u32,

@@ -7,7 +7,7 @@
 //! alternates turns, and `snapshot` ends a tie early. `cell` has the trait of a cell, `cells` that
 //! of a store and the plain cells; `packed_cells` are a store of `packed` words. `codes` has the
 //! numbers of opcodes, modifiers and modes, `classes` those of frequent instructions. `tasks` has
-//! the trait of a queue; `plain_queue` and `ring` are the queues of the two stores.
+//! the trait of a queue; `plain_queue` and `linear_queue` are the queues of the two stores.
 #![tactic(auto)]
 
 mod arena;
@@ -20,13 +20,13 @@ mod effect;
 mod fight_loop;
 mod general;
 pub mod laws;
+mod linear_queue;
 mod number;
 mod operand;
 mod packed;
 mod packed_cells;
 mod pairs;
 mod plain_queue;
-mod ring;
 mod side;
 mod snapshot;
 mod tasks;

@@ -7,7 +7,7 @@ ghost use Rattle.mars_core.specs.Seen.{seen_operand};
 ghost use Rattle.mars_core.specs.Executed.{IsEvaluated};
 
 use crate::cell::Cell;
-use crate::cells::{Cells, read, write};
+use crate::cells::{Store, read, write};
 use crate::number::{FieldA, FieldB, Number, sum};
 use rc_instr::Mode;
 
@@ -25,7 +25,7 @@ pub(crate) type Operands<K> = (Located<K>, Located<K>);
 // operand and then uses it; a postincrement mode raises it after the copy is taken.
 #[tactic(auto, using(crate::proofs::Sums::sums), unfolding(crate::specs::Operand::operand_of))]
 #[inline(always)]
-pub(crate) fn evaluate<C: Cells>(
+pub(crate) fn evaluate<C: Store>(
     cells: &mut C,
     size: u32,
     pc: u32,
@@ -77,7 +77,7 @@ pub(crate) fn evaluate<C: Cells>(
 // Lowers one number of the cell at `at` by 1. Returns the lowered number.
 #[tactic(auto, using(crate::proofs::Operands::cell_set), unfolding(crate::specs::Core::changed_at))]
 #[inline]
-fn lower<C: Cells, N: Number>(cells: &mut C, size: u32, at: u32) -> u32
+fn lower<C: Store, N: Number>(cells: &mut C, size: u32, at: u32) -> u32
     requires core { IsCore size (C.items cells.old) }
     requires at { at < size }
     ensures items { C.items cells.new ≡ changed_at (C.items cells.old) at N.field (λ x. difference_of size x 1) }
@@ -95,7 +95,7 @@ fn lower<C: Cells, N: Number>(cells: &mut C, size: u32, at: u32) -> u32
 // Raises one number of the cell at `way.address` by 1. `way.copy` is that cell.
 #[tactic(auto, unfolding(crate::specs::Core::changed_at))]
 #[inline]
-fn raise<C: Cells, N: Number>(cells: &mut C, size: u32, way: Located<C::Kept>)
+fn raise<C: Store, N: Number>(cells: &mut C, size: u32, way: Located<C::Kept>)
     requires core { IsCore size (C.items cells.old) }
     requires address { way.address < size }
     requires copy { C.Kept.held way.copy ≡ cell_at (C.items cells.old) way.address }
@@ -110,7 +110,7 @@ fn raise<C: Cells, N: Number>(cells: &mut C, size: u32, way: Located<C::Kept>)
 
 // Returns an address, and a copy of the cell there.
 #[inline]
-fn at<C: Cells>(cells: &C, size: u32, address: u32) -> Located<C::Kept>
+fn at<C: Store>(cells: &C, size: u32, address: u32) -> Located<C::Kept>
     requires core { IsCore size (C.items cells.now) }
     requires address { address < size }
     ensures address { result.address ≡ address }

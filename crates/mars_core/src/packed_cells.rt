@@ -1,12 +1,15 @@
 //! Cells in words, with a journal of those that were written.
-ghost use Rattle.std.specs.Prelude.{◌≡◌, ◌<◌, ◌≤◌, ◌+◌, slice_index, slice_set, replicate, [], length, true, false, IfOk};
+ghost use Rattle.std.specs.Prelude.{◌≡◌, ◌<◌, ◌≤◌, ◌+◌, ◌*◌, slice_index, slice_set, replicate, length, true, false, IfOk};
 ghost use Rattle.rc_instr.specs.Instruction.{empty_cell};
-ghost use Rattle.mars_core.specs.Packed.{is_marked, empty_word, IsClassed};
-ghost use Rattle.mars_core.specs.Store.{IsStore, ListsWritten};
+ghost use Rattle.mars_core.specs.Played.{CanPlay, IsPlayed};
+ghost use Rattle.mars_core.specs.Queue.{stretch};
+ghost use Rattle.mars_core.specs.Packed.{unpacked, is_marked, empty_word, IsClassed};
+ghost use Rattle.mars_core.specs.Store.{IsStore, IsPacked, packed_view, marks_after, ListsWritten};
 
-use crate::cells::Cells;
+use crate::cells::{Cells, Store};
+use crate::fight_loop::take_turns;
+use crate::linear_queue::LinearQueue;
 use crate::packed::PackedCell;
-use crate::ring::Ring;
 use rc_instr::OutOfMemory;
 use std::alloc::Global;
 use std::marker::Model;
@@ -14,29 +17,53 @@ use std::mem;
 
 /// Keeps each cell in a word of 8 bytes, and in a journal the address of each cell that was written
 /// since the last reset. `restore` empties only these, so the marks are their number.
+///
+/// `mark_all` closes the journal: writes are no longer recorded, and `restore` empties all cells.
 #[derive(Drop)]
 pub struct PackedCells {
     words: Vec<u64>,
-    // Of full length from the start, so that no write grows it. The first `count` items are in use.
+    // Of full length from the start, so that no write grows it. While it is open, the first `count`
+    // items are in use.
+    journal: Vec<u16>,
+    count: usize,
+    is_open: bool,
+}
+
+impl Model for PackedCells {
+    ghost use Rattle.mars_core.specs.Store.{StoreView, packed_view, IsPacked};
+
+    ghost Value = { StoreView };
+
+    ghost view = { λ s. packed_view s.words.items s.count s.is_open };
+
+    ghost invariant = { λ s. IsPacked s.words.items s.journal.items s.count s.is_open };
+}
+
+// Packed cells while cycles are played. Whether the journal is open is a constant then, so that a
+// write beside a closed one does nothing else. `OPEN` is 1 or 0: no `bool` can stand there.
+#[derive(Drop)]
+struct PlayedCells<const OPEN: u64> {
+    words: Vec<u64>,
     journal: Vec<u16>,
     count: usize,
 }
 
-impl Model for PackedCells {
-    ghost use Rattle.mars_core.specs.Store.{StoreView, store_view, IsStore};
+impl<const OPEN: u64> Model for PlayedCells<OPEN> {
+    ghost use Rattle.std.specs.Prelude.{◌==◌};
+    ghost use Rattle.mars_core.specs.Store.{StoreView, packed_view, IsPacked};
 
     ghost Value = { StoreView };
 
-    ghost view = { λ s. store_view s.words.items s.count };
+    ghost view = { λ s. packed_view s.words.items s.count (OPEN == 1) };
 
-    ghost invariant = { λ s. IsStore s.words.items s.journal.items s.count };
+    ghost invariant = { λ s. IsPacked s.words.items s.journal.items s.count (OPEN == 1) };
 }
 
 // Writes a marked word, and adds its address to the journal if no mark was there. `count` is the
 // number of addresses that the journal has.
 #[tactic(auto, using(crate::proofs::Stores::stores))]
 #[inline]
-fn put(words: &mut Vec<u64>, journal: &mut Vec<u16>, count: &mut usize, at: u32, word: u64)
+fn record(words: &mut Vec<u64>, journal: &mut Vec<u16>, count: &mut usize, at: u32, word: u64)
     requires store { IsStore words.old.items journal.old.items count.old }
     requires at { at < length words.old.items }
     requires marked { is_marked word ≡ true }
@@ -55,6 +82,63 @@ fn put(words: &mut Vec<u64>, journal: &mut Vec<u16>, count: &mut usize, at: u32,
         journal[*count] = at as u16;
         *count += 1;
     }
+}
+
+// Replaces a cell, and records that in a journal which is open.
+#[tactic(auto, using(crate::proofs::Stores::packed_of, crate::proofs::Stores::packed_set, crate::proofs::Stores::item_set, crate::proofs::Stores::marked_is, crate::proofs::Stores::marked_holds))]
+#[inline]
+fn put(
+    words: &mut Vec<u64>,
+    journal: &mut Vec<u16>,
+    count: &mut usize,
+    is_open: bool,
+    at: u32,
+    cell: PackedCell,
+)
+    requires store { IsPacked words.old.items journal.old.items count.old is_open }
+    requires at { at < length words.old.items }
+    ensures store { IsPacked words.new.items journal.new.items count.new is_open }
+    ensures items { (packed_view words.new.items count.new is_open).items ≡ slice_set (packed_view words.old.items count.old is_open).items at (unpacked cell.word) }
+    ensures marked { (packed_view words.new.items count.new is_open).marked ≡ slice_set (packed_view words.old.items count.old is_open).marked at true }
+    ensures marks { (packed_view words.new.items count.new is_open).marks ≡ marks_after (packed_view words.old.items count.old is_open).marked at (packed_view words.old.items count.old is_open).marks }
+{
+    if is_open {
+        record(words, journal, count, at, cell.marked().word);
+    } else {
+        words[at as usize] = cell.word;
+    }
+}
+
+// Alternates turns on these cells. Moves the queues to the loop and back.
+fn play<const OPEN: u64>(
+    cells: PlayedCells<OPEN>,
+    mine: &mut LinearQueue,
+    theirs: &mut LinearQueue,
+    size: u32,
+    cycles: u32,
+) -> (PlayedCells<OPEN>, u32)
+    requires can_play { CanPlay size cells.items mine.old.queue theirs.old.queue cycles }
+    requires few { cycles ≤ stretch }
+    ensures played { IsPlayed size cells.entry.items mine.old.queue theirs.old.queue cycles result.1 result.0.items mine.new.queue theirs.new.queue }
+    ensures marks { result.0.marks ≤ cells.entry.marks + 3 * result.1 }
+{
+    let alloc = *cells.words.allocator();
+    let one = LinearQueue {
+        slots: mem::replace(&mut mine.slots, Vec::new(alloc)),
+        first: mine.first,
+        end: mine.end,
+        capacity: mine.capacity,
+    };
+    let other = LinearQueue {
+        slots: mem::replace(&mut theirs.slots, Vec::new(alloc)),
+        first: theirs.first,
+        end: theirs.end,
+        capacity: theirs.capacity,
+    };
+    let (cells, one, other, turns) = take_turns(cells, one, other, size, cycles);
+    *mine = one;
+    *theirs = other;
+    (cells, turns)
 }
 
 // Empties the cells whose addresses are in `journal`.
@@ -83,39 +167,21 @@ impl PackedCells {
             words,
             journal,
             count: 0,
+            is_open: true,
         })
-    }
-
-    // Makes a store without cells, which takes no memory.
-    #[tactic(auto, using(crate::proofs::Stores::no_store))]
-    #[inline]
-    fn none(alloc: Global) -> PackedCells
-        ensures items { result.items ≡ [] }
-        ensures marks { result.marks ≡ 0 }
-    {
-        let count = 0;
-        PackedCells {
-            words: Vec::new(alloc),
-            journal: Vec::new(alloc),
-            count,
-        }
     }
 }
 
-impl Cells for PackedCells {
+impl Store for PackedCells {
     type Kept = PackedCell;
 
-    type Queue = Ring;
+    type Queue = LinearQueue;
 
     ghost items = { λ s. s.items };
 
     ghost marked = { λ s. s.marked };
 
     ghost marks = { λ s. s.marks };
-
-    ghost new_marks = { λ m. 0 };
-
-    ghost new_mark = { false };
 
     #[inline]
     #[tactic(auto, using(crate::proofs::Marks::one_each))]
@@ -131,41 +197,106 @@ impl Cells for PackedCells {
         }
     }
 
-    #[tactic(auto, using(crate::proofs::Stores::item_set, crate::proofs::Stores::marked_is, crate::proofs::Stores::marked_holds, crate::proofs::Marks::mark_set, crate::proofs::Marks::mark_counted))]
+    fn put(&mut self, at: u32, cell: PackedCell) {
+        let (words, journal) = (&mut self.words, &mut self.journal);
+        put(words, journal, &mut self.count, self.is_open, at, cell);
+    }
+}
+
+impl<const OPEN: u64> Store for PlayedCells<OPEN> {
+    type Kept = PackedCell;
+
+    type Queue = LinearQueue;
+
+    ghost items = { λ s. s.items };
+
+    ghost marked = { λ s. s.marked };
+
+    ghost marks = { λ s. s.marks };
+
+    #[tactic(auto, using(crate::proofs::Marks::one_each))]
+    fn size(&self) -> u32 {
+        self.words.len() as u32
+    }
+
+    #[tactic(auto, using(crate::proofs::Stores::item_at, crate::proofs::Stores::word_classed), unfolding(crate::specs::Core::cell_at))]
+    #[inline]
+    fn cell(&self, at: u32) -> PackedCell {
+        PackedCell {
+            word: self.words[at as usize],
+        }
+    }
+
     #[inline]
     fn put(&mut self, at: u32, cell: PackedCell) {
-        let word = cell.marked().word;
-        put(
-            &mut self.words,
-            &mut self.journal,
-            &mut self.count,
-            at,
-            word,
-        );
+        let (words, journal) = (&mut self.words, &mut self.journal);
+        put(words, journal, &mut self.count, OPEN == 1, at, cell);
     }
+}
 
-    #[inline]
-    fn take(&mut self) -> PackedCells {
-        let alloc = *self.words.allocator();
-        mem::replace(self, PackedCells::none(alloc))
-    }
+impl Cells for PackedCells {
+    ghost new_marks = { λ m. 0 };
 
-    #[inline]
-    fn put_back(&mut self, store: PackedCells) {
-        *self = store;
-    }
+    ghost new_mark = { false };
 
     fn copy_from(&mut self, other: &PackedCells) {
         self.words.copy_from_slice(&other.words);
         self.journal.copy_from_slice(&other.journal);
         self.count = other.count;
+        self.is_open = other.is_open;
     }
 
-    #[tactic(auto, using(crate::proofs::Stores::stores, crate::proofs::Stores::blanks_of, crate::proofs::Stores::written_listed, crate::proofs::Marks::unmarked_of))]
+    fn alternate(
+        &mut self,
+        mine: &mut LinearQueue,
+        theirs: &mut LinearQueue,
+        size: u32,
+        cycles: u32,
+    ) -> u32 {
+        let alloc = *self.words.allocator();
+        let words = mem::replace(&mut self.words, Vec::new(alloc));
+        let journal = mem::replace(&mut self.journal, Vec::new(alloc));
+        let count = self.count;
+        if self.is_open {
+            let cells = PlayedCells::<1> {
+                words,
+                journal,
+                count,
+            };
+            let (cells, turns) = play(cells, mine, theirs, size, cycles);
+            self.words = cells.words;
+            self.journal = cells.journal;
+            self.count = cells.count;
+            turns
+        } else {
+            let cells = PlayedCells::<0> {
+                words,
+                journal,
+                count,
+            };
+            let (cells, turns) = play(cells, mine, theirs, size, cycles);
+            self.words = cells.words;
+            self.journal = cells.journal;
+            turns
+        }
+    }
+
+    #[tactic(auto, using(crate::proofs::Marks::all_counted))]
+    fn mark_all(&mut self) {
+        self.is_open = false;
+    }
+
+    #[tactic(auto, using(crate::proofs::Stores::stores, crate::proofs::Stores::packed_of, crate::proofs::Stores::blanks_of, crate::proofs::Stores::written_listed, crate::proofs::Marks::unmarked_of))]
     fn restore(&mut self) -> u32 {
-        clear(&mut self.words, &self.journal[..self.count]);
-        let count = self.count as u32;
+        let marks = if self.is_open {
+            clear(&mut self.words, &self.journal[..self.count]);
+            self.count as u32
+        } else {
+            self.words.fill(PackedCell::empty().word);
+            self.size()
+        };
         self.count = 0;
-        count
+        self.is_open = true;
+        marks
     }
 }

@@ -1,18 +1,23 @@
 //! The queue of a warrior's tasks: their addresses, the next to execute first.
-ghost use Rattle.std.specs.Prelude.{◌≡◌, ◌<◌, ◌≤◌, ◌==◌, ◌∷◌, [], ◌++◌, Some, true, length, drop, slice_get, slice_index_or, IfOk};
-ghost use Rattle.mars_core.specs.Queue.{Queue, queue, queue_with, without_first, ring_size};
+ghost use Rattle.std.specs.Prelude.{◌≡◌, ℕ, ◌+◌, ◌<◌, ◌≤◌, ◌==◌, ◌∷◌, [], ◌++◌, Some, true, length, drop, slice_get, slice_index_or, IfOk};
+ghost use Rattle.mars_core.specs.Queue.{Queue, queue, queue_with, without_first, stretch};
 
 use rc_instr::OutOfMemory;
 use std::alloc::Global;
+
+/// The most cycles that are played at a time. A side makes one turn in each.
+pub(crate) const STRETCH: u32 = 2000;
 
 /// A queue of tasks, and how many there may be.
 pub trait Tasks: Drop {
     /// The tasks, and how many there may be.
     ghost held: { Self → Queue };
+    /// The turns for which there is room. A turn takes one task out.
+    ghost turns: { Self → ℕ };
 
     /// Makes an empty queue for at most `capacity` tasks.
     fn with_capacity(alloc: Global, capacity: usize) -> Result<Self, OutOfMemory>
-        requires { capacity < ring_size }
+        requires { capacity ≤ 65535 }
         ensures { IfOk result (λ t. held t ≡ queue [] capacity) };
 
     /// Checks whether there is no task.
@@ -33,16 +38,24 @@ pub trait Tasks: Drop {
         requires { 0 < length (held self.now).items }
         ensures { Some result ≡ slice_get (held self.now).items 0 };
 
+    /// Makes room for the turns of a stretch.
+    fn make_room(&mut self)
+        ensures tasks { held self.new ≡ held self.old }
+        ensures turns { turns self.new ≡ stretch };
+
     /// Appends a task if there is room; else the task is lost (1994 draft).
     fn append(&mut self, task: u32)
         requires { task < 65536 }
         ensures tasks { held self.new ≡ queue_with (held self.old) (task ∷ []) }
+        ensures turns { turns self.new ≡ turns self.old }
         ensures first { 0 < length (held self.old).items → slice_get (held self.new).items 0 ≡ slice_get (held self.old).items 0 };
 
     /// Removes the first task of a queue that has one. Returns the new first task, if any.
     fn remove_first(&mut self) -> Option<u32>
-        requires { 0 < length (held self.old).items }
+        requires some { 0 < length (held self.old).items }
+        requires turns { 0 < turns self.old }
         ensures tasks { held self.new ≡ without_first (held self.old) }
+        ensures turns { turns self.old ≤ turns self.new + 1 }
         ensures first { result ≡ slice_get (held self.new).items 0 };
 
     /// Removes the first task of a queue that has one, and appends `last`, for which there is room
@@ -50,6 +63,8 @@ pub trait Tasks: Drop {
     fn replace_first(&mut self, last: u32) -> u32
         requires last { last < 65536 }
         requires some { 0 < length (held self.old).items }
+        requires turns { 0 < turns self.old }
+        ensures turns { turns self.old ≤ turns self.new + 1 }
         ensures tasks { held self.new ≡ queue (drop 1 (held self.old).items ++ last ∷ []) (held self.old).capacity }
         ensures room { length (held self.old).items ≤ (held self.old).capacity }
         ensures first { Some result ≡ slice_get (held self.new).items 0 };
@@ -61,7 +76,13 @@ pub trait Tasks: Drop {
     /// Copies the tasks of `other`, for which there is room.
     fn copy_from(&mut self, other: &Self)
         requires { length (held other.now).items ≤ (held self.old).capacity }
-        ensures { held self.new ≡ queue (held other.now).items (held self.old).capacity };
+        ensures { held self.new ≡ queue (held other.now).items (held self.old).capacity }
+    {
+        self.clear();
+        for index in 0..other.len() {
+            self.append(u32::from(other.get(index).unwrap_or(0)));
+        }
+    }
 }
 
 // Returns the task at `index`, 0 if there is none.

@@ -9,7 +9,7 @@ ghost use Rattle.mars_core.specs.Executed.{IsFetched, IsExecuted};
 
 use crate::arm::arm;
 use crate::cell::Cell;
-use crate::cells::{Cells, read};
+use crate::cells::{Store, read};
 use crate::classes::FIRST_OF_MODES;
 use crate::effect::Queued;
 use crate::general::execute_by_modes;
@@ -26,7 +26,7 @@ pub(crate) struct Executed {
 // Takes one turn of the side with these tasks. Changes nothing if there are none.
 #[tactic(auto, using(crate::proofs::Queues::queues), unfolding(crate::specs::State::core_after, crate::specs::State::tasks_after))]
 #[inline(always)]
-pub(crate) fn take_turn<C: Cells>(cells: &mut C, tasks: &mut C::Queue, size: u32)
+pub(crate) fn take_turn<C: Store>(cells: &mut C, tasks: &mut C::Queue, size: u32)
     requires core { IsCore size (C.items cells.old) }
     requires tasks { AreTasks size (C.Queue.held tasks.old).items }
     ensures cells { C.items cells.new ≡ core_after (C.items cells.old) (C.Queue.held tasks.old).items }
@@ -38,6 +38,7 @@ pub(crate) fn take_turn<C: Cells>(cells: &mut C, tasks: &mut C::Queue, size: u32
     if tasks.is_empty() {
         return;
     }
+    tasks.make_room();
     let pc = tasks.first();
     next_turn::<C, 2>(cells, tasks, size, pc);
 }
@@ -49,7 +50,7 @@ pub(crate) fn take_turn<C: Cells>(cells: &mut C, tasks: &mut C::Queue, size: u32
 // with one caller: only then does the compiler inline them (docs/HOT_LOOP.md).
 #[tactic(auto, using(crate::proofs::Queues::queues), unfolding(crate::specs::State::core_after, crate::specs::State::tasks_after))]
 #[inline(always)]
-pub(crate) fn next_turn<C: Cells, const PLACE: u64>(
+pub(crate) fn next_turn<C: Store, const PLACE: u64>(
     cells: &mut C,
     tasks: &mut C::Queue,
     size: u32,
@@ -58,9 +59,11 @@ pub(crate) fn next_turn<C: Cells, const PLACE: u64>(
     requires core { IsCore size (C.items cells.old) }
     requires tasks { AreTasks size (C.Queue.held tasks.old).items }
     requires pc { Some pc ≡ slice_get (C.Queue.held tasks.old).items 0 }
+    requires turns { 0 < C.Queue.turns tasks.old }
     ensures cells { C.items cells.new ≡ core_after (C.items cells.old) (C.Queue.held tasks.old).items }
     ensures tasks { C.Queue.held tasks.new ≡ queue_after (C.items cells.old) (C.Queue.held tasks.old) }
     ensures next { result ≡ slice_get (C.Queue.held tasks.new).items 0 }
+    ensures turns { C.Queue.turns tasks.old ≤ C.Queue.turns tasks.new + 1 }
     ensures core { IsCore size (C.items cells.new) }
     ensures below { AreTasks size (C.Queue.held tasks.new).items }
     ensures marks { C.marks cells.new ≤ C.marks cells.old + 3 }
@@ -75,7 +78,7 @@ pub(crate) fn next_turn<C: Cells, const PLACE: u64>(
 // Classes of modes are tested for first: as the last arm of the match they would count as rare, and
 // the compiler would inline nothing below that arm.
 #[inline(always)]
-fn execute<C: Cells, const PLACE: u64>(
+fn execute<C: Store, const PLACE: u64>(
     cells: &mut C,
     size: u32,
     pc: u32,
@@ -96,7 +99,7 @@ fn execute<C: Cells, const PLACE: u64>(
 // Executes the instruction at `pc`, which is `cell`, if it is one of the frequent ones. Each has an
 // arm, in which the numbers of its opcode, modifier and modes are constants.
 #[inline(always)]
-fn execute_by_class<C: Cells>(
+fn execute_by_class<C: Store>(
     cells: &mut C,
     size: u32,
     pc: u32,
@@ -188,9 +191,11 @@ fn requeue<Q: Tasks>(tasks: &mut Q, size: u32, pc: u32, executed: Executed) -> O
     requires pc { pc < size }
     requires jump { executed.jump < size }
     requires some { 0 < length (Q.held tasks.old).items }
+    requires turns { 0 < Q.turns tasks.old }
     ensures tasks { Q.held tasks.new ≡ queue_with (without_first (Q.held tasks.old)) (addresses size pc executed.jump executed.queued) }
     ensures below { AreTasks size (addresses size pc executed.jump executed.queued) }
     ensures next { result ≡ slice_get (Q.held tasks.new).items 0 }
+    ensures turns { Q.turns tasks.old ≤ Q.turns tasks.new + 1 }
 {
     match executed.queued {
         Queued::Nothing => tasks.remove_first(),

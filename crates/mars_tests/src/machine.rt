@@ -122,6 +122,39 @@ fn a_reset_of_packed_cells_sets_few(rt: HostRuntime) -> Result<(), Fail> {
     Ok(())
 }
 
+// A warrior that waits writes nothing. At the end of a stretch of 2000 cycles three marks for each
+// turn are more than the core has cells, so its journal ends, if the fight goes on.
+#[test]
+fn a_journal_ends_after_a_stretch(rt: HostRuntime) -> Result<(), Fail> {
+    let wait = b"ORG 0\nJMP.B $0, $0\n";
+    let played = |turns, reset| Played {
+        points: 1,
+        turns,
+        reset,
+    };
+    let first = Side::Candidate;
+    let a_stretch = play_on_both(&rt, wait, wait, 2000, 4, first)?;
+    assert_eq!(rt; a_stretch, (played(4000, 16), played(4000, 2)));
+    let longer = play_on_both(&rt, wait, wait, 2001, 4, first)?;
+    assert_eq!(rt; longer, (played(4002, 16), played(4002, 16)));
+    Ok(())
+}
+
+#[test]
+fn a_reset_opens_the_journal_again(rt: HostRuntime) -> Result<(), Fail> {
+    let rules = rules_of(16, 2001, 4)?;
+    let wait = read_loadfile(rt.alloc(), b"ORG 0\nJMP.B $0, $0\n", &rules)?;
+    let copier = read_loadfile(rt.alloc(), b"ORG 0\nMOV.I $0, <1\nDAT.F $0, $4\n", &rules)?;
+    let mut packed = Arena::<PackedCells>::try_new(rt.alloc(), &rules)?;
+    let resets = Resets {
+        turns: 1,
+        after_fight: 16,
+        after_step: 4,
+    };
+    assert_eq!(rt; reset_twice(&mut packed, &wait, &copier), resets);
+    Ok(())
+}
+
 // Nothing was loaded, so the opponent has no task.
 #[test]
 fn a_fight_without_tasks_is_over_at_once(rt: HostRuntime) -> Result<(), Fail> {

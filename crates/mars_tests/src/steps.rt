@@ -42,14 +42,9 @@ fn step_and_reset<C: Cells>(
 {
     arena.load(candidate, opponent, 8);
     arena.step(Side::Candidate);
-    let task = if arena.task_count(Side::Candidate) > 0 {
-        Some(arena.task(Side::Candidate, 0))
-    } else {
-        None
-    };
     Step {
         cell: arena.cell(at),
-        task,
+        task: task_at(arena, 0),
         reset: arena.reset(),
     }
 }
@@ -278,5 +273,57 @@ fn one_step_queues_an_address(rt: HostRuntime) -> Result<(), Fail> {
             case.name
         );
     }
+    Ok(())
+}
+
+// Returns the task at an index of the candidate's queue, if there is one.
+fn task_at<C: Cells>(arena: &Arena<C>, index: u32) -> Option<u32> {
+    if index < arena.task_count(Side::Candidate) {
+        Some(arena.task(Side::Candidate, index))
+    } else {
+        None
+    }
+}
+
+// Makes six steps of the candidate alone. Returns the tasks that it has then, up to five of them.
+fn six_steps<C: Cells>(
+    arena: &mut Arena<C>,
+    candidate: &Warrior,
+    opponent: &Warrior,
+) -> [Option<u32>; 5]
+    requires blank { IsBlank arena.old.rules arena.old }
+    requires cycles { 3 ≤ arena.old.rules.cycles }
+    requires candidate { Fits arena.old.rules candidate.now }
+    requires opponent { Fits arena.old.rules opponent.now }
+    requires eight { (arena.old.rules.distance ≤ 8) × (8 + arena.old.rules.distance ≤ arena.old.rules.core) }
+{
+    arena.load(candidate, opponent, 8);
+    arena.step(Side::Candidate);
+    arena.step(Side::Candidate);
+    arena.step(Side::Candidate);
+    arena.step(Side::Candidate);
+    arena.step(Side::Candidate);
+    arena.step(Side::Candidate);
+    [
+        task_at(arena, 0),
+        task_at(arena, 1),
+        task_at(arena, 2),
+        task_at(arena, 3),
+        task_at(arena, 4),
+    ]
+}
+
+// The queues are, from the start: 0; 1 0; 0 0; 0 1 0; 1 0 1 0; 0 1 0 0; 1 0 0 1. The last split finds
+// no room for its second task.
+#[test]
+fn one_side_steps_more_often_than_it_has_room_for_tasks(rt: HostRuntime) -> Result<(), Fail> {
+    let rules = rules_of(16, 20, 4)?;
+    let candidate = read_loadfile(rt.alloc(), b"ORG 0\nSPL.B $0, $0\nJMP.B $-1, $0\n", &rules)?;
+    let opponent = read_loadfile(rt.alloc(), DAT, &rules)?;
+    let mut plain = Arena::<PlainCells>::try_new(rt.alloc(), &rules)?;
+    let mut packed = Arena::<PackedCells>::try_new(rt.alloc(), &rules)?;
+    let left = [Some(1), Some(0), Some(0), Some(1), None];
+    assert_eq!(rt; six_steps(&mut plain, &candidate, &opponent), left);
+    assert_eq!(rt; six_steps(&mut packed, &candidate, &opponent), left);
     Ok(())
 }

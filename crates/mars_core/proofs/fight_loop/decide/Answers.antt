@@ -1,6 +1,7 @@
-use Rattle.std.proofs.Common.{◌≡◌, ◌+◌, ◌-◌, ◌*◌, ℕ, length, arith, refl, sym, ◌∙◌, ap}
+use Rattle.std.proofs.Common.{◌≡◌, ◌+◌, ◌-◌, ◌*◌, ℕ, length, arith, refl, sym, ◌∙◌, ap, subst}
+use Rattle.mars_core.specs.Core.{IsCore}
 use Rattle.mars_core.specs.declared.side.Side.{Side}
-use Rattle.mars_core.proofs.Going.{goes_from_the_start}
+use Rattle.mars_core.proofs.Going.{goes_on_in, goes_from_the_start}
 use Rattle.mars_core.proofs.Stretches.{goes_on_for, ends_after}
 use Rattle.mars_core.proofs.Returns.{takes_all, leaves_last}
 use Rattle.mars_core.proofs.Snapshots.{none_earlier, still_earlier, still_before, still_sized, is_back}
@@ -47,7 +48,7 @@ pub returns-in-Some-clause-played : goal.returns-in-Some-clause-played
 returns-in-Some-clause-played g c =
     let h = c.loop-done.invariant in
     let more = c.alternate-turns.ensures.played in
-    let rest = c.alternate.ensures.played in
+    let rest = c.play_on.ensures.played in
     let now : ℕ = c.loop-done.done + 2000 in
     let all : 2 * now ≡ 2 * c.loop-done.done + c.alternate-turns.result = omega (arith, more.within) in
     let going = λ (first : Side). goes_on_for _ _ _ first c.loop-done.done 2000 c.alternate-turns.result (2 * now) _ _ _ _ _ _ h.mine_room (h.going first) all
@@ -55,7 +56,7 @@ returns-in-Some-clause-played g c =
     let back = λ (first : Side). is_back _ _ first now c.in-Some.period _ _ _ _ (h.earlier first) (going first) (omega (arith, c.in-Some.ensures.back.period_is)) c.in-Some.ensures.back in
     record {
       turns_are = λ first. sym (takes_all _ _ first c.args.cycles now (c.args.cycles - now) c.in-Some.period _ _ _ (going first) (back first) (omega arith));
-      state_is = λ first. leaves_last _ _ _ first c.args.cycles now (c.args.cycles - now) c.in-Some.period c.alternate.result _ _ _ _ _ _
+      state_is = λ first. leaves_last _ _ _ first c.args.cycles now (c.args.cycles - now) c.in-Some.period c.play_on.result _ _ _ _ _ _
           (more.my_room ∙ h.mine_room) (going first) (back first) (omega arith)
           (rest.turns_are first) (rest.state_is first);
       within = omega arith;
@@ -89,15 +90,38 @@ loop-done-preserved g c =
       marks = omega (arith, h.marks, c.alternate-turns.ensures.marks, more.within);
     }
 
+-- the same, and then all cells are marked
+pub loop-done-preserved-then-done-size : goal.loop-done-preserved-then-done-size
+loop-done-preserved-then-done-size g c =
+    let h = c.loop-done.invariant in
+    let more = c.alternate-turns.ensures.played in
+    let now : ℕ = c.loop-done.done + 2000 in
+    let all : 2 * now ≡ 2 * c.loop-done.done + c.alternate-turns.result = omega (arith, more.within) in
+    let going = λ (first : Side). goes_on_for _ _ _ first c.loop-done.done 2000 c.alternate-turns.result (2 * now) _ _ _ _ _ _ h.mine_room (h.going first) all
+    (more.turns_are first) (more.state_is first) in
+    record {
+      going = λ first. goes_on_in _ _ first _ _ _ _ _ c.mark_all.ensures.items (going first);
+      earlier = λ first. still_earlier _ _ first now _ _ _ _ _ _ (h.earlier first) (going first) c.period.ensures.kept c.renew.ensures;
+      before = still_before now c.loop-done.done _ _ _ _ _ _ h.before (omega arith) c.period.ensures.kept c.renew.ensures;
+      snapshot_size = still_sized _ now _ _ _ _ _ _ h.snapshot_size more.core_holds.size c.period.ensures.kept c.renew.ensures;
+      within = omega arith;
+      core = subst (IsCore c.args.size) (sym c.mark_all.ensures.items) more.core_holds;
+      mine_below = more.mine_below;
+      theirs_below = more.theirs_below;
+      mine_room = more.my_room ∙ h.mine_room;
+      theirs_room = more.their_room ∙ h.theirs_room;
+      marks = omega (arith, c.mark_all.ensures.marks, more.core_holds.size);
+    }
+
 -- the last cycles were made
 pub returns-clause-played : goal.returns-clause-played
 returns-clause-played g c =
     let h = c.loop-done.invariant in
-    let rest = c.alternate-2.ensures.played in
+    let rest = c.alternate.ensures.played in
     record {
-      turns_are = λ first. sym (ends_after _ _ _ first c.args.cycles c.loop-done.done (c.args.cycles - c.loop-done.done) c.alternate-2.result _ _ _ h.mine_room (h.going first) (omega arith)
+      turns_are = λ first. sym (ends_after _ _ _ first c.args.cycles c.loop-done.done (c.args.cycles - c.loop-done.done) c.alternate.result _ _ _ h.mine_room (h.going first) (omega arith)
           (λ l. omega arith) (rest.turns_are first));
-      state_is = λ first. (goes_on_for _ _ _ first c.loop-done.done (c.args.cycles - c.loop-done.done) c.alternate-2.result _ _ _ _ _ _ _ h.mine_room (h.going first) refl
+      state_is = λ first. (goes_on_for _ _ _ first c.loop-done.done (c.args.cycles - c.loop-done.done) c.alternate.result _ _ _ _ _ _ _ h.mine_room (h.going first) refl
           (rest.turns_are first) (rest.state_is first)).state;
       within = omega (arith, rest.within);
       core_holds = rest.core_holds;

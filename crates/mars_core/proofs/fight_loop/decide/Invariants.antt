@@ -9,7 +9,7 @@ use Rattle.mars_core.proofs.fight_loop.decide.Given as goal
 -- whole cycles were made, and the snapshot is of an earlier state
 abbrev pub invariant-loop-done : goal.invariant-loop-done
 invariant-loop-done g l =
-    let items = g.C.Cells.items in
+    let items = g.C.Store.items in
     record {
       going : (first : Side) → IsGoing (g.C.Queue.Tasks.held l.fn.mine).capacity (seen_from first (items l.fn.cells) (g.C.Queue.Tasks.held l.fn.mine).items (g.C.Queue.Tasks.held l.fn.theirs).items) first
           (2 * l.done) (items l.cells) (g.C.Queue.Tasks.held l.mine).items (g.C.Queue.Tasks.held l.theirs).items;
@@ -22,7 +22,7 @@ invariant-loop-done g l =
       theirs_below : AreTasks l.size (g.C.Queue.Tasks.held l.theirs).items;
       mine_room : (g.C.Queue.Tasks.held l.mine).capacity ≡ (g.C.Queue.Tasks.held l.fn.mine).capacity;
       theirs_room : (g.C.Queue.Tasks.held l.theirs).capacity ≡ (g.C.Queue.Tasks.held l.fn.mine).capacity;
-      marks : g.C.Cells.marks l.cells ≤ g.C.Cells.marks l.fn.cells + 6 * l.done;
+      marks : g.C.Store.marks l.cells ≤ g.C.Store.marks l.fn.cells + 6 * l.done;
     }
 
 abbrev pub decreases-loop-done : goal.decreases-loop-done

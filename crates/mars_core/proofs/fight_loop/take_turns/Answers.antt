@@ -11,21 +11,21 @@ use Rattle.mars_core.proofs.fight_loop.take_turns.Goals as goal
 -- a side has no task from the start
 pub returns-then-is_empty-clause-played : goal.returns-then-is_empty-clause-played
 returns-then-is_empty-clause-played g c =
-    let start = λ (first : Side). goes_from_the_start (g.C.Queue.Tasks.held c.args.mine.now).capacity first (g.C.Cells.items c.args.cells) (g.C.Queue.Tasks.held c.args.mine.now).items (g.C.Queue.Tasks.held c.args.theirs.now).items in
+    let start = λ (first : Side). goes_from_the_start (g.C.Queue.Tasks.held c.args.mine).capacity first (g.C.Store.items c.args.cells) (g.C.Queue.Tasks.held c.args.mine).items (g.C.Queue.Tasks.held c.args.theirs).items in
     record {
       turns_are = λ first. elim c.then-is_empty.branch [
         | then-is_empty-via-then-is_empty w ↦
-            let none : length (g.C.Queue.Tasks.held c.args.mine.now).items ≡ 0 = eqb-true _ _ (sym c.is_empty.ensures ∙ w.if-is_empty.true) in
+            let none : length (g.C.Queue.Tasks.held c.args.mine).items ≡ 0 = eqb-true _ _ (sym c.is_empty.ensures ∙ w.if-is_empty.true) in
             sym (ends_here _ _ first c.args.cycles 0 _ _ _ (omega arith) (start first) (over_mine first _ _ _ none))
         | then-is_empty-via-else-is_empty+then-is_empty-2 w ↦
-            let none : length (g.C.Queue.Tasks.held c.args.theirs.now).items ≡ 0 = eqb-true _ _ (sym w.is_empty-else-is_empty.ensures ∙ w.if-is_empty-2.true) in
+            let none : length (g.C.Queue.Tasks.held c.args.theirs).items ≡ 0 = eqb-true _ _ (sym w.is_empty-else-is_empty.ensures ∙ w.if-is_empty-2.true) in
             sym (ends_here _ _ first c.args.cycles 0 _ _ _ (omega arith) (start first) (over_theirs first _ _ _ none))
       ];
       state_is = λ first. refl;
       within = omega arith;
-      core_holds = c.requires.core_holds;
-      mine_below = c.requires.mine_below;
-      theirs_below = c.requires.theirs_below;
+      core_holds = c.requires.can_play.core_holds;
+      mine_below = c.requires.can_play.mine_below;
+      theirs_below = c.requires.can_play.theirs_below;
       my_room = refl;
       their_room = refl;
     }
@@ -45,7 +45,7 @@ returns-in_default-clause-played g c =
       mine_below = c.next_turn.ensures.below;
       theirs_below = h.theirs_below;
       my_room = ap (λ b. b.capacity) c.next_turn.ensures.tasks ∙ h.mine_room;
-      their_room = h.theirs_room ∙ sym c.requires.same_room;
+      their_room = h.theirs_room ∙ sym c.requires.can_play.same_room;
     }
 
 -- the other side has lost its last task
@@ -68,7 +68,7 @@ returns-in_default-next_turn-clause-played g c =
       mine_below = c.next_turn.ensures.below;
       theirs_below = c.next_turn-in-loop-cycle.ensures.below;
       my_room = ap (λ b. b.capacity) c.next_turn.ensures.tasks ∙ h.mine_room;
-      their_room = ap (λ b. b.capacity) c.next_turn-in-loop-cycle.ensures.tasks ∙ h.theirs_room ∙ sym c.requires.same_room;
+      their_room = ap (λ b. b.capacity) c.next_turn-in-loop-cycle.ensures.tasks ∙ h.theirs_room ∙ sym c.requires.can_play.same_room;
     }
 
 -- a whole cycle more
@@ -91,6 +91,8 @@ loop-cycle-preserved g c =
       theirs_below = c.next_turn-in-loop-cycle.ensures.below;
       mine_room = ap (λ b. b.capacity) c.next_turn.ensures.tasks ∙ h.mine_room;
       theirs_room = ap (λ b. b.capacity) c.next_turn-in-loop-cycle.ensures.tasks ∙ h.theirs_room;
+      mine_turns = omega (arith, h.mine_turns, c.next_turn.ensures.turns);
+      theirs_turns = omega (arith, h.theirs_turns, c.next_turn-in-loop-cycle.ensures.turns);
       marks = omega (arith, h.marks, c.next_turn.ensures.marks, c.next_turn-in-loop-cycle.ensures.marks);
     }
 
@@ -99,8 +101,8 @@ pub returns-clause-played : goal.returns-clause-played
 returns-clause-played g c =
     let h = c.loop-cycle.invariant in
     let all : c.loop-cycle.cycle ≡ c.args.cycles = omega arith in
-    let limit = (g.C.Queue.Tasks.held c.args.mine.now).capacity in
-    let start = λ (first : Side). seen_from first (g.C.Cells.items c.args.cells) (g.C.Queue.Tasks.held c.args.mine.now).items (g.C.Queue.Tasks.held c.args.theirs.now).items in
+    let limit = (g.C.Queue.Tasks.held c.args.mine).capacity in
+    let start = λ (first : Side). seen_from first (g.C.Store.items c.args.cells) (g.C.Queue.Tasks.held c.args.mine).items (g.C.Queue.Tasks.held c.args.theirs).items in
     record {
       turns_are = λ first.
           let e = goes_to_the_end limit _ first c.loop-cycle.cycle _ _ _ (h.going first) in
@@ -111,5 +113,5 @@ returns-clause-played g c =
       mine_below = h.mine_below;
       theirs_below = h.theirs_below;
       my_room = h.mine_room;
-      their_room = h.theirs_room ∙ sym c.requires.same_room;
+      their_room = h.theirs_room ∙ sym c.requires.can_play.same_room;
     }

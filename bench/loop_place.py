@@ -1,0 +1,80 @@
+"""Measures how much it matters where the hot loop lies in the program.
+
+Links the program four times, each 16 bytes further on, and plays the series of some pairs of
+`unseen/` by each in turn. A line for each place says the processor time of its series, the least of
+the runs added up, relative to the quickest place. On some processors a jump is slow that ends at a
+multiple of 32 bytes; the contracts, the points and the gate do not depend on it. Takes the object
+file PROGRAM.o, which `make build` leaves beside the program, and the kit that made it.
+"""
+import itertools, pathlib, shutil, subprocess, tempfile
+
+from author.lib.endings import Fault, run_tool
+from author.lib.program import Rules, program_of
+from author.lib.words import add_program, module_parser, number_from
+from pmars.games import Game, fights_of
+
+from .pairs import FOLDERS, SEED, loads_of, processor_time
+
+PLACES = (0, 16, 32, 48)
+WARRIORS = ["coil", "hail-bomber", "imp-stone", "silk-paper"]
+FIGHTS = 60
+
+
+def kit_folder():
+    """Returns the folder of the kit that is on the PATH."""
+    rt = shutil.which("rt")
+    if not rt:
+        raise Fault("no `rt` on the PATH", 2)
+    return pathlib.Path(rt).resolve().parent.parent
+
+
+def linked(program, kit, shift, folder):
+    """Links the program with `shift` bytes before its code. Returns the path."""
+    begin, made = folder / f"begin{shift}", folder / f"program{shift}"
+    begin.with_suffix(".s").write_text(
+        f'.section .text,"axR",@progbits\n.globl begin\nbegin:\n.skip {shift}, 0x90\n')
+    objects = [f"{program}.o", *sorted((kit / "c").glob("lib*_c.a"), reverse=True)]
+    for words in (["as", "-o", f"{begin}.o", f"{begin}.s"],
+                  [kit / "bin/rattle-link", "--target", "x86_64-unknown-linux-gnu", "--toolchain",
+                   kit / "toolchain", "-o", made, f"{begin}.o", *objects]):
+        done = subprocess.run(words, capture_output=True, text=True)
+        if done.returncode:
+            raise Fault(f"{words[0]}: {done.stderr.strip()}", 3)
+    return made
+
+
+def times_of(programs, runs):
+    """Plays the series of all pairs by each program in turn. Returns the seconds of each program:
+    of each pair the least time, added up."""
+    with tempfile.TemporaryDirectory() as folder:
+        warriors = [it for it in loads_of(programs[0], FOLDERS["unseen"]) if it[0] in WARRIORS]
+        games = [Game(Rules(), one[1], other[1], tempfile.mkdtemp(dir=folder))
+                 for one, other in itertools.combinations(warriors, 2)]
+        words = [[game.tune_words(str(it), fights_of(game.rules, SEED, FIGHTS)) for it in programs]
+                 for game in games]
+        times = [[[] for _ in programs] for _ in games]
+        for _, game in itertools.product(range(runs), range(len(games))):
+            for place, command in enumerate(words[game]):
+                times[game][place].append(processor_time(command)[0])
+    return [sum(min(game[place]) for game in times) for place in range(len(programs))]
+
+
+def main():
+    parser = module_parser("bench.loop_place", __doc__)
+    add_program(parser)
+    parser.add_argument("--runs", type=number_from(1), default=5, metavar="N",
+                        help="runs of each series [default: %(default)s]")
+    asked = parser.parse_args()
+    program, kit = program_of(asked.program), kit_folder()
+    if not pathlib.Path(f"{program}.o").is_file():
+        raise Fault(f"no object file {program}.o (`make build` makes it)", 2)
+    with tempfile.TemporaryDirectory() as name:
+        programs = [linked(program, kit, it, pathlib.Path(name)) for it in PLACES]
+        times = times_of(programs, asked.runs)
+    for shift, seconds in zip(PLACES, times):
+        print(f"{shift:>2} bytes further on: {seconds / min(times):.3f}")
+    return 0
+
+
+if __name__ == "__main__":
+    run_tool(main)
