@@ -1,6 +1,6 @@
 """Improves a warrior: tuning or race, fresh fights and report, in one folder.
 
-WARRIOR is a template, or an ordinary text with words NAME=LOW:HIGH:STEP, as cwtune-vary takes them.
+WARRIOR is a template, or an ordinary text with words PLACE=VALUES, as cwtune-vary takes them.
 An opponent is a file, or a folder whose files *.red are taken by their names; with `=N` after it,
 as in papers/=2, its fights count N times.
 
@@ -19,7 +19,7 @@ inputs is refused.
 
 Example: cwtune-study --minutes 10 my.red opponents/ STEP=5:7995:10 GATE=-3500:-500:500
 """
-import json, os, pathlib, sys
+import contextlib, json, os, pathlib, sys
 
 from . import study_fresh, study_inputs, study_report
 from .grid import Grid
@@ -31,7 +31,7 @@ from .study_folder import StudyFolder
 from .study_race import RaceOfStudy
 from .study_result import report_numbers
 from .tuning_files import MOST_FIGHTS, MOST_SETTINGS, Certificate, read_schedule, schedule_text
-from .words import add_program, add_rules, command_parser, number_from
+from .words import add_json, add_program, add_rules, command_parser, number_from, print_json
 from .writing import temporary_folder
 
 fight_count = number_from(1, MOST_FIGHTS)
@@ -81,8 +81,7 @@ class Study:
             folder.write(path, text)
         if self.args.ranges:
             folder.write("warrior.red", inputs.warrior)
-            words = [f"{name}={values[0]}:{values[-1]}:{values.step}"
-                     for name, values in self.args.ranges]
+            words = [opening.word for opening in self.args.ranges]
             folder.run(self.author_words("cwtune-vary", "warrior.red", *words), "template.red")
         else:
             folder.write("template.red", inputs.template)
@@ -227,16 +226,17 @@ def make_parser():
     parser.add_argument("--anew", action="store_true",
                         help="throw away what is done, and begin again")
     add_budget(parser)
+    add_json(parser)
     add_program(parser)
     add_rules(parser)
     parser.add_argument("warrior", metavar="WARRIOR", help="a template, or with words "
-                        "NAME=LOW:HIGH:STEP a Redcode text with EQU lines")
+                        "PLACE=VALUES a Redcode text")
     parser.add_argument("opponents", metavar="OPPONENT", nargs="*", default=[],
                         help="the opponents: folders with files *.red, or files (write ./*.red: a "
                         "name in *.red may be an option); `=N` after one has its fights count N "
                         "times, 1 to 1000")
-    parser.add_argument("ranges", metavar="NAME=LOW:HIGH:STEP", nargs="*", default=[],
-                        help="a constant and its values, as for cwtune-vary")
+    parser.add_argument("ranges", metavar="PLACE=VALUES", nargs="*", default=[],
+                        help="a place of the text and its values, as for cwtune-vary")
     return parser
 
 
@@ -245,9 +245,11 @@ def main():
     args = parser.parse_mixed()
     study = Study(args, study_inputs.read(parser, args))
     try:
-        study.go()
+        # Standard output is for the object alone.
+        with contextlib.redirect_stdout(sys.stderr if args.json else sys.stdout):
+            study.go()
         with study.folder.reading("report.json") as report:
-            print_end(study.folder, report)
+            print_json(report) if args.json else print_end(study.folder, report)
     except KeyboardInterrupt:
         print(f"stopped: what is done is kept in {study.folder.given_path}: repeat the command to "
               "go on", file=sys.stderr)

@@ -4,7 +4,9 @@ from typing import NamedTuple
 
 from . import vary
 from .endings import Fault, fault_of
-from .grid import NAME, Grid, is_range_line
+from .grid import Grid, is_range_line
+from .openings import opening_from
+from .places import PLACE
 from .program import EXPLAIN, rules_of, run_program
 from .regular import read_regular
 from .series import refuse_distance, refuse_fights, refuse_seed
@@ -49,13 +51,13 @@ def sort_words(parser, args):
     """Sorts the words of the command into the warrior, the opponents and the ranges."""
     words, args.ranges = [], []
     for word in [args.warrior, *args.opponents]:
-        is_range = re.match(rf"{NAME}=", word) and not os.path.exists(word.rpartition("=")[0])
+        is_range = re.match(rf"{PLACE}=", word) and not os.path.exists(word.rpartition("=")[0])
         if is_range and not os.path.exists(word):
             args.ranges.append(range_of(parser, word))
         else:
             words.append(word)
     if not words:
-        parser.error("WARRIOR is missing: a template, or a warrior with words NAME=LOW:HIGH:STEP")
+        parser.error("WARRIOR is missing: a template, or a warrior with words PLACE=VALUES")
     args.warrior, opponents = words[0], [opponents_named(parser, word) for word in words[1:]]
     args.opponents = [path for word in opponents for path in word.paths]
     if not opponents:
@@ -90,7 +92,7 @@ def weights_of(parser, opponents, by_kind):
 
 def range_of(parser, word):
     try:
-        return vary.range_from(word)
+        return opening_from(word)
     except argparse.ArgumentTypeError as fault:
         parser.error(str(fault))
 
@@ -127,10 +129,10 @@ def read(parser, args):
     if args.ranges or not is_template:
         text = vary.warrior_text(parser, args)
         if not args.ranges:
-            raise Fault(f"{args.warrior}: no range line: give words NAME=LOW:HIGH:STEP too "
-                        f"(`cwtune-vary {args.warrior}` lists the names)")
+            raise Fault(f"{args.warrior}: no range line: give words PLACE=VALUES too "
+                        f"(`cwtune-vary {args.warrior}` lists the places)")
         refuse_text(args, args.warrior, "--", args.warrior)
-        template = vary.checked_template(args, text)
+        template = vary.checked_template(args, text).template().encode("latin-1")
     else:
         refuse_start(args, Grid(args.warrior))
         template = warrior

@@ -41,6 +41,15 @@ class StudyPlace(play.Place):
     def report(self, name):
         return json.loads(self.read(f"{name}.study/report.json"))
 
+    def own_lines(self, name, index):
+        """Returns which lines of the winner's text are not those of the warrior, but for the line
+        of `cwtune-warrior`, which has to have this index."""
+        lines = self.read(f"{name}.study/winner.red").decode().split("\n")
+        own = self.read(f"{name}.red").decode().split("\n")
+        if not lines.pop(index).startswith(";strategy cwtune: ") or len(lines) != len(own):
+            return lines
+        return [line for line, other in zip(lines, own) if line != other]
+
     def load_file(self, *words):
         """Returns the load file of a text."""
         return self.run(["asm", "--core=80", "--length=5", "--distance=5", *words]).out

@@ -65,9 +65,10 @@ def warriors(place):
         yield f"ranges: {name}", wrong_settings(place, text, count)
     status, out, err = warrior_of(place, "step.red", "step.cert")
     cert = tuning_files.Certificate(TUNING / "step.cert")
-    start = cert.total_of(tuning_files.Template(TUNING / "step.red").start, cert.fights(None))
-    line = (f";strategy cwtune: setting {cert.best} of 21, total {cert.total}; "
-            f"total of START {start}\n")
+    template = tuning_files.Template(TUNING / "step.red")
+    start = cert.total_of(template.start, cert.fights(None))
+    line = (f";strategy cwtune: {template.constants(cert.best)}, total {cert.total}, total of START "
+            f"{start}\n")
     yield compare("the best setting of a certificate",
                   (0, True, origins.note("step.cert.inputs is not there")),
                   (status, line in out, err))
@@ -76,7 +77,7 @@ def warriors(place):
 def refusals(place):
     """Gives `cwtune-warrior` what it refuses."""
     for name, text, begin in [
-        ("chain.red", CHAIN, "refused: with the values as EQU lines the text does not assemble: "
+        ("chain.red", CHAIN, "refused: with its values the text does not assemble: "
          "Asm line "),
         ("refused.red", b"DAT 1/0\n", "refused: setting 0 does not assemble: Asm line 1 "),
     ]:
