@@ -152,25 +152,21 @@ class Study:
         self.folder.write("report.html", study_report.html_of(report).encode(errors="replace"))
 
 
-def constants_text(values):
-    """Returns the values of a setting as they are printed."""
-    return " ".join(f"{constant}={value}" for constant, value in values.items())
-
-
-def print_fresh(name, player):
+def print_fresh(name, player, report):
     """Prints what a player made in its fresh fights, and its values."""
-    fresh = player["fresh"]
+    fresh, values = player["fresh"], study_report.shown_values(report, player["values"])
+    constants = " ".join(f"{constant}={value}" for constant, value in values.items())
     print(f"fresh: {name}: {fresh['points']} of {3 * fresh['fights']} ({fresh['percent']:.1f}% "
-          f"+- {fresh['error']:.1f}) {constants_text(player['values'])}")
+          f"+- {fresh['error']:.1f}) {constants}")
 
 
 def print_tuned(report):
     """Prints what the tuning of a whole template found."""
     best, winner, start = report["ranking"][0], report["winner"], report["start"]
     print(f"tuned: setting {best['setting']} is best, total {best['tuned']} of "
-          f"{report['schedule']['greatest']}, START {start['tuned']} ({report['check']})")
-    print_fresh(f"setting {winner['setting']}, rank {winner['rank']}", winner)
-    print_fresh("START", start)
+          f"{report['schedule']['greatest']}, START {start['tuned']}; the certificate is checked")
+    print_fresh(f"setting {winner['setting']}, rank {winner['rank']}", winner, report)
+    print_fresh("START", start, report)
 
 
 def print_raced(report):
@@ -181,8 +177,8 @@ def print_raced(report):
         print(f"box: {box['settings']} settings around the race's winner, "
               + ("one of them is better" if box["replaces"] else "none of them is better"))
     if report["gain"]:
-        print_fresh("winner", report["winner"])
-        print_fresh("START", report["start"])
+        print_fresh("winner", report["winner"], report)
+        print_fresh("START", report["start"], report)
     if report["gain"] and not (box and box["replaces"]):
         luck = race["rise"] - report["gain"]["percent"]
         print(f"in the fights that picked it, the winner was {race['rise']:+.1f}% over START; "

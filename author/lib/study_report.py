@@ -100,11 +100,23 @@ def tuned_rows(sides, greatest):
             ["tuned percent", *percents]]
 
 
+def shown_values(report, values):
+    """Returns the values of a setting by the names of the constants. Of one that is an index of a
+    list in the author's text it has what is in the list there."""
+    lists = {constant["name"]: constant.get("list") for constant in report["constants"]}
+    return {name: lists[name][value] or DASH if lists.get(name) else value
+            for name, value in values.items()}
+
+
+def value_cells(report, values):
+    return map(escaped, shown_values(report, values).values())
+
+
 def comparison(report):
     """Returns START beside the winner."""
     start, winner = sides = report["start"], report["winner"]
-    rows = [[escaped(name), *(escaped(side["values"][name]) for side in sides)]
-            for name in winner["values"]]
+    rows = list(map(list, zip(map(escaped, winner["values"]),
+                              *(value_cells(report, side["values"]) for side in sides))))
     notes = []
     if not report["race"]:
         rows += tuned_rows(sides, report["schedule"]["greatest"])
@@ -207,11 +219,11 @@ def effects(report):
     return pieces
 
 
-def ranking_row(ranked, names, is_winner):
+def ranking_row(report, ranked, is_winner):
     """Returns a setting of the ranking, as cells."""
     fresh = ranked["fresh"]
     return [escaped(ranked["rank"]) + (f" {WINNER}" if is_winner else ""),
-            escaped(ranked["setting"]), *(escaped(ranked["values"][name]) for name in names),
+            escaped(ranked["setting"]), *value_cells(report, ranked["values"]),
             integer(ranked["tuned"]), fresh_percent(fresh),
             *(integer(fresh and fresh[key]) for key in ("points", "fights"))]
 
@@ -222,7 +234,7 @@ def ranking(report):
     heads = ["rank", "setting", *map(escaped, names), "tuned total", "percent", "points", "fights"]
     marked = [index for index, ranked in enumerate(first)
               if ranked["setting"] == report["winner"]["setting"]]
-    rows = [ranking_row(ranked, names, index in marked) for index, ranked in enumerate(first)]
+    rows = [ranking_row(report, ranked, index in marked) for index, ranked in enumerate(first)]
     return section(f"The first {len(first)} of the ranking" if len(first) > 1 else "The ranking",
                    paragraph("In order of the tuned total. In fresh fights the better half went on "
                              "each time, so some played more of them than others.", "soft"),
@@ -237,7 +249,7 @@ def finalists(report):
               if one["values"] == report["winner"]["values"]]
     rows = [[str(place) + (f" {WINNER}" if place - 1 in marked else "")
              + (f" {START}" if one["values"] == report["start"]["values"] else ""),
-             *(escaped(one["values"][name]) for name in names),
+             *value_cells(report, one["values"]),
              f"{decimal(one['percent'])}%", integer(one["fights"])]
             for place, one in enumerate(found, 1)]
     return section("The final of the race", paragraph(

@@ -22,6 +22,9 @@ from .slots import code_of_kept
 from .tuning_files import MOST_CONSTANTS, MOST_SETTINGS
 from .words import add_program, add_rules, command_parser, counted
 
+# What the list has for a field that is not written.
+UNWRITTEN = {"a-mode": "$", "b-mode": "$", "modifier": "-"}
+
 
 class Varied:
     """A text with openings: what is open in each line, and the notes on it."""
@@ -89,7 +92,7 @@ def lines_of_numbers(text):
 def lines_of_others(text):
     """Yields for each instruction a line that says what else of it can be opened."""
     for line in lines_of(text):
-        fields = [f"{field}={line.spelled(line.fields[field]).strip(' .') or '-'}"
+        fields = [f"{field}={line.spelled(line.fields[field]).strip(' .') or UNWRITTEN[field]}"
                   for field in FIELDS[2:] if field in line.fields]
         if fields:
             label = line.labels[-1] if line.labels else line.number

@@ -73,24 +73,25 @@ OPENED = [
     (11, "11.opcode=djn,jmn", ";@text         [line11_opcode:djn,jmn] throw, <GATE\n"
      ";@tune line11_opcode 0 1 1 0\nFOR line11_opcode == 0\n        djn throw, <GATE\nROF\n"
      "FOR line11_opcode == 1\n        jmn throw, <GATE\nROF", ""),
-    (14, "14.b=7:9", ";@text x&i     dat i, [line14_b]\n;@tune line14_b 7 9 1 7\nx&i     dat i, line14_b",
-     ""),
-    (13, "13.a=1:5", ";@text i       for [line13_a]\n;@tune line13_a 1 5 1 2\ni       for line13_a", ""),
+    (14, "14.b=7:9", ";@text x&i     dat i, [line14_b]\n;@tune line14_b 7 9 1 7\n"
+     "x&i     dat i, line14_b", ""),
+    (13, "13.a=1:5", ";@text i       for [line13_a]\n;@tune line13_a 1 5 1 2\n"
+     "i       for line13_a", ""),
 ]
 LIST = """STEP=5: line 4, 3 uses
 far=-20: line 5, 1 use
 both.1=1: line 6, 0 uses
 9.a=-2: line 9
 11.a=2: line 11
-7: line 7, a-mode=- b-mode=@ modifier=- opcode=MOV
-8: line 8, a-mode=# b-mode=- modifier=- opcode=ADD
-9: line 9, a-mode=- modifier=- opcode=JMP
+7: line 7, a-mode=$ b-mode=@ modifier=- opcode=MOV
+8: line 8, a-mode=# b-mode=$ modifier=- opcode=ADD
+9: line 9, a-mode=$ modifier=- opcode=JMP
 bomb: line 10, a-mode=# b-mode=# modifier=- opcode=DAT
 """
 FORM = (" is not of the form PLACE=LOW:HIGH:STEP or PLACE=VALUE,VALUE, as STEP=5:4000:10 or "
         "throw.b=-40,-25, without blanks")
-MODES, OPCODES = "# $ * @ { < } >", ("dat mov add sub mul div mod jmp jmz jmn djn cmp seq sne slt spl "
-                                     "nop")
+MODES = "# $ * @ { < } >"
+OPCODES = "dat mov add sub mul div mod jmp jmz jmn djn cmp seq sne slt spl nop"
 WRONG_RANGES = [
     Refusal("cwtune-vary two.red both=1:9", 1, "refused: two.red, line 6: STEP+1 is not a plain "
             "number, so both can have no range; it has both.1=1"),
