@@ -3,6 +3,8 @@
 `html_of` takes what report.json says. Each number of the page is one of the report's, or is
 computed from it: an opponent's standard error comes from its wins, ties and losses.
 """
+import math
+
 from . import study_charts, study_map
 from .study_page import (DASH, decimal, escaped, folded, fresh_percent, integer, name_list, page,
                          source, table, with_error)
@@ -172,6 +174,11 @@ def landscape(report):
         notes.append(f"Each {shown} is the greatest total among {step} values of each constant.")
     if study_map.is_outside(start_values, winner_values, box):
         notes.append(f"START is not in this picture: {values_text(start_values)}.")
+    if all(opponent["weight"] == 1 for opponent in report["opponents"]):
+        luck = 4 / 3 * math.sqrt(report["schedule"]["fights"] if not report["race"]
+                                 else report["box"]["schedule"]["fights"])
+        notes.insert(0, f"Luck alone moves a total by about {luck:.0f} points, so squares that "
+                     "differ by less may be equal, and a stripe may be one lucky value.")
     tuned = "all settings" if not report["race"] else "the settings around the race’s winner"
     return section("Landscape", paragraph(f"Totals of {tuned}, in the fights of the schedule."),
                    f"<figure>{picture}</figure>",
