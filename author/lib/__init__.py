@@ -11,10 +11,13 @@ warrior. Several commands use
 - watching: how far a long loop is;
 - program: how `cwtune` is found and run, and its rules;
 - tuning_files, grid: schedules, certificates, templates and their settings;
+- places, slots: what can be opened in a text, and how a template keeps the author's lines;
 - cert_inputs: which inputs a certificate is for, by CERT.inputs;
 - own_folder: the folder in which a spread or a study keeps its work;
 - mean_error: the standard error of a mean;
 - series, holdout, landscape and vary: commands of which `cwtune-study` imports functions.
+
+The words of `cwtune-vary` are read in openings.
 
 A spread has its options in spread_words. spread_parts and spread_shares say what its jobs are, in a
 folder as spread_folder makes it. spread_jobs runs them here, and spread_hosts, with spread_job.sh,

@@ -107,7 +107,7 @@ def draw_line(plot, totals):
                  label=f"START: {template.constants(start)}")
     axes.set_xlabel(template.names[0])
     axes.set_ylabel("points")
-    axes.yaxis.get_major_locator().set_params(integer=True)
+    axes.locator_params(axis="y", integer=True)
     axes.legend()
     return figure
 
@@ -145,7 +145,7 @@ def inches_across(columns):
     return max(8 / columns, 3.6)
 
 
-def grid_of(plot, count):
+def grid_of(plot, count, **sharing):
     """Returns a figure with room for `count` maps, the axes of these, and those of the whole
     grid."""
     if count > MOST_MAPS:
@@ -153,7 +153,7 @@ def grid_of(plot, count):
                     f"{MOST_MAPS}: tune a template with fewer of them")
     columns = math.ceil(math.sqrt(count))
     rows = math.ceil(count / columns)
-    figure, grid = plot.subplots(rows, columns, squeeze=False, layout="constrained",
+    figure, grid = plot.subplots(rows, columns, squeeze=False, layout="constrained", **sharing,
                                  figsize=(columns * inches_across(columns), max(5, 3 * rows)))
     for axes in grid.flat[count:]:
         axes.axis("off")
@@ -206,15 +206,13 @@ def draw_effects(plot, totals):
     if totals.greys():
         raise Fault("settings were dropped: the means need a certificate of `cwtune tune --all`")
     template = totals.template
-    figure, grid, _ = grid_of(plot, len(template.names))
+    # One scale, so that the effects can be compared.
+    figure, grid, _ = grid_of(plot, len(template.names), sharey=True)
     for constant, (axes, name) in enumerate(zip(grid, template.names)):
         axes.errorbar(*effect_of(template, totals.totals, constant), marker="o", linewidth=1,
                       capsize=2)
         axes.set_xlabel(name)
         axes.set_ylabel("mean total")
-    ends = [end for axes in grid for end in axes.get_ylim()]
-    for axes in grid:  # one scale, so that the effects can be compared
-        axes.set_ylim(min(ends), max(ends))
     return figure
 
 

@@ -132,7 +132,7 @@ def read(parser, args):
             raise Fault(f"{args.warrior}: no range line: give words PLACE=VALUES too "
                         f"(`cwtune-vary {args.warrior}` lists the places)")
         refuse_text(args, args.warrior, "--", args.warrior)
-        template = vary.checked_template(args, text).template().encode("latin-1")
+        template = vary.checked_template(args, text)
     else:
         refuse_start(args, Grid(args.warrior))
         template = warrior

@@ -152,12 +152,17 @@ def warrior_text(parser, args):
     return text
 
 
-def checked_template(args, text):
+def checked(args, text):
     """Returns a text with what is open in it. Refuses openings whose START is not the warrior of
     the text."""
     varied = Varied(args.warrior, text, args.ranges)
     refuse_ranges(args, varied)
     return varied
+
+
+def checked_template(args, text):
+    """Returns the template of a text, as `checked` takes it."""
+    return checked(args, text).template().encode("latin-1")
 
 
 def main():
@@ -167,7 +172,7 @@ def main():
     if not args.ranges:
         print_list(text)
         return
-    varied = checked_template(args, text)
+    varied = checked(args, text)
     sys.stdout.buffer.write(varied.template().encode("latin-1"))
     for note in varied.notes:
         print(f"note: {note}", file=sys.stderr)
