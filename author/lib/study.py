@@ -22,6 +22,7 @@ Example: cwtune-study --minutes 10 my.red opponents/ STEP=5:7995:10 GATE=-3500:-
 import json, os, pathlib, sys
 
 from . import study_fresh, study_inputs, study_report
+from .adapt import add_as_is
 from .grid import Grid
 from .program import Rules, rules_of
 from .race import Contender
@@ -79,13 +80,18 @@ class Study:
         (folder.path / "opponents").mkdir(exist_ok=True)
         for path, (_, text) in zip(self.opponents, inputs.opponents):
             folder.write(path, text)
+        name = "warrior.red" if self.args.ranges else "template.red"
+        if inputs.original != inputs.warrior:
+            folder.write("original.red", inputs.original)
+            folder.run(self.author_words("cwtune-adapt", "original.red"), name)
+        else:
+            folder.write(name, inputs.warrior)
         if self.args.ranges:
-            folder.write("warrior.red", inputs.warrior)
             words = [f"{name}={values[0]}:{values[-1]}:{values.step}"
                      for name, values in self.args.ranges]
-            folder.run(self.author_words("cwtune-vary", "warrior.red", *words), "template.red")
-        else:
-            folder.write("template.red", inputs.template)
+            as_is = ["--as-is"] * self.args.as_is
+            folder.run(self.author_words("cwtune-vary", *as_is, "warrior.red", *words),
+                       "template.red")
         grid = Grid(folder.path / "template.red")
         folder.write("start.red", grid.line_through(grid.start_values, ()))
 
@@ -229,6 +235,7 @@ def make_parser():
     add_budget(parser)
     add_program(parser)
     add_rules(parser)
+    add_as_is(parser)
     parser.add_argument("warrior", metavar="WARRIOR", help="a template, or with words "
                         "NAME=LOW:HIGH:STEP a Redcode text with EQU lines")
     parser.add_argument("opponents", metavar="OPPONENT", nargs="*", default=[],

@@ -10,9 +10,10 @@ Example: cwtune-vary my.red STEP=5:4000:10 FIRST=0:20:1 > my-template.red
 import argparse, difflib, math, re, sys
 from typing import NamedTuple
 
+from .adapt import add_as_is, adapted_for
 from .endings import Fault, shown
 from .grid import NAME, is_range_line
-from .program import load_file_of, refuse_other_warrior, rules_of
+from .program import load_file_of_bytes, refuse_other_warrior, rules_of
 from .tuning_files import MOST_CONSTANTS, MOST_SETTINGS
 from .words import add_program, add_rules, command_parser, counted
 
@@ -157,7 +158,7 @@ def refuse_ranges(args, text):
     starts = [ConstantRange(name, range(value, value + 1)) for name, value in values_of_starts]
     template = template_of(args.warrior, text, starts).encode("latin-1")
     rules = rules_of(args).words()
-    load_file = load_file_of(args.program, args.warrior, *rules, "--", args.warrior)
+    load_file = load_file_of_bytes(args.program, args.warrior, text.encode("latin-1"), *rules)
     refuse_other_warrior("with range lines", template, load_file, args.program, *rules,
                          "--setting=start")
 
@@ -173,6 +174,7 @@ def make_parser():
     parser = command_parser(__doc__)
     add_program(parser)
     add_rules(parser)
+    add_as_is(parser)
     parser.add_argument("warrior", metavar="WARRIOR", help="a Redcode text with EQU lines")
     parser.add_argument("ranges", metavar="NAME=LOW:HIGH:STEP", nargs="*", type=range_from,
                         default=[], help="a constant and its values: LOW, LOW + STEP and so on, up "
@@ -181,17 +183,18 @@ def make_parser():
 
 
 def warrior_text(parser, args):
-    """Returns the text of the warrior. Refuses a template, and ranges that no template has."""
+    """Returns the text of the warrior, adapted. Refuses a template, and ranges that no template
+    has."""
     names = [name for name, _ in args.ranges]
     if twice := [name for index, name in enumerate(names) if name in names[:index]]:
         parser.error(f"{twice[0]} has two ranges")
     if len(names) > MOST_CONSTANTS:
         parser.error(f"a template has at most {MOST_CONSTANTS} constants")
     with open(args.warrior, "rb") as file:
-        text = file.read().decode("latin-1")
-    if any(is_range_line(line.encode("latin-1")) for line in text.split("\n")):
+        text = file.read()
+    if any(map(is_range_line, text.split(b"\n"))):
         raise Fault(f"{args.warrior}: it has range lines, so it is a template already")
-    return text
+    return adapted_for(args, args.warrior, text).decode("latin-1")
 
 
 def checked_template(args, text):

@@ -11,6 +11,7 @@ Example: cwtune-warrior my.red my.cert > winner.red
 import argparse, re, sys
 
 from . import cert_inputs, tuning_files
+from .adapt import add_as_is, adapted_if_refused
 from .endings import Fault
 from .grid import is_range_line
 from .program import load_file_of, refuse_other_warrior, rules_of
@@ -96,6 +97,7 @@ def make_parser():
                         help="the index of a setting, or `start`")
     add_program(parser)
     add_rules(parser, of_tuning=True)
+    add_as_is(parser)
     add_files(parser, "template")
     parser.add_argument("cert", metavar="CERT", nargs="?", help=FILE_HELP["cert"])
     return parser
@@ -108,7 +110,13 @@ def main():
         parser.error("CERT is missing: give it, or --setting W")
     if args.cert is not None and args.setting is not None:
         parser.error("give CERT or --setting, and not both")
-    template, totals = tuning_files.Template(args.template), (None, None)
+    with adapted_if_refused(args) as path:
+        print_text(args, path)
+
+
+def print_text(args, path):
+    """Prints the text of a setting of the template at a path."""
+    template, totals = tuning_files.Template(path), (None, None)
     args.schedule, why_unused = None, ""
     if args.cert is None:
         setting = setting_of(template, args.setting)
@@ -118,11 +126,11 @@ def main():
         template.checked_for(cert)
         setting = cert.best
         totals = cert.total, total_of_start(cert, template, args.schedule)
-    with open(args.template, "rb") as file:
+    with open(path, "rb") as file:
         text = text_of(file.read(), template, setting, totals)
     rules = rules_of(args).words()
     load_file = load_file_of(args.program, f"setting {setting}", *rules, f"--setting={setting}",
-                             "--", args.template)
+                             "--", path)
     refuse_other_warrior("with the values as EQU lines", text, load_file, args.program, *rules)
     print_pmars_notes(text)
     sys.stdout.buffer.write(text)
