@@ -8,7 +8,8 @@ from typing import NamedTuple
 
 from .marked import Marked, joined
 from .pmars_tokens import OPCODES, P_SPACE_OPCODES, tokens_of
-from .pmars_values import MOST_DECIMAL, Registers, is_read_alike, leaves_of, written
+from .pmars_values import (MOST_DECIMAL, ParserThere, Registers, is_read_alike, leaves_of,
+                           written)
 
 DEEPEST_BLOCK = 8
 RESERVED = [*(word for word in OPCODES if word not in P_SPACE_OPCODES), "EQU", "FOR", "ROF"]
@@ -19,6 +20,7 @@ HEAD_LABEL = re.compile(r"[ \t\r]*([A-Za-z_]\w*)((?:[ \t\r]*&[ \t\r]*[A-Za-z_]\w
                         re.ASCII)
 
 
+ONE_COPY = "pMARS makes one copy of the block"
 # The visit of edits that are made only in a line that is always dropped.
 DROPPED = -1
 
@@ -191,12 +193,15 @@ class Finder:
         found = FoundBlock(head, counter.name if counter else "",
                            [label for label in block.labels if label.index == head], set())
         self.blocks.setdefault(head, found).counts.add(block.count)
-        if counter and counter.index != head:
-            note = f"the counter {counter.name} is on the line of its FOR now"
-            self.take_out((counter.index, *counter.root), note, counter.visit)
-            self.add((head, 0, 0), f"{counter.name} ", note, text.visit)
         if len(text.blocks) > DEEPEST_BLOCK:
             self.to_unroll.append(head)
+
+    def counter(self, text, label):
+        """Looks at the counter of a block, which may be on a line before."""
+        if label.index != text.index and not text.inside:
+            note = f"the counter {label.name} is on the line of its FOR now"
+            self.take_out((label.index, *label.root), note, label.visit)
+            self.add((text.index, 0, 0), f"{label.name} ", note, text.visit)
 
     def head_of(self, text, block):
         return text.lines[block.head].index
@@ -236,7 +241,7 @@ class Finder:
                 line = self.lines[head]
                 code = line.text.partition(";")[0]
                 word = next(token for token in tokens_of(code) if token.text.upper() == "FOR")
-                self.add((head, word.end, len(code)), " 1 ", "pMARS makes one copy of the block")
+                self.add((head, word.end, len(code)), " 1 ", ONE_COPY)
             self.tails[head] = index
         rofs = "        ROF\n" * len(blocks)
         line = self.lines[index]
@@ -285,10 +290,10 @@ class Finder:
         if is_first or len(known.lines) > 1:
             self.write_out((text.index, *root), text.visit, outer)
 
-    def late_use(self, code, root, known):
+    def late_use(self, code, root, name, known):
         """Looks at the use of an EQU that comes later. Of several lines pMARS takes the first."""
         where = (code.index, *root)
-        self.uses[known].add(where)
+        self.uses[known].add(where if self.word(code.index, root) == name else None)
         if len(known.lines) > 1:
             first = known.lines[0]
             new = self.lines[first.index][first.column:first.column + len(first.text)].strip()
@@ -315,6 +320,12 @@ class Finder:
             line = self.lines[text.index]
             self.add((text.index, len(line), len(line)),
                      f"\n{label.name} EQU " + self.text_of(known), note, text.visit)
+
+    def label_again(self, text, piece, root):
+        """Takes out a label that is pending already."""
+        if not piece.root:
+            self.take_out((text.index, *root),
+                          f"{self.word(text.index, root)} is a label of this already", text.visit)
 
     def stray_equ(self, text):
         self.comment_out(text.index, "an EQU without a name is a comment now", text.visit)
@@ -364,7 +375,7 @@ class Finder:
         root = chars.roots[node.start]
         if extents.get(root) == (node.start, node.end):
             text = self.word(index, root)
-            if node.kind not in ("register", "set") and not is_large(text):
+            if can_stay(chars.text[node.start:node.end]):
                 return text
         if node.kind in ("register", "set"):
             value = registers.leaf_value(chars.text, node)
@@ -441,6 +452,11 @@ def word_here(text):
             return match[1].upper()
         at = match.end()
     return ""
+
+
+def can_stay(text):
+    """Returns whether an expression that is part of another one may stay as it is."""
+    return not needs_change(text, ParserThere(text).whole(), {})
 
 
 def extents_of(chars):

@@ -2,7 +2,7 @@
 import re
 
 from .adapt_blocks import innermost, unrolled
-from .adapt_edits import DROPPED, TOKENS, Edit
+from .adapt_edits import DROPPED, ONE_COPY, TOKENS, Edit
 from .marked import Marked
 from .pmars_text import is_head
 from .pmars_tokens import code_of, token_at, tokens_of
@@ -54,16 +54,15 @@ def blanks(finder):
                        "a form feed is a blank now")
 
 
-def edits_of_joins(finder, text):
+def edits_of_joins(finder):
     """Yields edits that join outer counters first. If a name is written with its digits somewhere,
     the inner block has to be unrolled."""
-    names = {name for found in finder.inverted.values() for _, name, _ in found}
     words = {token.text for line in finder.lines for token in tokens_of(code_of(line.text))}
     bases = {new.partition("&")[0] for found in finder.inverted.values() for _, _, new in found}
     spelled = {word for word in words for base in bases
                if re.fullmatch(rf"{base}[0-9]{{4,}}", word)}
     for (index, start, end), found in finder.inverted.items():
-        if spelled & names or spelled:
+        if spelled:
             finder.to_unroll.append(index)
             continue
         new = found[0][2]
@@ -73,9 +72,10 @@ def edits_of_joins(finder, text):
 def passed(finder):
     """Returns the lines of a text with the edits that were found, and the notes, each with the
     line that it is of."""
-    asked = [edit for edit in finder.edits.values() if is_asked_for(finder, edit)]
+    asked = sorted((edit for edit in finder.edits.values() if is_asked_for(finder, edit)),
+                   key=lambda edit: edit.note != ONE_COPY)
     left = [edit.index for edit in finder.edits.values() if not is_asked_for(finder, edit)]
-    chosen = without_overlaps([*asked, *edits_of_joins(finder, None)])
+    chosen = without_overlaps([*asked, *edits_of_joins(finder)])
     chosen = without_overlaps([*chosen, *comments_of_equs(finder, chosen), *blanks(finder)])
     if not chosen:
         return unrolled_pass(finder, [*finder.to_unroll, *left])
@@ -93,6 +93,27 @@ def unrolled_pass(finder, indices):
         return finder.lines, []
     lines = unrolled(finder.lines, block, finder.tails[block.head])
     return lines, [(finder.lines[block.head].number(), "the block is unrolled")]
+
+
+def prepared(lines):
+    """Returns the lines as pMARS divides them, with its first and its second `;redcode` line where
+    `cwtune` sees them, and notes."""
+    notes = []
+    for step in (cut, continued, with_heads):
+        lines, more_notes = step(lines)
+        notes += more_notes
+    return lines, notes
+
+
+def cut(lines):
+    """Returns the lines without what comes after a carriage return, and notes."""
+    whole, notes = [], []
+    for line in lines:
+        end = line.text.partition("\r")[0]
+        is_cut = line.text[len(end):].strip() != ""
+        whole.append(line[:len(end)] if is_cut else line)
+        notes += [(line.number(), "pMARS ends the line at its carriage return")] * is_cut
+    return whole, notes
 
 
 def continued(lines):

@@ -49,26 +49,27 @@ class Instruction:
             token = token_at(chars.text, at)
             if not token.kind:
                 return state
-            state, at = self.step(token, chars.roots[token.start], state)
+            state, at = self.step(token, chars.roots[token.start:token.end], state)
 
     @staticmethod
     def rest_of(state):
         """Returns the state after the first token of an operand."""
         return "rest" if state in ("B", "rest") else "A rest"
 
-    def read_name(self, token, root, state):
+    def read_name(self, token, roots, state):
         """Reads what a name stands for. Returns the state after it."""
+        root = roots[0]
         known = self.text.names.get(token.text)
         if known is None:
             if len(token.text) > 1:
                 raise self.fault(f"{token.text} has no value")
-            self.add(self.rest_of(state), token.text, root)
+            self.add(self.rest_of(state), token.text, roots)
             return self.rest_of(state)
         if known.is_open:
             raise self.fault("an EQU that names itself")
         inner = Chars()
         if known.kind == "text":
-            self.text.finder.late_use(self.code, root, known)
+            self.text.finder.late_use(self.code, root, token.text, known)
             inner.add(known.lines[0].text, root)
         else:
             inner.add(str(known.value - (0 if self.is_pseudo else self.address)), root)
@@ -77,14 +78,16 @@ class Instruction:
         known.is_open = False
         return state
 
-    def step(self, token, root, state):
-        """Reads a token. Returns the next state, and where to go on."""
+    def step(self, token, roots, state):
+        """Reads a token, given with the roots of its characters. Returns the next state, and where
+        to go on."""
+        root = roots[0]
         if state == "modifier":
             return self.read_modifier(token, root), token.end
         if token.kind == "name":
-            return self.read_name(token, root, state), token.end
+            return self.read_name(token, roots, state), token.end
         if state in ("A rest", "rest"):
-            return self.read_rest(token, root, state), token.end
+            return self.read_rest(token, roots, state), token.end
         if token.kind == "mode":
             operand = self.b if state == "B" else self.a
             operand.mode, operand.mode_root = token.text, root
@@ -103,18 +106,22 @@ class Instruction:
             raise self.fault(f"{token.text} is no modifier")
         return "A"
 
-    def read_rest(self, token, root, state):
+    def read_rest(self, token, roots, state):
         """Reads a token of an expression, or the comma after the A-operand."""
         if token.kind == "comma" and state == "A rest":
             return "B"
         if token.kind not in ("number", "sign") and token.text not in OPERATORS:
             raise self.fault(f"{token.text} is at a wrong place")
-        self.add(state, token.text + " " * (token.kind == "number"), root)
+        self.add(state, token.text, roots)
+        if token.kind == "number":
+            self.add(state, " ", roots[-1:])
         return state
 
-    def add(self, state, text, root):
+    def add(self, state, text, roots):
         """Adds to the expression of an operand."""
-        (self.a if state == "A rest" else self.b).chars.add(text, root)
+        chars = (self.a if state == "A rest" else self.b).chars
+        chars.text += text
+        chars.roots += roots
         self.has_value = True
 
     def complete(self):

@@ -301,6 +301,8 @@ class PmarsText:
             return at, state
         if len(self.labels) == MOST_LABELS:
             raise PmarsFault(self.index, "too many labels")
+        if any(label.name == name for label in self.labels):
+            self.finder.label_again(self, piece, root)
         self.labels.append(Label(name, self.index, root, self.visit))
         return at + (piece.text[at:at + 1] == ":"), State.LABELS
 
@@ -380,6 +382,7 @@ class PmarsText:
         labels, counter = self.take_labels(), None
         if labels:
             *labels, counter = labels
+            self.finder.counter(self, counter)
             self.define(labels)
         self.finder.begins_value(self)
         made.take()

@@ -3,8 +3,8 @@ import argparse, hashlib, json, math, os, pathlib, re
 from typing import NamedTuple
 
 from . import vary
-from .adapt import adapted_for, read_text
-from .endings import Fault, fault_of
+from .adapt import adapted_for, adapted_text, read_text
+from .endings import Fault, fault_of, say
 from .grid import NAME, Grid, is_range_line
 from .program import EXPLAIN, rules_of, run_program
 from .series import refuse_distance, refuse_fights, refuse_seed
@@ -163,15 +163,19 @@ def refuse_text(args, name, *words, **options):
 
 def opponents_of(args):
     """Returns names and texts of the opponents. A name that is taken gets a number."""
-    texts = {}
+    texts, adapted = {}, []
     for path in args.opponents:
         if "\n" in path:
             raise Fault("the name of an opponent has a line end", 2)
         original = read_text(path)
-        text = adapted_for(args, path, original)
-        if text == original:
+        text, said = adapted_text(args, path, original)
+        if said:
+            adapted.append(f"{path} ({said})")
+        else:
             refuse_text(args, path, "--", path)
         texts[free_name(os.path.basename(path), texts)] = text
+    if adapted:
+        say("note", "opponents that are adapted, as by cwtune-adapt: " + ", ".join(adapted), 0)
     return list(texts.items())
 
 
