@@ -4,16 +4,16 @@ Warriors are random ones and those of the repository, in series of ten fights: t
 first movers are those of `pmars -F`, and the wins, ties and losses have to be the same. Texts are
 random ones and those of the repository: the instructions and the start have to be those of
 `pmars -r 0`. Then the differences of known.py (docs/PMARS.md) are shown, and what `cwtune-adapt`
-makes of texts is compared with the listings of the originals. A fight that differs is
-printed as two warriors, cut as short as they still differ, and two commands. The exit status is 1
-if something else differs, or if a known difference no longer shows.
+makes of texts is compared with the listings of the originals. A fight that differs is printed as
+two warriors, cut as short as they still differ, and two commands. The exit status is 1 if something
+else differs, or if a known difference no longer shows.
 
 PMARS is a server build of pMARS 0.9.2; `make pmars` builds one, and prints its path.
 """
 import itertools, pathlib, random, sys, tempfile, time
 
 from author.lib import pmars_program
-from author.lib.adapt import adapt
+from author.lib.adapt import Unwritable, adapt
 from author.lib.endings import Fault, run_tool
 from author.lib.program import Rules, program_of, run_program
 from author.lib.words import add_program, module_parser, number_from
@@ -172,19 +172,17 @@ def compare_texts(programs, dice, count, progress):
 
 
 def compare_adapted(programs):
-    """Adapts the known texts and those of author/tests/redcode. Returns how many differ from what
-    pMARS lists for the original."""
+    """Adapts the known texts and those of author/tests/redcode, but for those with P-space and
+    ROUNDS. Returns of how many pMARS lists something else for the original."""
     texts = {known.name: known.text.encode("latin-1") for known in TEXTS}
     texts |= {path.name: path.read_bytes() for path in sorted(ADAPTED.glob("*.red"))}
     wrong = 0
     for name, text in texts.items():
         try:
             adapted = adapt(name, text, Rules(), programs.cwtune)
-        except Fault as fault:
-            print(fault)
-            continue
-        try:
             pmars_program.refuse_other(programs.pmars, name, text, Rules(), adapted.load_file)
+        except Unwritable:
+            continue
         except Fault as fault:
             wrong += 1
             print(fault)

@@ -47,11 +47,11 @@ def comments_of_equs(finder, chosen):
 
 
 def blanks(finder):
-    """Yields edits that make a blank of each form feed in code."""
-    for index, line in enumerate(finder.lines):
-        for match in re.finditer("[\f\v]", code_of(line.text)):
-            yield Edit(index, match.start(), match.end(), Marked.new(" "),
-                       "a form feed is a blank now")
+    """Returns edits that make a blank of each form feed in code."""
+    places = [(index, match.span()) for index, line in enumerate(finder.lines)
+              for match in re.finditer("[\f\v]", code_of(line.text))]
+    return [Edit(index, *span, Marked.new(" "), "a form feed is a blank now")
+            for index, span in places]
 
 
 def edits_of_joins(finder):

@@ -54,9 +54,11 @@ BINARY = {"+": lambda left, right: wrapped(left + right),
           "%": lambda left, right: divided(left, right)[1],
           "&&": lambda left, right: int(bool(left and right)),
           "||": lambda left, right: int(bool(left or right)),
-          "==": lambda left, right: int(left == right), "!=": lambda left, right: int(left != right),
+          "==": lambda left, right: int(left == right),
+          "!=": lambda left, right: int(left != right),
           "<": lambda left, right: int(left < right), ">": lambda left, right: int(left > right),
-          "<=": lambda left, right: int(left <= right), ">=": lambda left, right: int(left >= right)}
+          "<=": lambda left, right: int(left <= right),
+          ">=": lambda left, right: int(left >= right)}
 SIGNS = {"-": lambda value: wrapped(-value), "+": lambda value: value,
          "!": lambda value: int(not value)}
 
