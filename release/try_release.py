@@ -32,6 +32,7 @@ AUTHOR_RUNS = [
     ("cwtune-spread --jobs 2 a.red fights.csv b.cert dwarf.red", "vectors 3\n"),
     ("cwtune-files a.red a.cert", "a.red: template of 3 settings"),
     ("cwtune-vary dwarf.red", "step=4: line 12, "),
+    ("cwtune-adapt dwarf.red", ";redcode"),
     ("cwtune-seek --fights 1000 a.red fights.csv dwarf.red", ";redcode-94\n"),
     ("cwtune-study --rounds 2 --fresh 2 a.red dwarf.red", "all 3 settings are tuned"),
 ]

@@ -19,8 +19,10 @@ class Grid:
     a tuple: one value for each constant.
     """
 
-    def __init__(self, path):
-        self.path, self.lines = path, self.read(path).split(b"\n")
+    def __init__(self, path, text=None):
+        """Reads the template at a path. Its text is `text`, if that is given."""
+        self.path = path
+        self.lines = (self.read(path) if text is None else text).split(b"\n")
         range_lines = [(index, *read_range(path, index + 1, line))
                        for index, line in enumerate(self.lines) if is_range_line(line)]
         self.line_indices, self.names, self.ranges, start_values = (

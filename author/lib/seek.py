@@ -17,6 +17,7 @@ Example: cwtune-seek --minutes 10 my.red fights.csv dwarf.red scanner.red > bett
 import math, sys
 
 from . import holdout
+from .adapt import add_as_is, adapted_for, read_text
 from .endings import Fault
 from .grid import Grid
 from .program import run_program
@@ -85,6 +86,7 @@ def make_parser():
                         help="cut each range to N values on both sides of the winner's")
     add_program(parser)
     add_rules(parser)
+    add_as_is(parser)
     add_files(parser, "template", "schedule", "opponent")
     return parser
 
@@ -109,7 +111,7 @@ def seek(args, grid, weights):
 
 def main():
     args = make_parser().parse_args()
-    grid = Grid(args.template)
+    grid = Grid(args.template, adapted_for(args, args.template, read_text(args.template)))
     if not grid.names:
         raise Fault(f"{args.template}: no range line, which begins `;@tune` at the left margin "
                     "(cwtune-vary makes a template of a text with EQU lines)")

@@ -61,11 +61,13 @@ def slots_of(line, names):
 def filled(line, texts):
     """Returns a line with a text in the place of each slot. `texts` has them by slots."""
     for slot, text in sorted(texts.items(), key=lambda pair: -pair[0].start):
-        before = line[:slot.start]
-        if text.startswith("-") and OPERATOR.search(before):
-            text = f"({text})"
-        line = before + text + line[slot.end:]
+        line = line[:slot.start] + text_in(line, slot, text) + line[slot.end:]
     return line
+
+
+def text_in(line, slot, text):
+    """Returns the text of a slot as its line has it."""
+    return f"({text})" if text.startswith("-") and OPERATOR.search(line[:slot.start]) else text
 
 
 def code_of_kept(line, names):
@@ -89,10 +91,10 @@ def code_of_kept(line, names):
     return lines
 
 
-def own_lines(path, lines, names, values):
-    """Returns the author's lines of a template, with the values of a setting in their slots, and
-    the names of the constants that have one. Their range lines are left out."""
-    value_of, own, index = dict(zip(names, values)), [], 0
+def author_lines(path, lines, names):
+    """Returns the author's lines of a template, each with its slots, if any, and the names of the
+    constants that have one. Their range lines are left out."""
+    own, index = [], 0
     slots_at = {number: slots_of(line.removeprefix(KEPT), names)
                 for number, line in enumerate(lines) if line.startswith(KEPT)}
     with_slot = {slot.name for slots in slots_at.values() for slot in slots}
@@ -100,11 +102,15 @@ def own_lines(path, lines, names, values):
         line, slots, index = lines[index], slots_at.get(index), index + 1
         if slots:
             line = line.removeprefix(KEPT)
-            own.append(filled(line, {slot: slot.text_of(value_of[slot.name]) for slot in slots}))
             index = after_code(path, lines, index, with_slot, code_of_kept(line, names))
-        elif not is_range_of(line, with_slot):
-            own.append(line)
+        if slots or not is_range_of(line, with_slot):
+            own.append((line, slots))
     return own, with_slot
+
+
+def texts_of(slots, value_of):
+    """Returns for each slot what it has in a setting, whose values are given by names."""
+    return {slot: slot.text_of(value_of[slot.name]) for slot in slots or ()}
 
 
 def is_range_of(line, names):

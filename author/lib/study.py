@@ -22,6 +22,7 @@ Example: cwtune-study --minutes 10 my.red opponents/ STEP=5:7995:10 GATE=-3500:-
 import contextlib, json, os, pathlib, sys
 
 from . import study_fresh, study_inputs, study_report
+from .adapt import add_as_is
 from .grid import Grid
 from .program import Rules, rules_of
 from .race import Contender
@@ -79,12 +80,17 @@ class Study:
         (folder.path / "opponents").mkdir(exist_ok=True)
         for path, (_, text) in zip(self.opponents, inputs.opponents):
             folder.write(path, text)
-        if self.args.ranges:
-            folder.write("warrior.red", inputs.warrior)
-            words = [opening.word for opening in self.args.ranges]
-            folder.run(self.author_words("cwtune-vary", "warrior.red", *words), "template.red")
+        name = "warrior.red" if self.args.ranges else "template.red"
+        if inputs.original != inputs.warrior:
+            folder.write("original.red", inputs.original)
+            folder.run(self.author_words("cwtune-adapt", "original.red"), name)
         else:
-            folder.write("template.red", inputs.template)
+            folder.write(name, inputs.warrior)
+        if self.args.ranges:
+            words = [opening.word for opening in self.args.ranges]
+            as_is = ["--as-is"] * self.args.as_is
+            folder.run(self.author_words("cwtune-vary", *as_is, "warrior.red", *words),
+                       "template.red")
         grid = Grid(folder.path / "template.red")
         folder.write("start.red", grid.line_through(grid.start_values, ()))
 
@@ -142,7 +148,9 @@ class Study:
 
     def write_winner(self, setting, template):
         """Writes the text of the winner."""
-        words = self.author_words("cwtune-warrior", f"--setting={setting}", template)
+        is_adapted = self.inputs.original != self.inputs.warrior
+        original = ["--original=original.red"] * (is_adapted and bool(self.args.ranges))
+        words = self.author_words("cwtune-warrior", *original, f"--setting={setting}", template)
         self.folder.run(words, "winner.red")
 
     def write_report(self, results):
@@ -225,6 +233,7 @@ def make_parser():
     add_json(parser)
     add_program(parser)
     add_rules(parser)
+    add_as_is(parser)
     parser.add_argument("warrior", metavar="WARRIOR", help="a template, or with words "
                         "PLACE=VALUES a Redcode text")
     parser.add_argument("opponents", metavar="OPPONENT", nargs="*", default=[],

@@ -13,11 +13,12 @@ Example: cwtune-vary my.red STEP=5:4000:10 'throw.a-mode=<,>,{' > my-template.re
 """
 import math, re, sys
 
+from .adapt import add_as_is, adapted_for
 from .endings import Fault
 from .grid import KEPT, is_range_line
 from .openings import constant_of, opening_from
 from .places import FIELDS, code_of, lines_of, numbers_of, spot_of
-from .program import load_file_of, refuse_other_warrior, rules_of
+from .program import load_file_of_bytes, refuse_other_warrior, rules_of
 from .slots import code_of_kept
 from .tuning_files import MOST_CONSTANTS, MOST_SETTINGS
 from .words import add_program, add_rules, command_parser, counted
@@ -114,7 +115,8 @@ def refuse_ranges(args, varied):
     For this each constant has its START alone, as `cwtune` takes at most a million settings.
     """
     rules = rules_of(args).words()
-    load_file = load_file_of(args.program, args.warrior, *rules, "--", args.warrior)
+    load_file = load_file_of_bytes(args.program, args.warrior, varied.text.encode("latin-1"),
+                                   *rules)
     refuse_other_warrior("with range lines", varied.template(True).encode("latin-1"), load_file,
                          args.program, *rules, "--setting=start")
 
@@ -130,6 +132,7 @@ def make_parser():
     parser = command_parser(__doc__)
     add_program(parser)
     add_rules(parser)
+    add_as_is(parser)
     parser.add_argument("warrior", metavar="WARRIOR", help="a Redcode text")
     parser.add_argument("ranges", metavar="PLACE=VALUES", nargs="*", type=opening_from, default=[],
                         help="a place of the text and its values: LOW:HIGH:STEP, which is LOW, LOW "
@@ -139,17 +142,18 @@ def make_parser():
 
 
 def warrior_text(parser, args):
-    """Returns the text of the warrior. Refuses a template, and ranges that no template has."""
+    """Returns the text of the warrior, adapted. Refuses a template, and ranges that no template
+    has."""
     names = [opening.place for opening in args.ranges]
     if twice := [name for index, name in enumerate(names) if name in names[:index]]:
         parser.error(f"{twice[0]} has two ranges")
     if len(names) > MOST_CONSTANTS:
         parser.error(f"a template has at most {MOST_CONSTANTS} constants")
     with open(args.warrior, "rb") as file:
-        text = file.read().decode("latin-1")
-    if any(is_range_line(line.encode("latin-1")) for line in text.split("\n")):
+        text = file.read()
+    if any(map(is_range_line, text.split(b"\n"))):
         raise Fault(f"{args.warrior}: it has range lines, so it is a template already")
-    return text
+    return adapted_for(args, args.warrior, text).decode("latin-1")
 
 
 def checked(args, text):

@@ -14,10 +14,12 @@ Example: cwtune-warrior my.red my.cert > winner.red
 import argparse, re, sys
 
 from . import cert_inputs, slots, tuning_files
-from .endings import Fault
+from .adapt import adapt, add_as_is, adapted_if_refused
+from .endings import Fault, say
 from .grid import is_range_line
 from .places import assembled_lines, lines_of
 from .program import load_file_of, refuse_other_warrior, rules_of
+from .put_back import original_lines
 from .words import FILE_HELP, add_files, add_program, add_rules, command_parser
 
 # What the line of this command begins with.
@@ -47,14 +49,19 @@ def strategy_line(template, setting, totals):
 def text_of(text, template, setting, totals=(None, None)):
     """Returns the author's text with the values of a setting. `text` is that of the template; both
     are bytes."""
-    lines, values = text.decode("latin-1").split("\n"), template.values_of_settings[setting]
-    own, with_slot = slots.own_lines(template.path, lines, template.names, values)
-    value_of = {name: value for name, value in zip(template.names, values)
-                if name not in with_slot}
-    end = "\r" if lines[0].endswith("\r") else ""
-    own = with_strategy(with_equs(own, value_of, end),
-                        strategy_line(template, setting, totals) + end)
-    return "\n".join(own).encode("latin-1")
+    value_of = template.values_by_name(setting)
+    lines, _ = slots.author_lines(template.path, text.decode("latin-1").split("\n"), value_of)
+    own = [slots.filled(line, slots.texts_of(of_line, value_of)) for line, of_line in lines]
+    return finished(own, template, setting, totals)
+
+
+def finished(own, template, setting, totals):
+    """Returns the author's text of lines in which the places that are open have their values, with
+    EQU lines for range lines of one's own, and the line of this command."""
+    end = "\r" if own[0].endswith("\r") else ""
+    own = with_equs(own, template.values_by_name(setting), end)
+    return "\n".join(with_strategy(own, strategy_line(template, setting, totals) + end)).encode(
+        "latin-1")
 
 
 def with_equs(lines, value_of, end):
@@ -132,23 +139,44 @@ def print_pmars_notes(text):
 def checked_text(args, template, setting, totals):
     """Returns the author's text with the values of a setting. Refuses one that is another
     warrior."""
-    text = text_of(b"\n".join(template.lines), template, setting, totals)
     rules = rules_of(args).words()
     load_file = load_file_of(args.program, f"setting {setting}", *rules, f"--setting={setting}",
-                             "--", args.template)
+                             "--", template.path)
+    if args.original and (text := text_put_back(args, template, setting, totals, load_file)):
+        return text
+    text = text_of(b"\n".join(template.lines), template, setting, totals)
     refuse_other_warrior("with its values", text, load_file, args.program, *rules)
     print_pmars_notes(text)
     return text
+
+
+def text_put_back(args, template, setting, totals, load_file):
+    """Returns the text of --original with the values of a setting. If it cannot have them all in
+    their places, a note says so, and nothing is returned."""
+    try:
+        text = finished(original_lines(args, template, setting), template, setting, totals)
+        if adapt(args.original, text, rules_of(args), args.program).load_file != load_file:
+            raise Fault(f"{args.original} has one place for several of the adapted text")
+        return text
+    except Fault as fault:
+        if fault.status != 1:
+            raise
+        say("note", f"{fault}, so this is the adapted text", 0)
+        return None
 
 
 def make_parser():
     parser = command_parser(__doc__)
     parser.add_argument("--setting", type=setting_word, metavar="W",
                         help="the index of a setting, or `start`")
-    parser.add_argument("--template", action="store_true", dest="as_template",
-                        help="print the template, with the setting as its START")
+    printed = parser.add_mutually_exclusive_group()
+    printed.add_argument("--template", action="store_true", dest="as_template",
+                         help="print the template, with the setting as its START")
+    printed.add_argument("--original", metavar="FILE", help="put the values into this text, which "
+                         "was adapted before the template was made of it")
     add_program(parser)
     add_rules(parser, of_tuning=True)
+    add_as_is(parser)
     add_files(parser, "template")
     parser.add_argument("cert", metavar="CERT", nargs="?", help=FILE_HELP["cert"])
     return parser
@@ -161,7 +189,13 @@ def main():
         parser.error("CERT is missing: give it, or --setting W")
     if args.cert is not None and args.setting is not None:
         parser.error("give CERT or --setting, and not both")
-    template, totals = tuning_files.Template(args.template), (None, None)
+    with adapted_if_refused(args) as path:
+        print_text(args, path)
+
+
+def print_text(args, path):
+    """Prints the text of a setting of the template at a path."""
+    template, totals = tuning_files.Template(path), (None, None)
     args.schedule, why_unused = None, ""
     if args.cert is None:
         setting = setting_of(template, args.setting)

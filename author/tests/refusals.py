@@ -188,7 +188,7 @@ NOT_ASSEMBLED = [
 NOT_CWTUNE = [
     Refusal(words, 3, f"failed: /bin/true{fault}") for words, fault in [
         ("cwtune-seek --program /bin/true two.red two.csv plain.red",
-         " tune: not the output of cwtune"),
+         " asm: not the output of cwtune"),
         ("cwtune-spread --program /bin/true --check-only two.red two.csv x.cert plain.red",
          " settings: not the output of cwtune"),
         ("cwtune-spread --program /bin/true two.red two.csv x.cert plain.red",

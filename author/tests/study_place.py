@@ -18,7 +18,7 @@ aim EQU 3
 WARRIOR = STONE.replace(";@tune STEP 1 9 2 5\n", "").replace("STEP EQU 4", "STEP EQU 5")
 TEMPLATE = STONE.replace("STEP EQU 4\n", "")
 PLANE = TEMPLATE.replace("aim EQU 3\n", ";@tune aim -4 4 1 0\n")
-OPPONENTS = {"dat.red": "DAT 0\n", "imp.red": "MOV 0, 1\n", "two.red": "SPL 0\nMOV 0, 1\n"}
+OPPONENTS = {"dat.red": "DAT 0, 0\n", "imp.red": "MOV 0, 1\n", "two.red": "SPL 0\nMOV 0, 1\n"}
 FEW = ["--hill=nano", "--rounds=3", "--fresh=10", "--jobs=1"]
 
 

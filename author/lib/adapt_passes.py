@@ -1,0 +1,153 @@
+"""Makes the edits that a reading of a text asks for, pass by pass."""
+import re
+
+from .adapt_blocks import innermost, unrolled
+from .adapt_edits import DROPPED, ONE_COPY, TOKENS, Edit
+from .marked import Marked
+from .pmars_text import is_head
+from .pmars_tokens import code_of, token_at, tokens_of
+
+HEAD_HERE = ";redcode"
+
+
+def edited(line, edits):
+    """Returns the lines that come of a line."""
+    if any(edit.new is None for edit in edits):
+        return []
+    for edit in sorted(reversed(edits), key=lambda edit: (edit.start, edit.end), reverse=True):
+        line = line.replaced(edit.start, edit.end, edit.new)
+    return line.lines()
+
+
+def is_asked_for(finder, edit):
+    """Returns whether all readings of the line ask for an edit."""
+    if DROPPED in edit.visits:
+        return edit.index not in finder.visited
+    return not edit.visits or len(edit.visits) == finder.visited[edit.index]
+
+
+def without_overlaps(edits):
+    """Returns the edits that change no columns which an earlier one changes."""
+    chosen = []
+    for edit in edits:
+        if not any(edit.overlaps(other) for other in chosen):
+            chosen.append(edit)
+    return chosen
+
+
+def comments_of_equs(finder, chosen):
+    """Returns edits that make comments of the EQU lines whose names are all written out."""
+    places, lines = {edit.where() for edit in chosen}, {}
+    for known, indices in finder.equs.items():
+        uses = finder.uses[known]
+        is_bad = any(TOKENS.fullmatch(line.text) is None for line in known.lines)
+        if uses <= places and (uses or len(indices) > 1 or is_bad):
+            lines |= dict.fromkeys(indices)
+    return [Edit(index, 0, 0, Marked.new("; "), "this EQU is a comment now") for index in lines]
+
+
+def blanks(finder):
+    """Returns edits that make a blank of each form feed in code."""
+    places = [(index, match.span()) for index, line in enumerate(finder.lines)
+              for match in re.finditer("[\f\v]", code_of(line.text))]
+    return [Edit(index, *span, Marked.new(" "), "a form feed is a blank now")
+            for index, span in places]
+
+
+def edits_of_joins(finder):
+    """Yields edits that join outer counters first. If a name is written with its digits somewhere,
+    the inner block has to be unrolled."""
+    words = {token.text for line in finder.lines for token in tokens_of(code_of(line.text))}
+    bases = {new.partition("&")[0] for found in finder.inverted.values() for _, _, new in found}
+    spelled = {word for word in words for base in bases
+               if re.fullmatch(rf"{base}[0-9]{{4,}}", word)}
+    for (index, start, end), found in finder.inverted.items():
+        if spelled:
+            finder.to_unroll.append(index)
+            continue
+        new = found[0][2]
+        yield Edit(index, start, end, Marked.new(new), f"{new} has its outer counter first now")
+
+
+def passed(finder):
+    """Returns the lines of a text with the edits that were found, and the notes, each with the
+    line that it is of."""
+    asked = sorted((edit for edit in finder.edits.values() if is_asked_for(finder, edit)),
+                   key=lambda edit: edit.note != ONE_COPY)
+    left = [edit.index for edit in finder.edits.values() if not is_asked_for(finder, edit)]
+    chosen = without_overlaps([*asked, *edits_of_joins(finder)])
+    chosen = without_overlaps([*chosen, *comments_of_equs(finder, chosen), *blanks(finder)])
+    if not chosen:
+        return unrolled_pass(finder, [*finder.to_unroll, *left])
+    lines = []
+    for index, line in enumerate(finder.lines):
+        lines += edited(line, [edit for edit in chosen if edit.index == index])
+    return lines, [(finder.lines[edit.index].number(), edit.note) for edit in chosen]
+
+
+def unrolled_pass(finder, indices):
+    """Returns the lines with one block unrolled around one of the indices, and a note of it."""
+    blocks = [innermost(finder.blocks, finder.tails, index) for index in indices]
+    block = max((block for block in blocks if block), key=lambda block: block.head, default=None)
+    if block is None:
+        return finder.lines, []
+    lines = unrolled(finder.lines, block, finder.tails[block.head])
+    return lines, [(finder.lines[block.head].number(), "the block is unrolled")]
+
+
+def prepared(lines):
+    """Returns the lines as pMARS divides them, with its first and its second `;redcode` line where
+    `cwtune` sees them, and notes."""
+    notes = []
+    for step in (cut, continued, with_heads):
+        lines, more_notes = step(lines)
+        notes += more_notes
+    return lines, notes
+
+
+def cut(lines):
+    """Returns the lines without what comes after a carriage return, and notes."""
+    whole, notes = [], []
+    for line in lines:
+        end = line.text.partition("\r")[0]
+        is_cut = line.text[len(end):].strip() != ""
+        whole.append(line[:len(end)] if is_cut else line)
+        notes += [(line.number(), "pMARS ends the line at its carriage return")] * is_cut
+    return whole, notes
+
+
+def continued(lines):
+    """Returns the lines with those that end with a backslash joined to the next, and notes."""
+    whole, notes, goes_on = [], [], False
+    for line in lines:
+        if goes_on:
+            whole[-1] = whole[-1] + line
+            notes.append((line.number(), "the line is joined to the one before"))
+        else:
+            whole.append(line)
+        text = whole[-1].text.removesuffix("\r")
+        goes_on = text.endswith("\\")
+        if goes_on:
+            whole[-1] = whole[-1][:len(text) - 1]
+    return whole, notes
+
+
+def with_heads(lines):
+    """Returns the lines with the first `;redcode` line where both programs see it, and END before a
+    second one, and notes."""
+    lines, notes = list(lines), []
+    heads = [index for index, line in enumerate(lines) if is_head(line.text)]
+    before = heads[0] if heads else len(lines)
+    for index, line in enumerate(lines[:before]):
+        if line.text[:len(HEAD_HERE)].lower() == HEAD_HERE:
+            lines[index] = line.replaced(1, 1, " ")
+            notes.append((line.number(), "for pMARS this is no ;redcode line"))
+    if heads and lines[before].text[:1] != ";":
+        lines[before] = lines[before][token_at(lines[before].text, 0).start:]
+        notes.append((lines[before].number(), ";redcode begins the line now"))
+    if len(heads) > 1 and any(token_at(line.text, 0).kind not in ("", "comment")
+                              for line in lines[heads[1]:]):
+        lines.insert(heads[1], Marked.new("        END"))
+        notes.append((lines[heads[1] + 1].number(),
+                      "a second ;redcode line ends the warrior, so END is before it"))
+    return lines, notes
