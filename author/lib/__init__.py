@@ -11,8 +11,8 @@ vary and warrior. Several commands use
 - watching: how far a long loop is;
 - program: how `cwtune` is found and run, and its rules;
 - tuning_files, grid: schedules, certificates, templates and their settings;
-- places, slots, put_back: what can be opened in a text, how a template keeps the author's lines, and
-  how a text that was adapted gets the values;
+- places, slots, put_back: what can be opened in a text, how a template keeps the author's lines,
+  and how a text that was adapted gets the values;
 - cert_inputs: which inputs a certificate is for, by CERT.inputs;
 - own_folder: the folder in which a spread or a study keeps its work;
 - mean_error: the standard error of a mean;
