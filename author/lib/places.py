@@ -125,8 +125,10 @@ def names_in(labels):
 def fields_of(code, head, word):
     """Returns the fields of a line."""
     rest = head.end()
+    if word == "rof" or word == "equ" and not names_in(head[1]):
+        return {}
     if word not in OPCODES:
-        return {} if word == "rof" else {"equ" if word == "equ" else "a": stripped(code, rest)}
+        return {"equ" if word == "equ" else "a": stripped(code, rest)}
     fields = {"opcode": Span(*head.span(2))}
     modifier = MODIFIER.match(code, rest)
     rest = modifier.end() if modifier else rest

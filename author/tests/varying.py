@@ -145,7 +145,7 @@ def templates(place):
                   "tune`; cwtune-study and cwtune-seek have them race\n"), (status, err))
     place.write("two.red", TEXT)
     yield compare("what could be opened", (0, LIST, ""), vary(place, "two.red"))
-    place.write("none.red", ";name None\n")
+    place.write("none.red", ";name None\n equ 5\n")
     yield compare("a text without places", (0, "", "note: nothing that could be opened\n"),
                   vary(place, "none.red"))
 
