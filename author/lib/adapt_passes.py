@@ -1,5 +1,5 @@
 """Makes the changes that a reading of a text asks for, pass by pass."""
-import re
+import collections, re
 
 from .adapt_blocks import innermost, unrolled
 from .adapt_changes import DROPPED, ONE_COPY, TOKENS, Change
@@ -8,6 +8,8 @@ from .pmars_text import is_head
 from .pmars_tokens import code_of, token_at, tokens_of
 
 HEAD_HERE = ";redcode"
+# A text of more copies is refused by `cwtune`.
+MOST_COPIES = 4096
 
 
 def changed(line, changes):
@@ -28,11 +30,11 @@ def is_asked_for(finder, change):
 
 def without_overlaps(changes):
     """Returns the changes that change no columns which an earlier one changes."""
-    chosen = []
+    chosen = collections.defaultdict(list)
     for change in changes:
-        if not any(change.overlaps(other) for other in chosen):
-            chosen.append(change)
-    return chosen
+        if not any(change.overlaps(other) for other in chosen[change.index]):
+            chosen[change.index].append(change)
+    return [change for of_line in chosen.values() for change in of_line]
 
 
 def comments_of_equs(finder, chosen):
@@ -79,16 +81,19 @@ def passed(finder):
     chosen = without_overlaps([*chosen, *comments_of_equs(finder, chosen), *blanks(finder)])
     if not chosen:
         return unrolled_pass(finder, [*finder.to_unroll, *left])
-    lines = []
-    for index, line in enumerate(finder.lines):
-        lines += changed(line, [change for change in chosen if change.index == index])
+    of_line, lines = collections.defaultdict(list), []
+    for change in chosen:
+        of_line[change.index].append(change)
+    lines = [new for index, line in enumerate(finder.lines)
+             for new in changed(line, of_line[index])]
     return lines, [(finder.lines[change.index].number(), change.note) for change in chosen]
 
 
 def unrolled_pass(finder, indices):
     """Returns the lines with one block unrolled around one of the indices, and a note of it."""
     blocks = [innermost(finder.blocks, finder.tails, index) for index in indices]
-    block = max((block for block in blocks if block), key=lambda block: block.head, default=None)
+    block = max((block for block in blocks if block and max(block.counts) <= MOST_COPIES),
+                key=lambda block: block.head, default=None)
     if block is None:
         return finder.lines, []
     lines = unrolled(finder.lines, block, finder.tails[block.head])

@@ -14,6 +14,8 @@ from .pmars_values import NoValue, ParserThere, Registers
 
 # What pMARS takes at most: labels of one instruction, lines of code, bytes of a line.
 MOST_LABELS, MOST_CODE, MOST_LINE_BYTES = 7, 1000, 255
+# How many tokens are read at most, copies and all, so that the reading of any text ends.
+MOST_TOKENS = 200000
 MOST_COPIES, MOST_WARNINGS = 65535, 9
 
 
@@ -23,6 +25,10 @@ class PmarsFault(Exception):
     def __init__(self, index, message):
         super().__init__(message)
         self.index = index
+
+
+class TooMuch(Exception):
+    """A text makes more than pMARS takes, or than is read here."""
 
 
 class State(enum.IntEnum):
@@ -85,8 +91,13 @@ class Chars:
         self.text, self.roots = "", []
 
     def add(self, text, root):
+        self.extend(text, [root] * len(text))
+
+    def extend(self, text, roots):
         self.text += text
-        self.roots += [root] * len(text)
+        self.roots += roots
+        if len(self.text) > MOST_LINE_BYTES:
+            raise TooMuch("a line is too long, once all names are replaced")
 
     def take(self):
         """Returns what is there, and begins anew."""
@@ -130,7 +141,7 @@ class PmarsText:
         self.names |= {name: Name("text", lines=[Source(value)], is_given=True)
                        for name, value in constants.items()}
         self.registers, self.labels, self.blocks, self.code = Registers(), [], [], []
-        self.dropping = self.address = self.at = self.reading = 0
+        self.dropping = self.address = self.at = self.reading = self.tokens = 0
         self.goes_on, self.index, self.inside, self.warnings = True, 0, None, set()
 
     def expand(self):
@@ -173,10 +184,16 @@ class PmarsText:
         """Reads a source from a column on. Returns the state at its end."""
         while True:
             token = token_at(source.text, at)
+            self.count_token()
             step = self.step(source, token, made, state)
             if isinstance(step, State):
                 return step
             at, state = step
+
+    def count_token(self):
+        self.tokens += 1
+        if self.tokens > MOST_TOKENS:
+            raise TooMuch("too many tokens, once all names are replaced")
 
     def step(self, source, token, made, state):
         """Reads a token, and returns where to go on in which state, or the state at the end."""
