@@ -42,7 +42,8 @@ COMPLETIONS = [("cwtune che", "check"), ("cwtune tune --ca", "--cache"),
                ("cwtune check --sh", "--share"),
                ("cwtune fight --fi", "--first"), ("cwtune-scores --te", "--template"),
                ("cwtune-spread --me", "--merge"), ("cwtune-spread --check-o", "--check-only"),
-               ("cwtune-seek --mi", "--minutes"), ("cwtune-study --fr", "--fresh")]
+               ("cwtune-adapt --pm", "--pmars"), ("cwtune-seek --mi", "--minutes"),
+               ("cwtune-study --fr", "--fresh")]
 
 
 def built():

@@ -1,62 +1,64 @@
-"""Makes the edits that a reading of a text asks for, pass by pass."""
-import re
+"""Makes the changes that a reading of a text asks for, pass by pass."""
+import collections, re
 
 from .adapt_blocks import innermost, unrolled
-from .adapt_edits import DROPPED, ONE_COPY, TOKENS, Edit
+from .adapt_changes import DROPPED, ONE_COPY, TOKENS, Change
 from .marked import Marked
 from .pmars_text import is_head
 from .pmars_tokens import code_of, token_at, tokens_of
 
 HEAD_HERE = ";redcode"
+# A text of more copies is refused by `cwtune`.
+MOST_COPIES = 4096
 
 
-def edited(line, edits):
+def changed(line, changes):
     """Returns the lines that come of a line."""
-    if any(edit.new is None for edit in edits):
+    if any(change.new is None for change in changes):
         return []
-    for edit in sorted(reversed(edits), key=lambda edit: (edit.start, edit.end), reverse=True):
-        line = line.replaced(edit.start, edit.end, edit.new)
+    for change in sorted(reversed(changes), key=Change.where, reverse=True):
+        line = line.replaced(change.start, change.end, change.new)
     return line.lines()
 
 
-def is_asked_for(finder, edit):
-    """Returns whether all readings of the line ask for an edit."""
-    if DROPPED in edit.visits:
-        return edit.index not in finder.visited
-    return not edit.visits or len(edit.visits) == finder.visited[edit.index]
+def is_asked_for(finder, change):
+    """Returns whether all readings of the line ask for a change."""
+    if DROPPED in change.readings:
+        return change.index not in finder.read_counts
+    return not change.readings or len(change.readings) == finder.read_counts[change.index]
 
 
-def without_overlaps(edits):
-    """Returns the edits that change no columns which an earlier one changes."""
-    chosen = []
-    for edit in edits:
-        if not any(edit.overlaps(other) for other in chosen):
-            chosen.append(edit)
-    return chosen
+def without_overlaps(changes):
+    """Returns the changes that change no columns which an earlier one changes."""
+    chosen = collections.defaultdict(list)
+    for change in changes:
+        if not any(change.overlaps(other) for other in chosen[change.index]):
+            chosen[change.index].append(change)
+    return [change for of_line in chosen.values() for change in of_line]
 
 
 def comments_of_equs(finder, chosen):
-    """Returns edits that make comments of the EQU lines whose names are all written out."""
-    places, lines = {edit.where() for edit in chosen}, {}
+    """Returns changes that make comments of the EQU lines whose names are all written out."""
+    places, lines = {change.where() for change in chosen}, {}
     for known, indices in finder.equs.items():
         uses = finder.uses[known]
         is_bad = any(TOKENS.fullmatch(line.text) is None for line in known.lines)
         if uses <= places and (uses or len(indices) > 1 or is_bad):
             lines |= dict.fromkeys(indices)
-    return [Edit(index, 0, 0, Marked.new("; "), "this EQU is a comment now") for index in lines]
+    return [Change(index, 0, 0, Marked.new("; "), "this EQU is a comment now") for index in lines]
 
 
 def blanks(finder):
-    """Returns edits that make a blank of each form feed in code."""
+    """Returns changes that make a blank of each form feed in code."""
     places = [(index, match.span()) for index, line in enumerate(finder.lines)
               for match in re.finditer("[\f\v]", code_of(line.text))]
-    return [Edit(index, *span, Marked.new(" "), "a form feed is a blank now")
+    return [Change(index, *span, Marked.new(" "), "a form feed is a blank now")
             for index, span in places]
 
 
-def edits_of_joins(finder):
-    """Yields edits that join outer counters first. If a name is written with its digits somewhere,
-    the inner block has to be unrolled."""
+def changes_of_joins(finder):
+    """Yields changes that join outer counters first. If a name is written with its digits
+    somewhere, the inner block has to be unrolled."""
     words = {token.text for line in finder.lines for token in tokens_of(code_of(line.text))}
     bases = {new.partition("&")[0] for found in finder.inverted.values() for _, _, new in found}
     spelled = {word for word in words for base in bases
@@ -66,29 +68,32 @@ def edits_of_joins(finder):
             finder.to_unroll.append(index)
             continue
         new = found[0][2]
-        yield Edit(index, start, end, Marked.new(new), f"{new} has its outer counter first now")
+        yield Change(index, start, end, Marked.new(new), f"{new} has its outer counter first now")
 
 
 def passed(finder):
-    """Returns the lines of a text with the edits that were found, and the notes, each with the
+    """Returns the lines of a text with the changes that were found, and the notes, each with the
     line that it is of."""
-    asked = sorted((edit for edit in finder.edits.values() if is_asked_for(finder, edit)),
-                   key=lambda edit: edit.note != ONE_COPY)
-    left = [edit.index for edit in finder.edits.values() if not is_asked_for(finder, edit)]
-    chosen = without_overlaps([*asked, *edits_of_joins(finder)])
+    asked = sorted((change for change in finder.changes.values() if is_asked_for(finder, change)),
+                   key=lambda change: change.note != ONE_COPY)
+    left = [change.index for change in finder.changes.values() if not is_asked_for(finder, change)]
+    chosen = without_overlaps([*asked, *changes_of_joins(finder)])
     chosen = without_overlaps([*chosen, *comments_of_equs(finder, chosen), *blanks(finder)])
     if not chosen:
         return unrolled_pass(finder, [*finder.to_unroll, *left])
-    lines = []
-    for index, line in enumerate(finder.lines):
-        lines += edited(line, [edit for edit in chosen if edit.index == index])
-    return lines, [(finder.lines[edit.index].number(), edit.note) for edit in chosen]
+    of_line, lines = collections.defaultdict(list), []
+    for change in chosen:
+        of_line[change.index].append(change)
+    lines = [new for index, line in enumerate(finder.lines)
+             for new in changed(line, of_line[index])]
+    return lines, [(finder.lines[change.index].number(), change.note) for change in chosen]
 
 
 def unrolled_pass(finder, indices):
     """Returns the lines with one block unrolled around one of the indices, and a note of it."""
     blocks = [innermost(finder.blocks, finder.tails, index) for index in indices]
-    block = max((block for block in blocks if block), key=lambda block: block.head, default=None)
+    block = max((block for block in blocks if block and max(block.counts) <= MOST_COPIES),
+                key=lambda block: block.head, default=None)
     if block is None:
         return finder.lines, []
     lines = unrolled(finder.lines, block, finder.tails[block.head])

@@ -47,6 +47,7 @@ class Instruction:
             if state not in ("A rest", "rest"):
                 self.has_value = False
             token = token_at(chars.text, at)
+            self.text.count_token()
             if not token.kind:
                 return state
             state, at = self.step(token, chars.roots[token.start:token.end], state)
@@ -120,8 +121,7 @@ class Instruction:
     def add(self, state, text, roots):
         """Adds to the expression of an operand."""
         chars = (self.a if state == "A rest" else self.b).chars
-        chars.text += text
-        chars.roots += roots
+        chars.extend(text, roots)
         self.has_value = True
 
     def complete(self):

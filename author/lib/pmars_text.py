@@ -14,6 +14,8 @@ from .pmars_values import NoValue, ParserThere, Registers
 
 # What pMARS takes at most: labels of one instruction, lines of code, bytes of a line.
 MOST_LABELS, MOST_CODE, MOST_LINE_BYTES = 7, 1000, 255
+# How many tokens are read at most, copies and all, so that the reading of any text ends.
+MOST_TOKENS = 200000
 MOST_COPIES, MOST_WARNINGS = 65535, 9
 
 
@@ -23,6 +25,10 @@ class PmarsFault(Exception):
     def __init__(self, index, message):
         super().__init__(message)
         self.index = index
+
+
+class TooMuch(Exception):
+    """A text makes more than pMARS takes, or than is read here."""
 
 
 class State(enum.IntEnum):
@@ -48,7 +54,7 @@ class Line(NamedTuple):
     text: str
 
 
-class Piece(NamedTuple):
+class Source(NamedTuple):
     """A text that is read: a line, or what an EQU name stands for. Of the latter `root` is where
     the name is on the line, and `equ` the outermost EQU."""
 
@@ -67,7 +73,7 @@ class Label(NamedTuple):
     name: str
     index: int
     root: tuple
-    visit: int
+    reading: int
 
 
 class Name:
@@ -79,14 +85,19 @@ class Name:
 
 
 class Chars:
-    """A text that is made of pieces, with the root of each character."""
+    """A text that is made of sources, with the root of each character."""
 
     def __init__(self):
         self.text, self.roots = "", []
 
     def add(self, text, root):
+        self.extend(text, [root] * len(text))
+
+    def extend(self, text, roots):
         self.text += text
-        self.roots += [root] * len(text)
+        self.roots += roots
+        if len(self.text) > MOST_LINE_BYTES:
+            raise TooMuch("a line is too long, once all names are replaced")
 
     def take(self):
         """Returns what is there, and begins anew."""
@@ -111,10 +122,11 @@ class Block(NamedTuple):
 
 
 class Code(NamedTuple):
-    """An instruction or a pseudo-opcode as it came of a line: the line, its visit, and its text."""
+    """An instruction or a pseudo-opcode as it came of a line: the line, its reading, and its
+    text."""
 
     index: int
-    visit: int
+    reading: int
     chars: Chars
 
 
@@ -124,12 +136,12 @@ class PmarsText:
 
     def __init__(self, lines, rules, constants, finder, gives_up=True):
         self.lines, self.rules, self.finder, self.gives_up = lines, rules, finder, gives_up
-        self.names = {name: Name("text", lines=[Piece(str(value))], is_given=True)
+        self.names = {name: Name("text", lines=[Source(str(value))], is_given=True)
                       for name, value in given_names(rules).items()}
-        self.names |= {name: Name("text", lines=[Piece(value)], is_given=True)
+        self.names |= {name: Name("text", lines=[Source(value)], is_given=True)
                        for name, value in constants.items()}
         self.registers, self.labels, self.blocks, self.code = Registers(), [], [], []
-        self.dropping = self.address = self.at = self.visit = 0
+        self.dropping = self.address = self.at = self.reading = self.tokens = 0
         self.goes_on, self.index, self.inside, self.warnings = True, 0, None, set()
 
     def expand(self):
@@ -148,11 +160,11 @@ class PmarsText:
         """Reads the line that is next, of the text or of an EQU."""
         line = self.lines[self.at]
         if self.inside:
-            return self.read(Piece(line.text, 0, *self.inside), 0, made, State.NOTHING)
-        self.index, self.visit = line.index, self.visit + 1
+            return self.read(Source(line.text, 0, *self.inside), 0, made, State.NOTHING)
+        self.index, self.reading = line.index, self.reading + 1
         before = self.dropping
-        self.finder.visits(self, line, before > 0)
-        state = self.read(Piece(line.text, line.column), 0, made, State.NOTHING)
+        self.finder.begins_line(self, line, before > 0)
+        state = self.read(Source(line.text, line.column), 0, made, State.NOTHING)
         if before:
             self.finder.dropped(line, self.dropping - before)
         return state
@@ -166,41 +178,47 @@ class PmarsText:
     def emit(self, made):
         if len(self.code) > MOST_CODE:
             raise PmarsFault(self.index, "too many instructions")
-        self.code.append(Code(self.index, self.visit, made.take()))
+        self.code.append(Code(self.index, self.reading, made.take()))
 
-    def read(self, piece, at, made, state):
-        """Reads a piece from a column on. Returns the state at its end."""
+    def read(self, source, at, made, state):
+        """Reads a source from a column on. Returns the state at its end."""
         while True:
-            token = token_at(piece.text, at)
-            step = self.step(piece, token, made, state)
+            token = token_at(source.text, at)
+            self.count_token()
+            step = self.step(source, token, made, state)
             if isinstance(step, State):
                 return step
             at, state = step
 
-    def step(self, piece, token, made, state):
+    def count_token(self):
+        self.tokens += 1
+        if self.tokens > MOST_TOKENS:
+            raise TooMuch("too many tokens, once all names are replaced")
+
+    def step(self, source, token, made, state):
         """Reads a token, and returns where to go on in which state, or the state at the end."""
         if not token.kind:
             return state
         if token.kind == "comment":
             if state == State.NOTHING and not self.dropping:
-                self.read_assertion(piece, token, made)
+                self.read_assertion(source, token, made)
             return state
         if token.kind == "name":
-            return self.name_step(piece, token, made, state)
+            return self.name_step(source, token, made, state)
         if self.dropping:
             return State.NOTHING
         if state <= State.LABELS:
             raise PmarsFault(self.index, f"{token.text} is not an instruction")
-        made.add(token.text, piece.root_of(token.start, token.end))
+        made.add(token.text, source.root_of(token.start, token.end))
         return token.end, state
 
-    def read_assertion(self, piece, token, made):
+    def read_assertion(self, source, token, made):
         """Reads an assertion, and refuses one that is false."""
-        word = token_at(piece.text, token.end)
+        word = token_at(source.text, token.end)
         if word.text.upper() != "ASSERT":
             return
         self.finder.begins_value(self)
-        self.read(piece, word.end, made, State.VALUE)
+        self.read(source, word.end, made, State.VALUE)
         chars, before = made.take(), Registers(self.registers)
         try:
             node = ParserThere(chars.text).whole()
@@ -213,23 +231,23 @@ class PmarsText:
             raise PmarsFault(self.index, "the assertion is false")
         self.finder.assertion(self, chars, node, before)
 
-    def name_step(self, piece, token, made, state):
+    def name_step(self, source, token, made, state):
         """Reads a word."""
         word = token.text.upper()
         if self.dropping:
             return self.dropped_step(token, word)
         if token.text == "CURLINE":
-            return self.curline_step(piece, token, made, state)
+            return self.curline_step(source, token, made, state)
         if word not in ("ROF", "FOR", "EQU", *OPCODES):
-            return self.plain_step(piece, token, made, state)
+            return self.plain_step(source, token, made, state)
         if state > State.LABELS:
             raise PmarsFault(self.index, f"{token.text} is at a wrong place")
         if word in OPCODES:
-            return self.read_code(piece, token, made)
+            return self.read_code(source, token, made)
         if word == "ROF":
-            self.finder.end_of_block(self, piece, token)
+            self.finder.end_of_block(self, source, token)
             return State.END_OF_BLOCK
-        return (self.read_block if word == "FOR" else self.read_equ)(piece, token.end, made)
+        return (self.read_block if word == "FOR" else self.read_equ)(source, token.end, made)
 
     def dropped_step(self, token, word):
         """Reads a word of a block that is dropped."""
@@ -240,28 +258,28 @@ class PmarsText:
             return State.NOTHING
         return token.end, State.NOTHING
 
-    def curline_step(self, piece, token, made, state):
+    def curline_step(self, source, token, made, state):
         """Puts in how many instructions there are before the line."""
         if state <= State.LABELS:
             raise PmarsFault(self.index, "CURLINE is no label")
-        root = piece.root_of(token.start, token.end)
-        self.finder.number(self, piece, root, "CURLINE", self.address)
-        made.add(f"{self.address}{blank_at(piece.text, token.end)}", root)
+        root = source.root_of(token.start, token.end)
+        self.finder.number(self, source, root, "CURLINE", self.address)
+        made.add(f"{self.address}{blank_at(source.text, token.end)}", root)
         return token.end, state
 
-    def read_code(self, piece, token, made):
+    def read_code(self, source, token, made):
         """Reads an instruction. What follows its opcode without a blank is not looked at yet."""
         word, end = token.text.upper(), token.end
-        made.add(word, piece.root_of(token.start, token.end))
-        for part in tokens_of(piece.text, token.end):
+        made.add(word, source.root_of(token.start, token.end))
+        for part in tokens_of(source.text, token.end):
             if part.start != end:
                 break
-            made.add(part.text, piece.root_of(part.start, part.end))
+            made.add(part.text, source.root_of(part.start, part.end))
             end = part.end
-        made.add(blank_at(piece.text, end), None)
-        self.finder.opcode(self, word, piece.root_of(token.start, token.end))
+        made.add(blank_at(source.text, end), None)
+        self.finder.opcode(self, word, source.root_of(token.start, token.end))
         state = State.START if word in PSEUDO_OPCODES else State.VALUE
-        if self.read(piece, end, made, state) == State.WRONG:
+        if self.read(source, end, made, state) == State.WRONG:
             return State.WRONG
         self.define(self.take_labels())
         self.address += word not in PSEUDO_OPCODES
@@ -279,39 +297,39 @@ class PmarsText:
         for label in labels:
             self.names[label.name] = Name("label", self.address)
 
-    def plain_step(self, piece, token, made, state):
+    def plain_step(self, source, token, made, state):
         """Reads a name that is no word of the language, with the counters that are joined to it."""
-        name, at, counters = self.joined(piece, token)
-        root = piece.root_of(token.start, at)
+        name, at, counters = self.joined(source, token)
+        root = source.root_of(token.start, at)
         known = self.names.get(name)
         if known and known.is_given:
-            self.finder.given_name(self, piece, root, name)
+            self.finder.given_name(self, source, root, name)
         if counters:
-            self.finder.join(self, piece, root, name, counters)
+            self.finder.join(self, source, root, name, counters)
         if known and known.kind == "text":
-            return self.read_equ_use(piece, at, made, (state, known, root))
+            return self.read_equ_use(source, at, made, (state, known, root))
         if known and state > State.LABELS:
-            return self.number_step(piece, at, made, (state, known, root))
+            return self.number_step(source, at, made, (state, known, root))
         if known:
             self.warn("label")
-            self.finder.repeated_label(self, piece, root)
+            self.finder.repeated_label(self, source, root)
             return State.WRONG
         if state > State.LABELS:
-            made.add(f"{name}{blank_at(piece.text, at)}", root)
+            made.add(f"{name}{blank_at(source.text, at)}", root)
             return at, state
         if len(self.labels) == MOST_LABELS:
             raise PmarsFault(self.index, "too many labels")
         if any(label.name == name for label in self.labels):
-            self.finder.label_again(self, piece, root)
-        self.labels.append(Label(name, self.index, root, self.visit))
-        return at + (piece.text[at:at + 1] == ":"), State.LABELS
+            self.finder.label_again(self, source, root)
+        self.labels.append(Label(name, self.index, root, self.reading))
+        return at + (source.text[at:at + 1] == ":"), State.LABELS
 
-    def joined(self, piece, token):
+    def joined(self, source, token):
         """Returns a name with the counters that `&` joins to it, where it ends, and the
         counters."""
         name, at, counters = token.text, token.end, []
-        while piece.text[at:at + 1] == "&" and piece.text[at + 1:at + 2] in LETTERS:
-            counter = token_at(piece.text, at + 1)
+        while source.text[at:at + 1] == "&" and source.text[at + 1:at + 2] in LETTERS:
+            counter = token_at(source.text, at + 1)
             known = self.names.get(counter.text)
             if not known or known.kind != "counter":
                 raise PmarsFault(self.index, f"{counter.text} is no counter")
@@ -319,33 +337,33 @@ class PmarsText:
             counters.append(counter.text)
         return name, at, counters
 
-    def number_step(self, piece, at, made, what):
+    def number_step(self, source, at, made, what):
         """Puts in the number of a counter, or of a label."""
         state, known, root = what
         if known.kind == "counter":
             text = f"{known.value:02}"
-            if piece.root:
-                self.finder.counter_in_equ(self, piece)
+            if source.root:
+                self.finder.counter_in_equ(self, source)
         else:
             text = str(known.value - (0 if state == State.START else self.address))
-            self.finder.number(self, piece, root, "label", int(text))
-        made.add(f"{text}{blank_at(piece.text, at)}", root)
+            self.finder.number(self, source, root, "label", int(text))
+        made.add(f"{text}{blank_at(source.text, at)}", root)
         return at, state
 
-    def read_equ_use(self, piece, at, made, what):
+    def read_equ_use(self, source, at, made, what):
         """Reads what an EQU name stands for."""
         state, known, root = what
         if known.is_open:
             raise PmarsFault(self.index, "an EQU that names itself")
-        self.finder.equ_use(self, piece, known, (root, state <= State.LABELS))
+        self.finder.equ_use(self, source, known, (root, state <= State.LABELS))
         outside = self.lines, self.at, self.inside
-        self.lines, self.at, self.inside = known.lines, 0, (root, piece.equ or known)
+        self.lines, self.at, self.inside = known.lines, 0, (root, source.equ or known)
         known.is_open = True
-        state = self.read(Piece(known.lines[0].text, 0, *self.inside), 0, made, state)
+        state = self.read(Source(known.lines[0].text, 0, *self.inside), 0, made, state)
         state = self.read_more_lines(made, state)
         known.is_open = False
         self.lines, self.at, self.inside = outside
-        made.add(blank_at(piece.text, at), root)
+        made.add(blank_at(source.text, at), root)
         return at, state
 
     def read_more_lines(self, made, state):
@@ -358,9 +376,9 @@ class PmarsText:
             state = self.read_line(made)
         return state
 
-    def read_equ(self, piece, at, _):
+    def read_equ(self, source, at, _):
         """Reads an EQU, with the lines after it that begin with EQU."""
-        labels, lines = self.take_labels(), [Line(self.index, piece.column + at, piece.text[at:])]
+        labels, lines = self.take_labels(), [Line(self.index, source.column + at, source.text[at:])]
         if not labels:
             self.warn("EQU")
             self.finder.stray_equ(self)
@@ -377,7 +395,7 @@ class PmarsText:
         self.finder.equ(self, known, labels)
         return State.VALUE
 
-    def read_block(self, piece, at, made):
+    def read_block(self, source, at, made):
         """Reads the head of a block, and its copies."""
         labels, counter = self.take_labels(), None
         if labels:
@@ -386,7 +404,7 @@ class PmarsText:
             self.define(labels)
         self.finder.begins_value(self)
         made.take()
-        self.read(piece, at, made, State.VALUE)
+        self.read(source, at, made, State.VALUE)
         chars, before = made.take(), Registers(self.registers)
         try:
             node = ParserThere(chars.text).whole()
@@ -415,7 +433,7 @@ class PmarsText:
             if not self.goes_on:
                 break
         self.names.pop(name, None)
-        self.blocks.pop()
+        self.finder.block_ends(self, self.blocks.pop())
 
     def read_copy(self, made):
         """Reads the lines of a copy."""

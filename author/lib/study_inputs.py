@@ -1,5 +1,5 @@
 """Reads the words and files of `cwtune-study`, and refuses those that make no study."""
-import argparse, hashlib, json, math, os, pathlib, re
+import argparse, collections, hashlib, json, math, os, pathlib, re
 from typing import NamedTuple
 
 from . import vary
@@ -11,6 +11,7 @@ from .places import PLACE
 from .program import EXPLAIN, rules_of, run_program
 from .series import refuse_distance, refuse_fights, refuse_seed
 from .tuning_files import MOST_OPPONENTS, MOST_WEIGHT
+from .words import counted
 from .writing import temporary_folder
 
 # The options that a study depends on.
@@ -165,20 +166,27 @@ def refuse_text(args, name, *words, **options):
 
 def opponents_of(args):
     """Returns names and texts of the opponents. A name that is taken gets a number."""
-    texts, adapted = {}, []
+    texts, adapted = {}, collections.defaultdict(list)
     for path in args.opponents:
         if "\n" in path:
             raise Fault("the name of an opponent has a line end", 2)
         original = read_text(path)
         text, said = adapted_text(args, path, original)
         if said:
-            adapted.append(f"{path} ({said})")
+            adapted[said].append(path)
         else:
             refuse_text(args, path, "--", path)
         texts[free_name(os.path.basename(path), texts)] = text
-    if adapted:
-        say("note", "opponents that are adapted, as by cwtune-adapt: " + ", ".join(adapted), 0)
+    note_adapted(adapted)
     return list(texts.items())
+
+
+def note_adapted(adapted):
+    """Notes on standard error which opponents are adapted, by what pMARS says of them."""
+    for said, paths in adapted.items():
+        verb = "are" if len(paths) > 1 else "is"
+        say("note", f"{counted(len(paths), 'opponent')} {verb} adapted, as by cwtune-adapt: "
+            f"{', '.join(paths)}; {said}", 0)
 
 
 def free_name(name, taken):

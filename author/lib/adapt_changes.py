@@ -1,15 +1,16 @@
 """Collects what has to be written otherwise in a text, while it is read as pMARS reads it.
 
-An edit puts a new text in place of some columns of a line. A line of a FOR block is read once for
-each copy; an edit that not all copies ask for is not made, and the block is unrolled instead.
+A change puts a new text in place of some columns of a line. A line of a FOR block is read once for
+each copy; a change that not all copies ask for is not made, and the block is unrolled instead.
 """
 import collections, re
 from typing import NamedTuple
 
+from .adapt_counts import Curline
+from .adapt_values import can_stay, extents_of, has_large_number, is_large, is_other_here
 from .marked import Marked, joined
 from .pmars_tokens import OPCODES, P_SPACE_OPCODES, tokens_of
-from .pmars_values import (MOST_DECIMAL, ParserThere, Registers, is_read_alike, leaves_of,
-                           written)
+from .pmars_values import Registers, written
 
 DEEPEST_BLOCK = 8
 RESERVED = [*(word for word in OPCODES if word not in P_SPACE_OPCODES), "EQU", "FOR", "ROF"]
@@ -19,26 +20,25 @@ TOKENS = re.compile(r"(?:[A-Za-z_][A-Za-z0-9_]*|[0-9]+|[<>=!]=|&&|\|\||[.,#$@{}<
 HEAD_LABEL = re.compile(r"[ \t\r]*([A-Za-z_]\w*)((?:[ \t\r]*&[ \t\r]*[A-Za-z_]\w*)*)[ \t\r]*:?",
                         re.ASCII)
 
-
 ONE_COPY = "pMARS makes one copy of the block"
-# The visit of edits that are made only in a line that is always dropped.
+# The reading of changes that are made only in a line that is always dropped.
 DROPPED = -1
 
 
-class Edit:
+class Change:
     """A new text in place of the columns from `start` to `end` of the line with an index, or None
-    if the whole line goes. `visits` are the readings of the line that ask for it; without any it is
-    made in any case."""
+    if the whole line goes. `readings` are the readings of the line that ask for it; without any it
+    is made in any case."""
 
     def __init__(self, index, start, end, new, note):
         self.index, self.start, self.end, self.new, self.note = index, start, end, new, note
-        self.visits = set()
+        self.readings = set()
 
     def where(self):
         return self.index, self.start, self.end
 
     def overlaps(self, other):
-        """Returns whether two edits change the same columns. Several texts may be put in at one
+        """Returns whether two changes change the same columns. Several texts may be put in at one
         place."""
         if self.index != other.index:
             return False
@@ -59,44 +59,40 @@ class FoundBlock(NamedTuple):
 class Finder:
     """What is found in the lines of a text, each a `Marked`, while pMARS's reading goes on."""
 
-    def __init__(self, lines, core):
-        self.lines, self.core = lines, core
-        self.edits, self.visited, self.unknown, self.to_unroll = {}, collections.Counter(), [], []
+    def __init__(self, lines, rules):
+        self.lines, self.core, self.curline = lines, rules.core, Curline(rules)
+        self.changes, self.read_counts = {}, collections.Counter()
+        self.unknown, self.to_unroll = [], []
         self.blocks, self.tails, self.numbers = {}, {}, []
-        self.equs, self.uses, self.written_out = {}, collections.defaultdict(set), set()
-        self.inverted, self.dropped_lines = {}, set()
+        self.equs, self.uses, self.inverted = {}, collections.defaultdict(set), {}
 
-    def add(self, where, new, note, visit=None):
-        """Adds an edit. `where` is an index and two columns."""
+    def add(self, where, new, note, reading=None):
+        """Adds a change. `where` is an index and two columns."""
         new = Marked.new(new) if isinstance(new, str) else new
-        edit = self.edits.setdefault((*where, new and new.text), Edit(*where, new, note))
-        if visit is not None:
-            edit.visits.add(visit)
+        change = self.changes.setdefault((*where, new and new.text), Change(*where, new, note))
+        if reading is not None:
+            change.readings.add(reading)
 
     def word(self, index, root):
         """Returns what stands at a root."""
         return self.lines[index].text[slice(*root)]
 
-    def take_out(self, where, note, visit):
+    def take_out(self, where, note, reading):
         """Takes out a label, and the line if nothing else is on it."""
         index, start, end = where
         line = self.lines[index]
         end += line.text[end:end + 1] == ":"
         is_alone = not (line.text[:start] + line.text[end:]).strip()
         self.add((index, 0, len(line)) if is_alone else (index, start, end),
-                 None if is_alone else "", note, visit)
+                 None if is_alone else "", note, reading)
 
-    def comment_out(self, index, note, visit=None):
+    def comment_out(self, index, note, reading=None):
         """Makes a comment of a line."""
-        self.add((index, 0, 0), "; ", note, visit)
+        self.add((index, 0, 0), "; ", note, reading)
 
-    # While lines are read.
-
-    def visits(self, text, line, is_dropped):
-        if is_dropped:
-            self.dropped_lines.add(line.index)
-        else:
-            self.visited[line.index] += 1
+    def begins_line(self, text, line, is_dropped):
+        if not is_dropped:
+            self.read_counts[line.index] += 1
 
     def cannot(self, text, word):
         if (text.index, word) not in self.unknown:
@@ -110,34 +106,34 @@ class Finder:
         """Looks at an opcode: those of P-space are not known here. PIN alone does nothing."""
         if word == "PIN":
             self.add((text.index, root[0], root[0]), "; ",
-                     "PIN is a comment now, as there is no P-space", text.visit)
+                     "PIN is a comment now, as there is no P-space", text.reading)
         elif word in P_SPACE_OPCODES:
             self.cannot(text, word)
 
-    def given_name(self, text, piece, root, name):
+    def given_name(self, text, source, root, name):
         """Looks at a name that pMARS has from the start."""
         if name == "ROUNDS":
             self.cannot(text, name)
-        elif name == "PSPACESIZE" and piece.root:
-            self.write_out((text.index, *root), text.visit, piece.equ)
+        elif name == "PSPACESIZE" and source.root:
+            self.write_out((text.index, *root), text.reading, source.equ)
         elif name == "PSPACESIZE":
             value = text.names[name].lines[0].text
-            self.add((text.index, *root), value, f"{name} is {value} here", text.visit)
+            self.add((text.index, *root), value, f"{name} is {value} here", text.reading)
 
-    def dropped(self, line, change):
-        """Looks at a line of a dropped block. `change` is 1 if it begins a block, and -1 if it ends
+    def dropped(self, line, depth):
+        """Looks at a line of a dropped block. `depth` is 1 if it begins a block, and -1 if it ends
         one."""
         is_bad = TOKENS.fullmatch(line.text) is None or has_large_number(line.text)
         word = next((token for token in tokens_of(line.text)
-                     if token.text.upper() == ("FOR" if change > 0 else "ROF")), None)
+                     if token.text.upper() == ("FOR" if depth > 0 else "ROF")), None)
         note = "prose in a block without copies is a comment now"
-        if change == 0:
+        if depth == 0:
             if is_bad or word_here(line.text) in ("FOR", "ROF", "END"):
                 self.comment_out(line.index, note, DROPPED)
-        elif change > 0 and is_bad:
+        elif depth > 0 and is_bad:
             end = line.column + word.end
             self.add((line.index, end, end), " ;", note, DROPPED)
-        elif change < 0:
+        elif depth < 0:
             self.only_rof(line, word, line.text[:word.start].strip())
 
     def only_rof(self, line, rof, before):
@@ -155,34 +151,35 @@ class Finder:
         assertion."""
         self.numbers = []
 
-    def number(self, text, piece, root, what, value):
-        self.numbers.append((piece, root, what, value))
+    def number(self, text, source, root, what, value):
+        self.numbers.append((source, root, what, value))
 
     def write_numbers(self, text, chars, numbers):
         """Writes labels and CURLINE as numbers."""
-        for piece, root, what, value in numbers:
+        for source, root, what, value in numbers:
             word = self.word(text.index, root)
-            if piece.root:
+            new, note = str(value) if value >= 0 else f"({value})", f"{word} is {value} here"
+            if source.root:
                 new, note = chars.of_root(root).strip(), f"{word} is written out"
-            else:
-                new = str(value) if value >= 0 else f"({value})"
-                note = f"{word} is {value} here" if what == "label" else f"CURLINE is {value} here"
-            self.add((text.index, *root), new, note, text.visit)
+            elif what == "CURLINE" and not text.blocks:
+                new = self.curline.written(value)
+            self.add((text.index, *root), new, note, text.reading)
 
     def count(self, text, chars, node, registers):
         """Looks at the count of a block, in which no name of an instruction has a value here."""
         if not text.inside:
             self.write_numbers(text, chars, self.numbers)
-            self.expression((text.index, text.visit), chars, node, registers)
+            self.expression((text.index, text.reading), chars, node, registers)
 
     def assertion(self, text, chars, node, registers):
         """Looks at an assertion that holds. CURLINE has the same value here."""
         labels = [number for number in self.numbers if number[2] == "label"]
         self.write_numbers(text, chars, labels)
-        self.expression((text.index, text.visit), chars, node, registers)
+        self.expression((text.index, text.reading), chars, node, registers)
 
     def assertion_without_value(self, text):
-        self.comment_out(text.index, "the assertion has no value, and is a comment now", text.visit)
+        self.comment_out(text.index, "the assertion has no value, and is a comment now",
+                         text.reading)
 
     def block(self, text, block):
         """Keeps a block that is copied."""
@@ -193,35 +190,41 @@ class Finder:
         found = FoundBlock(head, counter.name if counter else "",
                            [label for label in block.labels if label.index == head], set())
         self.blocks.setdefault(head, found).counts.add(block.count)
+        self.curline.begins(text)
         if len(text.blocks) > DEEPEST_BLOCK:
             self.to_unroll.append(head)
+
+    def block_ends(self, text, block):
+        if not text.inside:
+            self.curline.ends(text, block)
 
     def counter(self, text, label):
         """Looks at the counter of a block, which may be on a line before."""
         if label.index != text.index and not text.inside:
             note = f"the counter {label.name} is on the line of its FOR now"
-            self.take_out((label.index, *label.root), note, label.visit)
-            self.add((text.index, 0, 0), f"{label.name} ", note, text.visit)
+            self.take_out((label.index, *label.root), note, label.reading)
+            self.add((text.index, 0, 0), f"{label.name} ", note, text.reading)
 
     def head_of(self, text, block):
         return text.lines[block.head].index
 
-    def end_of_block(self, text, piece, token):
+    def end_of_block(self, text, source, token):
         """Looks at a ROF: labels before it go after it, and words after it into a comment."""
-        if piece.root:
+        if source.root:
             return
         if text.blocks:
             self.tails[self.head_of(text, text.blocks[-1])] = text.index
-        start, end = piece.root_of(token.start, token.end)
-        labels = [label for label in text.labels if label.visit == text.visit]
-        if piece.text[token.end:].strip():
-            self.add((text.index, end, end), " ;", "what is after ROF is a comment now", text.visit)
+        start, end = source.root_of(token.start, token.end)
+        labels = [label for label in text.labels if label.reading == text.reading]
+        if source.text[token.end:].strip():
+            self.add((text.index, end, end), " ;", "what is after ROF is a comment now",
+                     text.reading)
         if labels:
             column, line = labels[0].root[0], self.lines[text.index]
             note = f"the label {labels[0].name} comes after ROF now"
-            self.add((text.index, column, start), "", note, text.visit)
+            self.add((text.index, column, start), "", note, text.reading)
             self.add((text.index, len(line), len(line)), "\n" + line[column:start].strip(), note,
-                     text.visit)
+                     text.reading)
 
     def missing_rof(self, text):
         """Ends at the end of the text the blocks that have no ROF."""
@@ -257,14 +260,14 @@ class Finder:
 
     # Names.
 
-    def repeated_label(self, text, piece, root):
+    def repeated_label(self, text, source, root):
         """Makes a comment of a line with a label that is there already, or takes it out if it is
         the copy of a line."""
         line = self.lines[text.index]
         is_copy = any(other.number() == line.number() for other in self.lines[:text.index])
         where = (text.index, 0, len(line)) if is_copy else (text.index, root[0], root[0])
         note = f"{self.word(text.index, root)} is a label already, so pMARS leaves this out"
-        self.add(where, None if is_copy else "; ", note, text.visit)
+        self.add(where, None if is_copy else "; ", note, text.reading)
 
     def text_of(self, known):
         """Returns what an EQU name stands for."""
@@ -272,23 +275,22 @@ class Finder:
                  for line in known.lines]
         return joined(parts, "\n        ")
 
-    def write_out(self, where, visit, known, new=None):
+    def write_out(self, where, reading, known, new=None):
         """Puts the text of an EQU in place of its name."""
         if known.is_given:
             return
         index, *root = where
-        self.written_out.add((known, *where))
         self.add(where, self.text_of(known) if new is None else new,
-                 f"{self.word(index, root)} is written out", visit)
+                 f"{self.word(index, root)} is written out", reading)
 
-    def equ_use(self, text, piece, known, use):
+    def equ_use(self, text, source, known, use):
         """Looks at the use of an EQU, which `cwtune` takes for a label if it begins an
         instruction."""
         root, is_first = use
-        outer = piece.equ or known
+        outer = source.equ or known
         self.uses[known].add((text.index, *root) if outer is known else None)
         if is_first or len(known.lines) > 1:
-            self.write_out((text.index, *root), text.visit, outer)
+            self.write_out((text.index, *root), text.reading, outer)
 
     def late_use(self, code, root, name, known):
         """Looks at the use of an EQU that comes later. Of several lines pMARS takes the first."""
@@ -297,10 +299,10 @@ class Finder:
         if len(known.lines) > 1:
             first = known.lines[0]
             new = self.lines[first.index][first.column:first.column + len(first.text)].strip()
-            self.write_out(where, code.visit, known, new)
+            self.write_out(where, code.reading, known, new)
 
-    def counter_in_equ(self, text, piece):
-        self.write_out((text.index, *piece.root), text.visit, piece.equ)
+    def counter_in_equ(self, text, source):
+        self.write_out((text.index, *source.root), text.reading, source.equ)
 
     def equ(self, text, known, labels):
         """Looks at an EQU. One with several names becomes several."""
@@ -315,58 +317,58 @@ class Finder:
     def own_equ(self, text, known, label):
         """Gives one of the names of an EQU a line of its own."""
         note = f"{label.name} has an EQU of its own"
-        self.take_out((label.index, *label.root), note, label.visit)
+        self.take_out((label.index, *label.root), note, label.reading)
         if len(known.lines) == 1:
             line = self.lines[text.index]
             self.add((text.index, len(line), len(line)),
-                     f"\n{label.name} EQU " + self.text_of(known), note, text.visit)
+                     f"\n{label.name} EQU " + self.text_of(known), note, text.reading)
 
-    def label_again(self, text, piece, root):
+    def label_again(self, text, source, root):
         """Takes out a label that is pending already."""
-        if not piece.root:
+        if not source.root:
             self.take_out((text.index, *root),
-                          f"{self.word(text.index, root)} is a label of this already", text.visit)
+                          f"{self.word(text.index, root)} is a label of this already", text.reading)
 
     def stray_equ(self, text):
-        self.comment_out(text.index, "an EQU without a name is a comment now", text.visit)
+        self.comment_out(text.index, "an EQU without a name is a comment now", text.reading)
 
-    def join(self, text, piece, root, name, counters):
+    def join(self, text, source, root, name, counters):
         """Looks at a name with counters, of which the outer ones have to come first here."""
-        if piece.root:
-            self.write_out((text.index, *piece.root), text.visit, piece.equ)
+        if source.root:
+            self.write_out((text.index, *source.root), text.reading, source.equ)
             return
         order = [block.counter.name for block in text.blocks if block.counter]
         sorted_counters = sorted(counters, key=order.index)
         if sorted_counters != counters:
             base = self.word(text.index, root).partition("&")[0]
             self.inverted.setdefault((text.index, *root), []).append(
-                (text.visit, name, "&".join([base, *sorted_counters])))
+                (text.reading, name, "&".join([base, *sorted_counters])))
 
     # While instructions are made.
 
     def expression(self, where, chars, node, registers, others=frozenset()):
         """Writes an expression otherwise if `cwtune` would give it another value. `others` are the
         roots of what is beside it."""
-        index, visit = where
+        index, reading = where
         extents = extents_of(chars)
-        if not needs_change(chars.text, node, extents):
+        if not is_other_here(chars.text, node, extents):
             return
         shared = [root for root in extents if root in others]
         if shared:
-            self.write_out_root(index, visit, shared[0])
+            self.write_out_root(index, reading, shared[0])
             return
         registers = Registers(registers)
         text = written(node, lambda part: self.leaf_text(index, chars, part, extents, registers))
         start, end = min(root[0] for root in extents), max(root[1] for root in extents)
         self.add((index, start, end), text,
-                 f"{self.word(index, (start, end)).strip()} is written as {text}", visit)
+                 f"{self.word(index, (start, end)).strip()} is written as {text}", reading)
 
-    def write_out_root(self, index, visit, root):
+    def write_out_root(self, index, reading, root):
         """Writes out the EQU that stands at a root."""
         name = self.word(index, root)
         for known in self.equs:
             if (index, *root) in self.uses[known]:
-                self.write_out((index, *root), visit, known)
+                self.write_out((index, *root), reading, known)
                 return
         self.unknown.append((index, name))
 
@@ -389,16 +391,16 @@ class Finder:
         other = instruction.a if operand is instruction.b else instruction.b
         others = instruction.head_roots | other.roots() | {operand.mode_root}
         code = instruction.code
-        self.expression((code.index, code.visit), operand.chars, node, registers, others)
+        self.expression((code.index, code.reading), operand.chars, node, registers, others)
 
     def lone_operand(self, instruction):
         """Writes the A-operand of a DAT with one operand."""
         code, start = instruction.code, min(instruction.a.roots())
         if start in instruction.head_roots:
-            self.write_out_root(code.index, code.visit, start)
+            self.write_out_root(code.index, code.reading, start)
         else:
             self.add((code.index, start[0], start[0]), "#0, ",
-                     "the A-operand of this DAT is #0 for pMARS", code.visit)
+                     "the A-operand of this DAT is #0 for pMARS", code.reading)
 
     def instruction(self, instruction):
         """Writes 0 after a mode without a number."""
@@ -411,37 +413,30 @@ class Finder:
         """Writes 0 after the mode of an operand. `others` are the roots of what is beside it."""
         code, end = instruction.code, operand.mode_root[1]
         if operand.mode_root in others:
-            self.write_out_root(code.index, code.visit, operand.mode_root)
+            self.write_out_root(code.index, code.reading, operand.mode_root)
             return
         is_sign = self.word(code.index, operand.mode_root) == operand.mode
         self.add((code.index, end, end), "0" if is_sign else " 0",
-                 f"{operand.mode} without a number is {operand.mode}0", code.visit)
+                 f"{operand.mode} without a number is {operand.mode}0", code.reading)
 
     def org(self, instruction):
         if not instruction.b.chars.text.strip():
             end = instruction.root[1]
             self.add((instruction.code.index, end, end), " 0", "ORG without an operand is ORG 0",
-                     instruction.code.visit)
+                     instruction.code.reading)
 
     def end_over_org(self, instructions):
         for instruction in instructions:
             start = instruction.root[0]
             self.add((instruction.code.index, start, start), "; ",
-                     "for pMARS the start is that of END", instruction.code.visit)
+                     "for pMARS the start is that of END", instruction.code.reading)
 
     def start_outside(self, instruction):
         roots = extents_of(instruction.b.chars)
         start, end = min(root[0] for root in roots), max(root[1] for root in roots)
         self.add((instruction.code.index, start, end), "0",
-                 "the start is outside of the code, which pMARS reads as 0", instruction.code.visit)
-
-
-def is_large(text):
-    return text.isdecimal() and int(text) > MOST_DECIMAL
-
-
-def has_large_number(text):
-    return any(is_large(token.text) for token in tokens_of(text))
+                 "the start is outside of the code, which pMARS reads as 0",
+                 instruction.code.reading)
 
 
 def word_here(text):
@@ -452,26 +447,3 @@ def word_here(text):
             return match[1].upper()
         at = match.end()
     return ""
-
-
-def can_stay(text):
-    """Returns whether an expression that is part of another one may stay as it is."""
-    return not needs_change(text, ParserThere(text).whole(), {})
-
-
-def extents_of(chars):
-    """Returns for each root its first character, and the end of its last one, without blanks."""
-    extents = {}
-    for at, (char, root) in enumerate(zip(chars.text, chars.roots)):
-        if char != " " and root:
-            extents[root] = (extents.get(root, (at,))[0], at + 1)
-    return extents
-
-
-def needs_change(text, node, extents):
-    """Returns whether `cwtune` refuses an expression, or gives it another value."""
-    leaves = leaves_of(node)
-    starts = {start for start, _ in extents.values()}
-    return (not is_read_alike(text, node)
-            or any(leaf.kind != "number" or is_large(text[leaf.start:leaf.end])
-                   or starts & set(range(leaf.start + 1, leaf.end)) for leaf in leaves))
