@@ -7,6 +7,7 @@ import re
 from . import slots
 from .adapt import adapt, read_text
 from .endings import Fault
+from .grid import is_range_line
 from .program import rules_of
 
 
@@ -31,7 +32,7 @@ def edits_of(args, template, setting, adapted):
     if len(own) != len(texts):
         raise other_text(args)
     for number, ((kept, of_line), text) in enumerate(zip(own, texts), 1):
-        if not of_line and kept != text:
+        if not of_line and kept != text and not is_range_line(kept.encode("latin-1")):
             raise other_text(args)
         for slot, (start, end) in spans(args, kept, of_line or (), text).items():
             new = slots.text_in(kept, slot, slot.text_of(value_of[slot.name]))

@@ -149,7 +149,7 @@ class Study:
     def write_winner(self, setting, template):
         """Writes the text of the winner."""
         is_adapted = self.inputs.original != self.inputs.warrior
-        original = ["--original=original.red"] * (is_adapted and bool(self.args.ranges))
+        original = ["--original=original.red"] * is_adapted
         words = self.author_words("cwtune-warrior", *original, f"--setting={setting}", template)
         self.folder.run(words, "winner.red")
 
