@@ -163,6 +163,8 @@ def grid_of(plot, count, **sharing):
 def draw_maps(plot, totals, x, y):
     """Draws a map over the constants x and y for each choice of the others."""
     names, ranges = totals.template.names, totals.template.ranges
+    shown = [[totals.template.shown_value(name, value) for value in values]
+             for name, values in zip(names, ranges)]
     others = [constant for constant in range(len(names)) if constant not in (x, y)]
     total_maps, cap_maps = maps_of(totals, x, y, others)
     figure, axes_of_maps, grid = grid_of(plot, len(total_maps))
@@ -175,9 +177,10 @@ def draw_maps(plot, totals, x, y):
             axes.imshow(cap_map, **greys, **MAP_SCALE)
         image = axes.imshow(total_map, cmap="viridis", vmin=min(numbers), vmax=max(numbers),
                             **MAP_SCALE)
-        label_ticks(axes.set_xticks, ranges[x], most_across(ranges[x], grid.shape[1]))
-        label_ticks(axes.set_yticks, ranges[y], 8)
-        axes.set_title(" ".join(f"{names[constant]}={value}"
+        label_ticks(axes.set_xticks, shown[x], most_across(shown[x], grid.shape[1]))
+        label_ticks(axes.set_yticks, shown[y], 8)
+        axes.set_title(" ".join(f"{names[constant]}="
+                                f"{totals.template.shown_value(names[constant], value)}"
                                 for constant, value in zip(others, choice)), fontsize=9)
         axes.set_xlabel(names[x])
         axes.set_ylabel(names[y])
