@@ -5,7 +5,7 @@ from .adapt_blocks import innermost, unrolled
 from .adapt_changes import DROPPED, ONE_COPY, TOKENS, Change
 from .marked import Marked
 from .pmars_text import is_head
-from .pmars_tokens import code_of, token_at, tokens_of
+from .pmars_tokens import code_of, comment_sign, token_at, tokens_of
 
 HEAD_HERE = ";redcode"
 # A text of more copies is refused by `cwtune`.
@@ -45,7 +45,8 @@ def comments_of_equs(finder, chosen):
         is_bad = any(TOKENS.fullmatch(line.text) is None for line in known.lines)
         if uses <= places and (uses or len(indices) > 1 or is_bad):
             lines |= dict.fromkeys(indices)
-    return [Change(index, 0, 0, Marked.new("; "), "this EQU is a comment now") for index in lines]
+    return [Change(index, 0, 0, Marked.new(comment_sign(finder.lines[index].text)),
+                   "this EQU is a comment now") for index in lines]
 
 
 def blanks(finder):
