@@ -20,7 +20,7 @@ vary and warrior. Several commands use
 To adapt a text, pmars_tokens, pmars_values, pmars_text and pmars_code read it as pMARS does and make
 its load file. adapt_changes collects meanwhile what has to be written otherwise, expressions by
 adapt_values and CURLINE by adapt_counts. adapt_passes and adapt_blocks write it, in lines that know
-where they come from (marked), and pmars_program runs pMARS itself.
+where they come from (traced), and pmars_program runs pMARS itself.
 
 A spread has its options in spread_words. spread_parts and spread_shares say what its jobs are, in a
 folder as spread_folder makes it. spread_jobs runs them here, and spread_hosts, with spread_job.sh,

@@ -8,7 +8,7 @@ from typing import NamedTuple
 
 from .adapt_counts import Curline
 from .adapt_values import can_stay, extents_of, has_large_number, is_large, is_other_here
-from .marked import Marked, joined
+from .traced import Traced, joined
 from .pmars_tokens import OPCODES, P_SPACE_OPCODES, comment_sign, tokens_of
 from .pmars_values import Registers, written
 
@@ -57,7 +57,7 @@ class FoundBlock(NamedTuple):
 
 
 class Finder:
-    """What is found in the lines of a text, each a `Marked`, while pMARS's reading goes on."""
+    """What is found in the lines of a text, each a `Traced`, while pMARS's reading goes on."""
 
     def __init__(self, lines, rules):
         self.lines, self.core, self.curline = lines, rules.core, Curline(rules)
@@ -68,7 +68,7 @@ class Finder:
 
     def add(self, where, new, note, reading=None):
         """Adds a change. `where` is an index and two columns."""
-        new = Marked.new(new) if isinstance(new, str) else new
+        new = Traced.new(new) if isinstance(new, str) else new
         change = self.changes.setdefault((*where, new and new.text), Change(*where, new, note))
         if reading is not None:
             change.readings.add(reading)
