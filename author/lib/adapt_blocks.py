@@ -1,6 +1,6 @@
 """Unrolls a FOR block of a text."""
-from .traced import Traced, joined
 from .pmars_tokens import code_of, tokens_of
+from .traced import Traced, joined
 
 
 def copy_of(line, counter, value, has_comment):

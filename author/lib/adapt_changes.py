@@ -8,9 +8,9 @@ from typing import NamedTuple
 
 from .adapt_counts import Curline
 from .adapt_values import can_stay, extents_of, has_large_number, is_large, is_other_here
-from .traced import Traced, joined
 from .pmars_tokens import OPCODES, P_SPACE_OPCODES, comment_sign, tokens_of
 from .pmars_values import Registers, written
+from .traced import Traced, joined
 
 DEEPEST_BLOCK = 8
 RESERVED = [*(word for word in OPCODES if word not in P_SPACE_OPCODES), "EQU", "FOR", "ROF"]

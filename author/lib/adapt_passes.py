@@ -3,9 +3,9 @@ import collections, re
 
 from .adapt_blocks import innermost, unrolled
 from .adapt_changes import DROPPED, ONE_COPY, TOKENS, Change
-from .traced import Traced
 from .pmars_text import is_head
 from .pmars_tokens import code_of, comment_sign, token_at, tokens_of
+from .traced import Traced
 
 HEAD_HERE = ";redcode"
 # A text of more copies is refused by `cwtune`.
@@ -82,7 +82,7 @@ def passed(finder):
     chosen = without_overlaps([*chosen, *comments_of_equs(finder, chosen), *blanks(finder)])
     if not chosen:
         return unrolled_pass(finder, [*finder.to_unroll, *left])
-    of_line, lines = collections.defaultdict(list), []
+    of_line = collections.defaultdict(list)
     for change in chosen:
         of_line[change.index].append(change)
     lines = [new for index, line in enumerate(finder.lines)
