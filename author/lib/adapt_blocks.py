@@ -1,12 +1,12 @@
 """Unrolls a FOR block of a text."""
-from .marked import Marked, joined
 from .pmars_tokens import code_of, tokens_of
+from .traced import Traced, joined
 
 
 def copy_of(line, counter, value, has_comment):
     """Returns a line of a copy of a block, in which the counter has a value."""
     code = code_of(line.text)
-    made, at, before = Marked.new(""), 0, ""
+    made, at, before = Traced.new(""), 0, ""
     for token in tokens_of(code):
         if token.text == counter and before != ".":
             is_joined = before == "&" and code[token.start - 1:token.start] == "&"

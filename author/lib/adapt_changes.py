@@ -8,9 +8,9 @@ from typing import NamedTuple
 
 from .adapt_counts import Curline
 from .adapt_values import can_stay, extents_of, has_large_number, is_large, is_other_here
-from .marked import Marked, joined
-from .pmars_tokens import OPCODES, P_SPACE_OPCODES, tokens_of
+from .pmars_tokens import OPCODES, P_SPACE_OPCODES, comment_sign, tokens_of
 from .pmars_values import Registers, written
+from .traced import Traced, joined
 
 DEEPEST_BLOCK = 8
 RESERVED = [*(word for word in OPCODES if word not in P_SPACE_OPCODES), "EQU", "FOR", "ROF"]
@@ -57,7 +57,7 @@ class FoundBlock(NamedTuple):
 
 
 class Finder:
-    """What is found in the lines of a text, each a `Marked`, while pMARS's reading goes on."""
+    """What is found in the lines of a text, each a `Traced`, while pMARS's reading goes on."""
 
     def __init__(self, lines, rules):
         self.lines, self.core, self.curline = lines, rules.core, Curline(rules)
@@ -68,7 +68,7 @@ class Finder:
 
     def add(self, where, new, note, reading=None):
         """Adds a change. `where` is an index and two columns."""
-        new = Marked.new(new) if isinstance(new, str) else new
+        new = Traced.new(new) if isinstance(new, str) else new
         change = self.changes.setdefault((*where, new and new.text), Change(*where, new, note))
         if reading is not None:
             change.readings.add(reading)
@@ -88,7 +88,12 @@ class Finder:
 
     def comment_out(self, index, note, reading=None):
         """Makes a comment of a line."""
-        self.add((index, 0, 0), "; ", note, reading)
+        self.comment_from((index, 0), note, reading)
+
+    def comment_from(self, where, note, reading):
+        """Makes a comment of a line from a column on."""
+        index, start = where
+        self.add((index, start, start), comment_sign(self.lines[index].text[start:]), note, reading)
 
     def begins_line(self, text, line, is_dropped):
         if not is_dropped:
@@ -105,8 +110,8 @@ class Finder:
     def opcode(self, text, word, root):
         """Looks at an opcode: those of P-space are not known here. PIN alone does nothing."""
         if word == "PIN":
-            self.add((text.index, root[0], root[0]), "; ",
-                     "PIN is a comment now, as there is no P-space", text.reading)
+            self.comment_from((text.index, root[0]),
+                              "PIN is a comment now, as there is no P-space", text.reading)
         elif word in P_SPACE_OPCODES:
             self.cannot(text, word)
 
@@ -265,9 +270,11 @@ class Finder:
         the copy of a line."""
         line = self.lines[text.index]
         is_copy = any(other.number() == line.number() for other in self.lines[:text.index])
-        where = (text.index, 0, len(line)) if is_copy else (text.index, root[0], root[0])
         note = f"{self.word(text.index, root)} is a label already, so pMARS leaves this out"
-        self.add(where, None if is_copy else "; ", note, text.reading)
+        if is_copy:
+            self.add((text.index, 0, len(line)), None, note, text.reading)
+        else:
+            self.comment_from((text.index, root[0]), note, text.reading)
 
     def text_of(self, known):
         """Returns what an EQU name stands for."""
@@ -427,9 +434,8 @@ class Finder:
 
     def end_over_org(self, instructions):
         for instruction in instructions:
-            start = instruction.root[0]
-            self.add((instruction.code.index, start, start), "; ",
-                     "for pMARS the start is that of END", instruction.code.reading)
+            self.comment_from((instruction.code.index, instruction.root[0]),
+                              "for pMARS the start is that of END", instruction.code.reading)
 
     def start_outside(self, instruction):
         roots = extents_of(instruction.b.chars)

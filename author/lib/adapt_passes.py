@@ -3,9 +3,9 @@ import collections, re
 
 from .adapt_blocks import innermost, unrolled
 from .adapt_changes import DROPPED, ONE_COPY, TOKENS, Change
-from .marked import Marked
 from .pmars_text import is_head
-from .pmars_tokens import code_of, token_at, tokens_of
+from .pmars_tokens import code_of, comment_sign, token_at, tokens_of
+from .traced import Traced
 
 HEAD_HERE = ";redcode"
 # A text of more copies is refused by `cwtune`.
@@ -45,14 +45,15 @@ def comments_of_equs(finder, chosen):
         is_bad = any(TOKENS.fullmatch(line.text) is None for line in known.lines)
         if uses <= places and (uses or len(indices) > 1 or is_bad):
             lines |= dict.fromkeys(indices)
-    return [Change(index, 0, 0, Marked.new("; "), "this EQU is a comment now") for index in lines]
+    return [Change(index, 0, 0, Traced.new(comment_sign(finder.lines[index].text)),
+                   "this EQU is a comment now") for index in lines]
 
 
 def blanks(finder):
     """Returns changes that make a blank of each form feed in code."""
     places = [(index, match.span()) for index, line in enumerate(finder.lines)
               for match in re.finditer("[\f\v]", code_of(line.text))]
-    return [Change(index, *span, Marked.new(" "), "a form feed is a blank now")
+    return [Change(index, *span, Traced.new(" "), "a form feed is a blank now")
             for index, span in places]
 
 
@@ -68,7 +69,7 @@ def changes_of_joins(finder):
             finder.to_unroll.append(index)
             continue
         new = found[0][2]
-        yield Change(index, start, end, Marked.new(new), f"{new} has its outer counter first now")
+        yield Change(index, start, end, Traced.new(new), f"{new} has its outer counter first now")
 
 
 def passed(finder):
@@ -81,7 +82,7 @@ def passed(finder):
     chosen = without_overlaps([*chosen, *comments_of_equs(finder, chosen), *blanks(finder)])
     if not chosen:
         return unrolled_pass(finder, [*finder.to_unroll, *left])
-    of_line, lines = collections.defaultdict(list), []
+    of_line = collections.defaultdict(list)
     for change in chosen:
         of_line[change.index].append(change)
     lines = [new for index, line in enumerate(finder.lines)
@@ -152,7 +153,7 @@ def with_heads(lines):
         notes.append((lines[before].number(), ";redcode begins the line now"))
     if len(heads) > 1 and any(token_at(line.text, 0).kind not in ("", "comment")
                               for line in lines[heads[1]:]):
-        lines.insert(heads[1], Marked.new("        END"))
+        lines.insert(heads[1], Traced.new("        END"))
         notes.append((lines[heads[1] + 1].number(),
                       "a second ;redcode line ends the warrior, so END is before it"))
     return lines, notes

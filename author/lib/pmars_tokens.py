@@ -12,6 +12,9 @@ OPCODES = ("MOV ADD SUB MUL DIV MOD JMZ JMN DJN CMP SLT SPL DAT JMP SEQ SNE NOP 
 PSEUDO_OPCODES = ["ORG", "END", "PIN"]
 P_SPACE_OPCODES = ["LDP", "STP", "PIN"]
 MODIFIERS = ["A", "B", "AB", "BA", "F", "X", "I"]
+# The words after a semicolon by which pMARS and hills take a comment for more.
+COMMENT_WORDS = ("REDCODE NAME AUTHOR DATE VERSION ASSERT STRATEGY KILL PASSWORD URL DEBUG TRACE "
+                 "BREAK").split()
 # The kinds of tokens that are one sign.
 KIND_OF_SIGN = {**dict.fromkeys(MODES, "mode"), **dict.fromkeys(SIGNS, "sign"), "&": "join",
                 ";": "comment", ",": "comma", ".": "dot"}
@@ -57,6 +60,11 @@ def tokens_of(text, start=0):
     while (token := token_at(text, start)).kind:
         yield token
         start = token.end
+
+
+def comment_sign(text):
+    """Returns what makes a text a comment that says nothing to pMARS."""
+    return ";; " if token_at(text, 0).text.upper() in COMMENT_WORDS else "; "
 
 
 def code_of(text):

@@ -197,8 +197,11 @@ class ParserHere(Parser):
 
 
 def number_at(text, node):
-    """Returns the number of a leaf, as `sscanf` of C reads it."""
-    return min(int(text[node.start:node.end][:LONGEST_NUMBER + 1]), (1 << 63) - 1)
+    """Returns the number of a leaf, as `sscanf` of C reads it. pMARS has no room for a longer
+    one."""
+    if node.end - node.start > LONGEST_NUMBER:
+        raise AnyValue(f"a number of more than {LONGEST_NUMBER} digits")
+    return min(int(text[node.start:node.end]), (1 << 63) - 1)
 
 
 class Registers(dict):

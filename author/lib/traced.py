@@ -9,7 +9,7 @@ class Place(NamedTuple):
     column: int
 
 
-class Marked:
+class Traced:
     """A text, and for each of its characters the place in the original, or None if it is new."""
 
     def __init__(self, text, places):
@@ -26,14 +26,14 @@ class Marked:
         return cls(text, [None] * len(text))
 
     def __add__(self, other):
-        other = Marked.new(other) if isinstance(other, str) else other
-        return Marked(self.text + other.text, self.places + other.places)
+        other = Traced.new(other) if isinstance(other, str) else other
+        return Traced(self.text + other.text, self.places + other.places)
 
     def __radd__(self, text):
-        return Marked.new(text) + self
+        return Traced.new(text) + self
 
     def __getitem__(self, where):
-        return Marked(self.text[where], self.places[where])
+        return Traced(self.text[where], self.places[where])
 
     def __len__(self):
         return len(self.text)
