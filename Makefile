@@ -10,7 +10,7 @@ help:
 	@awk '/^# /{s = s substr($$0, 2)} /^[a-z]+:/{sub(/:.*/, ""); sub(/\. .*/, ".", s); \
 	    printf "%-10s%s\n", $$0, s} !/^#/{s = ""}' Makefile
 
-# Tunes the example template within two minutes. A first look, with a quick build that is not
+# Tunes the example template in about two minutes. A first look, with a quick build that is not
 # proved.
 look:
 	@sh examples/look.sh
@@ -66,18 +66,23 @@ compare: build
 pmars:
 	@sh pmars/pmars.sh
 
+# A program that was built before, instead of one that is built and proved here: BUILT=FILE
+# DIGEST=SHA256, and PROVED=FILE of its release if there is one.
+BEFORE = $(BUILT:%=--built %) $(DIGEST:%=--digest %) $(PROVED:%=--proved %)
+
 # Packs the release into dist/. It has the proved program with its manual pages, the commands,
 # examples and documents.
-dist: build
-	@$(PYTHON) release.dist tar dist
+dist: $(if $(BUILT),,build)
+	@$(PYTHON) release.dist tar dist $(BEFORE)
 
-# Makes a Debian package of the release in dist/.
-deb: build
-	@$(PYTHON) release.dist deb dist
+# Makes a Debian package of the release in dist/. BUILT=FILE DIGEST=SHA256 takes a program that was
+# built before, and the package says that it was not proved here, or what PROVED=FILE says.
+deb: $(if $(BUILT),,build)
+	@$(PYTHON) release.dist deb dist $(BEFORE)
 
 # Puts the release below PREFIX, by default /usr/local.
-install: build
-	@$(PYTHON) release.dist install $(PREFIX)
+install: $(if $(BUILT),,build)
+	@$(PYTHON) release.dist install $(PREFIX) $(BEFORE)
 
 # Removes what `make install` put below PREFIX.
 uninstall:

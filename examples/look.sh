@@ -8,7 +8,7 @@ here=$(cd "$(dirname "$0")" && pwd)
 # shellcheck source=examples/opponents.sh
 . "$here/opponents.sh"
 cycles=100
-note="not proved: a quick build for a first look; \`make demo\` proves the program and builds it"
+note="a first look: the build is not proved, and fights of $cycles cycles say nothing of a warrior"
 
 echo "$note"
 echo "building, and tuning examples/tuning/stone.red in fights of $cycles cycles .."
@@ -27,5 +27,7 @@ grep -E '^(vectors|candidates|best|constants|total|fights) ' "$log"
 if [ "$status" -ne 0 ]; then
     tail -n 20 "$log" >&2
 fi
+echo "in whole fights, by \`make demo\`, which proves the program and builds it:"
+cat "$here/tuning/report.txt"
 echo "$note"
 exit "$status"

@@ -3,15 +3,18 @@
 Warriors are random ones and those of the repository, in series of ten fights: the positions and
 first movers are those of `pmars -F`, and the wins, ties and losses have to be the same. Texts are
 random ones and those of the repository: the instructions and the start have to be those of
-`pmars -r 0`. Then the differences of known.py (docs/PMARS.md) are shown. A fight that differs is
-printed as two warriors, cut as short as they still differ, and two commands. The exit status is 1
-if something else differs, or if a known difference no longer shows.
+`pmars -r 0`. Then the differences of known.py (docs/PMARS.md) are shown, and what `cwtune-adapt`
+makes of texts is compared with the listings of the originals. A fight that differs is printed as
+two warriors, cut as short as they still differ, and two commands. The exit status is 1 if something
+else differs, or if a known difference no longer shows.
 
 PMARS is a server build of pMARS 0.9.2; `make pmars` builds one, and prints its path.
 """
 import itertools, pathlib, random, sys, tempfile, time
 
-from author.lib.endings import run_tool
+from author.lib import pmars_program
+from author.lib.adapt import Unwritable, adapt
+from author.lib.endings import Fault, run_tool
 from author.lib.program import Rules, program_of, run_program
 from author.lib.words import add_program, module_parser, number_from
 
@@ -20,6 +23,7 @@ from .known import FIGHTS, RULES, TEXTS, WAITS
 from .random_warriors import Text, random_load
 
 ROOT = pathlib.Path(__file__).resolve().parent.parent
+ADAPTED = ROOT / "author/tests/redcode"
 ROUNDS = 10
 SMALL = [Rules(80, 640, 8, 12, 12), Rules(101, 500, 64, 12, 20), Rules(800, 4000, 800, 20, 20),
          Rules(8192, 3000, 4, 12, 100)]
@@ -167,6 +171,24 @@ def compare_texts(programs, dice, count, progress):
     return wrong
 
 
+def compare_adapted(programs):
+    """Adapts the known texts and those of author/tests/redcode, but for those with P-space and
+    ROUNDS. Returns of how many pMARS lists something else for the original."""
+    texts = {known.name: known.text.encode("latin-1") for known in TEXTS}
+    texts |= {path.name: path.read_bytes() for path in sorted(ADAPTED.glob("*.red"))}
+    wrong = 0
+    for name, text in texts.items():
+        try:
+            adapted = adapt(name, text, Rules(), programs.cwtune)
+            pmars_program.refuse_other(programs.pmars, name, text, Rules(), adapted.load_file)
+        except Unwritable:
+            continue
+        except Fault as fault:
+            wrong += 1
+            print(fault)
+    return wrong
+
+
 def show_fights(programs):
     """Plays the fights that are known to differ. Returns how many came otherwise than is known."""
     wrong = 0
@@ -216,7 +238,7 @@ def main():
             wrong += compare_texts(programs, dice, asked.texts, progress)
         finally:
             progress.clear()
-        wrong += show_fights(programs) + show_texts(programs)
+        wrong += show_fights(programs) + show_texts(programs) + compare_adapted(programs)
     print(f"seed {asked.seed}: {progress.fights} fights, {progress.texts} texts, "
           f"{len(FIGHTS) + len(TEXTS)} known differences: {wrong} unexpected")
     return 1 if wrong else 0

@@ -1,9 +1,13 @@
-"""Packs a proved build of `cwtune` for machines without the kit, installs it, or removes it.
+"""Packs `cwtune` for machines without the kit, installs it, or removes it.
 
 A release has the program and the commands for authors, their manual pages and completions for bash,
 zsh and fish, examples and documents, the licences, what was proved with which kit, and checksums.
+By default the program is the one that is built here, each crate of which has to be proved. --built
+takes one that was built before, if it has the digest; then nothing is proved, and the release says
+so, unless --proved gives the file PROVED of a release with this program.
 """
 import gzip, hashlib, io, pathlib, re, shutil, subprocess, tarfile, tempfile
+from typing import NamedTuple
 
 from author.lib.endings import Fault, run_tool
 from author.lib.program import BUILT
@@ -26,7 +30,7 @@ LEFT_OUT = shutil.ignore_patterns("tests", "look.sh", "__pycache__")
 TAR_README = """cwtune tunes Core War warriors. Begin with share/doc/cwtune/README.md.
 
     sha256sum --check --quiet SHA256SUMS    checks the files
-    share/doc/cwtune/PROVED                 says what was proved, and with which kit
+    share/doc/cwtune/PROVED                 says what was proved, with which kit, or that nothing was
 """
 DEBIAN_CONTROL = """Package: cwtune
 Version: {version}
@@ -37,13 +41,21 @@ Suggests: parallel, python3-matplotlib
 Section: games
 Priority: optional
 Description: tunes Core War warriors, with a certificate of the answer
- Finds the values of a warrior's constants that total the most points against given opponents, and
+ Finds the values of a warrior's constants that make the most points against given opponents, and
  writes a certificate that a separate checker accepts exactly if the answer is right.
+ {proof}
 """
 # Python leaves this beside the commands' modules. dpkg does not know of it, so a package removes it
 # itself.
 CACHE = SHARE / "author/lib/__pycache__"
 DEBIAN_PRERM = f"#!/bin/sh\nrm -rf /usr/{CACHE}\n"
+
+
+class Build(NamedTuple):
+    """A program that is packed, and the text of PROVED, which says what was proved of it."""
+
+    path: pathlib.Path
+    proof: str
 
 
 def run(*words):
@@ -57,7 +69,7 @@ def run(*words):
 
 def proved():
     """Returns what was proved: the kit, and a line for each crate from its check."""
-    lines = [f"Proved with {run('rt', 'version').strip()}", ""]
+    lines = [f"Proved with {run('rt', 'version').strip()}", f"program: SHA-256 {sha256(BUILT)}", ""]
     for line in (ROOT / "crates.txt").read_text().splitlines():
         crate = line.partition(":")[0]
         if line[0] == "#" or crate.endswith("_tests"):
@@ -69,6 +81,29 @@ def proved():
             raise Fault(f"{crate} is not proved: run `make build`", 3)
         lines.append(f"{crate}: {found[-1]}")
     return "\n".join(lines) + "\n"
+
+
+def sha256(path):
+    return hashlib.sha256(path.read_bytes()).hexdigest()
+
+
+def build_of(built, digest, proof):
+    """Returns what is packed: the program built here, or the one of --built, which has to have the
+    digest. `proof` is the path of --proved, which has to be about this program."""
+    if not (built or BUILT).is_file():
+        raise Fault("the program is not built (`make build` builds it)" if not built
+                    else f"no program {built}", 2)
+    if not built:
+        return Build(BUILT, proved())
+    if sha256(built) != digest:
+        raise Fault(f"{built} has the SHA-256 digest {sha256(built)}, and --digest is another", 2)
+    if not proof:
+        return Build(built, f"Not proved here: the program was built before.\n"
+                            f"program: SHA-256 {digest}\n")
+    text = proof.read_text("utf-8", "replace")
+    if f"program: SHA-256 {digest}\n" not in text:
+        raise Fault(f"{proof} is not about the program with this digest", 2)
+    return Build(built, text)
 
 
 def kit():
@@ -100,14 +135,14 @@ def manual_files(zsh):
             yield name, place.format(command, zsh=zsh)
 
 
-def stage(tree, zsh=ZSH):
+def stage(tree, build, zsh=ZSH):
     """Lays out the release in a folder, as below /usr or /usr/local. Returns its version."""
-    version = manual.version_of(str(BUILT))
+    version = manual.version_of(str(build.path))
     for folder in ["bin", DOC, SHARE]:
         (tree / folder).mkdir(parents=True)
-    shutil.copy(BUILT, tree / "bin/cwtune")
+    shutil.copy(build.path, tree / "bin/cwtune")
     with tempfile.TemporaryDirectory() as made:
-        manual.write(str(BUILT), pathlib.Path(made))
+        manual.write(str(build.path), pathlib.Path(made))
         for name, place in manual_files(zsh):
             (tree / place).parent.mkdir(parents=True, exist_ok=True)
             shutil.copy(pathlib.Path(made, name), tree / place)
@@ -119,7 +154,7 @@ def stage(tree, zsh=ZSH):
     for name in ["README.md", "CHANGELOG.md", "LICENSE"]:
         shutil.copy(ROOT / name, tree / DOC / name)
     (tree / DOC / "LICENSES-of-libraries").write_text(licences(kit() / "rattle"))
-    (tree / DOC / "PROVED").write_text(proved())
+    (tree / DOC / "PROVED").write_text(build.proof)
     return version
 
 
@@ -134,11 +169,11 @@ def checksums(tree):
                    for path in files_of(tree))
 
 
-def pack(folder):
+def pack(folder, build):
     """Packs the release as a tar file, with a file of its checksum. Returns the paths."""
     with tempfile.TemporaryDirectory() as name:
         tree = pathlib.Path(name, "tree")
-        version = stage(tree)
+        version = stage(tree, build)
         (tree / "README").write_text(TAR_README)
         (tree / "SHA256SUMS").write_text(checksums(tree))
         title = f"cwtune-{version}-linux-x86_64"
@@ -163,11 +198,11 @@ def without_maker(entry):
     return entry
 
 
-def debian(folder):
+def debian(folder, build):
     """Makes a Debian package. Returns its path in a list."""
     with tempfile.TemporaryDirectory() as work:
         tree = pathlib.Path(work, "tree")
-        version = stage(tree / "usr", DEBIAN_ZSH)
+        version = stage(tree / "usr", build, DEBIAN_ZSH)
         (tree / "usr" / DOC / "copyright").write_text((ROOT / "LICENSE").read_text())
         # Debian's Python runs the commands, whatever else is on the PATH.
         for name in manual.COMMANDS:
@@ -175,7 +210,8 @@ def debian(folder):
             command.write_text(command.read_text().replace("/usr/bin/env python3",
                                                            "/usr/bin/python3", 1))
         (tree / "DEBIAN").mkdir()
-        (tree / "DEBIAN/control").write_text(DEBIAN_CONTROL.format(version=version))
+        (tree / "DEBIAN/control").write_text(DEBIAN_CONTROL.format(
+            version=version, proof=build.proof.partition("\n")[0]))
         (tree / "DEBIAN/prerm").write_text(DEBIAN_PRERM)
         (tree / "DEBIAN/prerm").chmod(0o755)
         package = folder / f"cwtune_{version}_amd64.deb"
@@ -183,7 +219,7 @@ def debian(folder):
     return [package]
 
 
-def install(prefix):
+def install(prefix, build):
     """Puts the release below a folder such as /usr/local, in place of an older one.
 
     Returns the path of the program in a list.
@@ -191,7 +227,7 @@ def install(prefix):
     """
     with tempfile.TemporaryDirectory() as name:
         tree = pathlib.Path(name, "tree")
-        stage(tree)
+        stage(tree, build)
         if (prefix / INSTALLED).is_file():
             uninstall(prefix)
         placed = [INSTALLED, *(path.relative_to(tree) for path in files_of(tree))]
@@ -218,24 +254,32 @@ def uninstall(prefix):
     for folder in sorted(folders, key=lambda it: -len(it.parts)):
         if (prefix / folder).is_dir() and not any((prefix / folder).iterdir()):
             (prefix / folder).rmdir()
-    return []
 
 
-# What to do, by the first word; the paths that are returned are printed.
-ACTIONS = {"tar": pack, "deb": debian, "install": install, "uninstall": uninstall}
+# What to do with a build, by the first word; the paths that are returned are printed.
+ACTIONS = {"tar": pack, "deb": debian, "install": install}
 
 
 def main():
     parser = module_parser("release.dist", __doc__)
-    parser.add_argument("what", choices=ACTIONS, metavar="|".join(ACTIONS), help="what to do")
+    parser.add_argument("what", choices=[*ACTIONS, "uninstall"], help="what to do",
+                        metavar="|".join([*ACTIONS, "uninstall"]))
     parser.add_argument("folder", type=pathlib.Path, metavar="FOLDER",
                         help="where the packed files go, or below which cwtune is installed")
+    parser.add_argument("--built", type=pathlib.Path, metavar="FILE",
+                        help="a program that was built before")
+    parser.add_argument("--digest", metavar="SHA256", help="the SHA-256 digest that it has")
+    parser.add_argument("--proved", type=pathlib.Path, metavar="FILE",
+                        help="the file PROVED of a release with this program")
     asked = parser.parse_args()
-    if asked.what != "uninstall":
-        if not BUILT.is_file():
-            raise Fault("the program is not built (`make build` builds it)", 2)
-        asked.folder.mkdir(parents=True, exist_ok=True)
-    for path in ACTIONS[asked.what](asked.folder):
+    if bool(asked.built) != bool(asked.digest) or asked.proved and not asked.built:
+        parser.error("give --built and --digest, and --proved with both")
+    if asked.what == "uninstall":
+        uninstall(asked.folder)
+        return
+    build = build_of(asked.built, asked.digest, asked.proved)
+    asked.folder.mkdir(parents=True, exist_ok=True)
+    for path in ACTIONS[asked.what](asked.folder, build):
         print(path)
 
 

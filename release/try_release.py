@@ -32,6 +32,7 @@ AUTHOR_RUNS = [
     ("cwtune-spread --jobs 2 a.red fights.csv b.cert dwarf.red", "vectors 3\n"),
     ("cwtune-files a.red a.cert", "a.red: template of 3 settings"),
     ("cwtune-vary dwarf.red", "step=4: line 12, "),
+    ("cwtune-adapt dwarf.red", ";redcode"),
     ("cwtune-seek --fights 1000 a.red fights.csv dwarf.red", ";redcode-94\n"),
     ("cwtune-study --rounds 2 --fresh 2 a.red dwarf.red", "all 3 settings are tuned"),
 ]
@@ -41,7 +42,13 @@ COMPLETIONS = [("cwtune che", "check"), ("cwtune tune --ca", "--cache"),
                ("cwtune check --sh", "--share"),
                ("cwtune fight --fi", "--first"), ("cwtune-scores --te", "--template"),
                ("cwtune-spread --me", "--merge"), ("cwtune-spread --check-o", "--check-only"),
-               ("cwtune-seek --mi", "--minutes"), ("cwtune-study --fr", "--fresh")]
+               ("cwtune-adapt --pm", "--pmars"), ("cwtune-seek --mi", "--minutes"),
+               ("cwtune-study --fr", "--fresh")]
+
+
+def built():
+    """Returns the build that is tried."""
+    return dist.build_of(None, None, None)
 
 
 def run(words, folder, path):
@@ -78,11 +85,11 @@ def faults_of_use(prefix, zsh=dist.ZSH):
 
 
 def trial_of_tar(work):
-    tar, checksum = dist.pack(work)
+    tar, checksum = dist.pack(work, built())
     digest = hashlib.sha256(tar.read_bytes()).hexdigest()
     if checksum.read_text() != f"{digest}  {tar.name}\n":
         yield "its checksum is another one"
-    again, _ = dist.pack(work / "again")
+    again, _ = dist.pack(work / "again", built())
     if again.read_bytes() != tar.read_bytes():
         yield "packed twice it has other bytes"
     with tarfile.open(tar) as file:
@@ -99,13 +106,13 @@ def trial_of_install(work):
     prefix = work / "prefix"
     (prefix / "bin").mkdir(parents=True)
     (prefix / "bin/other").write_text("of somebody else\n")
-    dist.install(prefix)
+    dist.install(prefix, built())
     # as if an older release had one more file
     older = dist.SHARE / "older"
     (prefix / older).write_text("")
     with (prefix / dist.INSTALLED).open("a") as file:
         file.write(f"{older}\n")
-    dist.install(prefix)
+    dist.install(prefix, built())
     if (prefix / older).exists():
         yield "a file of an older release stays"
     yield from faults_of_use(prefix)
@@ -125,7 +132,7 @@ def trial_of_broken_install(work):
     (work / "share").mkdir()
     (work / "share/bash-completion").write_text("a file in place of a folder\n")
     with contextlib.suppress(OSError):
-        dist.install(work)
+        dist.install(work, built())
         yield "a file in place of a folder is no fault"
     (work / "share/bash-completion").unlink()
     dist.uninstall(work)
@@ -140,8 +147,27 @@ def trial_of_faults(work):
             yield f"{call.__name__} {word}: no fault"
 
 
+def trial_of_builds(work):
+    """Takes a program that was built before, with its digest and what was proved of it, and with
+    those of another one."""
+    digest = dist.sha256(dist.BUILT)
+    for name, of in [("PROVED", digest), ("OTHER", "0" * 64)]:
+        (work / name).write_text(f"Proved with a kit\nprogram: SHA-256 {of}\n")
+    taken = dist.build_of(dist.BUILT, digest, work / "PROVED")
+    if taken != (dist.BUILT, (work / "PROVED").read_text()):
+        yield f"the build is {taken}"
+    for wrong in [(dist.BUILT, "0" * 64, None), (dist.BUILT, digest, work / "OTHER"),
+                  (work / "none", digest, None)]:
+        with contextlib.suppress(Fault):
+            dist.build_of(*wrong)
+            yield f"{wrong} is no fault"
+
+
 def trial_of_package(work):
-    [package] = dist.debian(work)
+    build = dist.build_of(dist.BUILT, dist.sha256(dist.BUILT), None)
+    [package] = dist.debian(work, build)
+    line = dist.run("dpkg-deb", "--field", str(package), "Description").splitlines()[-1]
+    yield from compare("what is proved", " Not proved here: the program was built before.", line)[1]
     dist.run("dpkg-deb", "--extract", str(package), str(work / "system"))
     yield from faults_of_use(work / "system/usr", dist.DEBIAN_ZSH)
 
@@ -185,7 +211,8 @@ def trials_of_pages(program):
 
 def trials():
     yield from trials_of_pages(str(dist.BUILT))
-    tried = [trial_of_tar, trial_of_install, trial_of_broken_install, trial_of_faults]
+    tried = [trial_of_tar, trial_of_install, trial_of_broken_install, trial_of_faults,
+             trial_of_builds]
     if shutil.which("dpkg-deb"):
         tried.append(trial_of_package)
     else:

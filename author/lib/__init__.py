@@ -1,7 +1,7 @@
 """Holds the commands for authors: a module for each, and the modules that they share.
 
-The modules of commands are files, holdout, landscape, scores, seek, series, spread, study, vary and
-warrior. Several commands use
+The modules of commands are adapt, files, holdout, landscape, scores, seek, series, spread, study,
+vary and warrior. Several commands use
 
 - start: what each command begins with, which any Python 3 can read;
 - endings: how a command ends after a fault or a signal, and what it prints of a stranger's text;
@@ -11,10 +11,20 @@ warrior. Several commands use
 - watching: how far a long loop is;
 - program: how `cwtune` is found and run, and its rules;
 - tuning_files, grid: schedules, certificates, templates and their settings;
+- places, slots, put_back: what can be opened in a text, how a template keeps the author's lines,
+  and how a text that was adapted gets the values;
 - cert_inputs: which inputs a certificate is for, by CERT.inputs;
 - own_folder: the folder in which a spread or a study keeps its work;
 - mean_error: the standard error of a mean;
-- series, holdout, landscape and vary: commands of which `cwtune-study` imports functions.
+- series, holdout, landscape and vary: commands of which `cwtune-study` imports functions;
+- adapt: texts of pMARS as `cwtune` reads them.
+
+To adapt a text, pmars_tokens, pmars_values, pmars_text and pmars_code read it as pMARS does and make
+its load file. adapt_changes collects meanwhile what has to be written otherwise, expressions by
+adapt_values and CURLINE by adapt_counts. adapt_passes and adapt_blocks write it, in lines that know
+where they come from (traced), and pmars_program runs pMARS itself.
+
+The words of `cwtune-vary` are read in openings.
 
 A spread has its options in spread_words. spread_parts and spread_shares say what its jobs are, in a
 folder as spread_folder makes it. spread_jobs runs them here, and spread_hosts, with spread_job.sh,

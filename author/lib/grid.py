@@ -6,18 +6,23 @@ from .endings import Fault
 BLANKS = b" \t\r"
 # The name of a constant.
 NAME = "[A-Za-z_][A-Za-z0-9_]*"
+# A line of the author's text that `cwtune-vary` keeps in a template, and a slot in it (`slots`).
+KEPT, SLOT = ";@text ", re.compile(rf"\[({NAME})(?::([^\]\n]*))?\]")
 
 
 class Grid:
     """The constants of a template, in order, with their ranges.
 
     `names` are the names of the constants, `ranges` the values that each may have, `start_values`
-    those that START has, and `line_indices` says where the range lines are. The values of a setting
-    are a tuple: one value for each constant.
+    those that START has, and `line_indices` says where the range lines are. `lists` has, for each
+    constant that is an index of a list in the author's text, the list. The values of a setting are
+    a tuple: one value for each constant.
     """
 
-    def __init__(self, path):
-        self.lines = self.read(path).split(b"\n")
+    def __init__(self, path, text=None):
+        """Reads the template at a path. Its text is `text`, if that is given."""
+        self.path = path
+        self.lines = (self.read(path) if text is None else text).split(b"\n")
         range_lines = [(index, *read_range(path, index + 1, line))
                        for index, line in enumerate(self.lines) if is_range_line(line)]
         self.line_indices, self.names, self.ranges, start_values = (
@@ -25,6 +30,13 @@ class Grid:
         self.start_values = tuple(start_values)
         if len(set(self.names)) < len(self.names):
             raise Fault(f"{path}: two range lines of one constant")
+        kept = [line.decode("latin-1") for line in self.lines if line.startswith(KEPT.encode())]
+        self.lists = {match[1]: match[2].split(",") for line in kept
+                      for match in SLOT.finditer(line) if match[1] in self.names and match[2]}
+        for name, values in zip(self.names, self.ranges):
+            if name in self.lists and not 0 <= values[0] <= values[-1] < len(self.lists[name]):
+                raise Fault(f"{path}: {name} is an index of a list of {len(self.lists[name])}, "
+                            "from 0")
 
     def read(self, path):
         """Returns the text of the template."""
@@ -35,14 +47,13 @@ class Grid:
         return math.prod(map(len, self.ranges))
 
     def constants_of(self, values):
-        """Returns the values of a setting as the line `constants` of a report has them."""
+        """Returns the values of a setting as the line `constants` of a report has them. Of an index
+        of a list in the author's text it has what is in the list there."""
         pairs = zip(self.names, values)
-        return " ".join(f"{name}={value}" for name, value in pairs) or "-"
+        return " ".join(f"{name}={self.shown_value(name, value)}" for name, value in pairs) or "-"
 
-    def values_of(self, constants):
-        """Returns the values of a setting that the line `constants` of a report has."""
-        value_of = dict(word.split("=") for word in constants.split())
-        return tuple(int(value_of[name]) for name in self.names)
+    def shown_value(self, name, value):
+        return self.lists[name][value] or "-" if name in self.lists else value
 
     def text(self, ranges, start_values):
         """Returns the template with other ranges of its constants, and another START."""

@@ -21,8 +21,8 @@ from .endings import Fault, escaped, fault_of
 from .mean_error import error_of_mean
 from .program import EXPLAIN, rules_of, run_program
 from .series import refuse_distance, refuse_fights
-from .words import (add_files, add_opponents_of_tuning, add_program, add_rules, command_parser,
-                    counted, number_from)
+from .words import (add_files, add_json, add_opponents_of_tuning, add_program, add_rules,
+                    command_parser, counted, number_from, print_json)
 from .writing import temporary_folder
 
 
@@ -48,6 +48,12 @@ class FreshPoints(NamedTuple):
         weights = self.opponent_weights
         errors = map(math.prod, zip(map(error_of_mean, self.by_opponent), weights))
         return 100 / 3 * math.hypot(*errors) / sum(weights)
+
+    def numbers(self):
+        """Returns points, fights, and the mean with its error."""
+        return {"points": sum(map(sum, self.by_opponent)),
+                "fights": sum(map(len, self.by_opponent)), "percent": self.mean(),
+                "error": self.error()}
 
     def minus(self, other):
         """Returns the differences of the points, fight by fight."""
@@ -137,6 +143,12 @@ def gain_words(difference):
     return "no difference that these fights show"
 
 
+def gain_numbers(difference):
+    """Returns a gain in percentage points with its error, and what it is in words."""
+    return {"percent": difference.mean(), "error": difference.error(),
+            "words": gain_words(difference)}
+
+
 class Holdout:
     """The settings of a certificate, and what they make in fresh fights."""
 
@@ -157,41 +169,57 @@ class Holdout:
                                                           self.args.template)
         return self.points[setting]
 
-    def print_setting(self, name, setting):
+    def player(self, setting, rank=None):
+        """Returns the numbers of a setting: in the tuning, its total None if it was dropped, and in
+        the fresh fights. Its rank is None if it is not exact."""
+        return {"setting": setting, "rank": rank if rank and rank <= self.ranking.exact else None,
+                "values": self.template.values_by_name(setting),
+                "total": self.cert.total_of(setting, self.fights),
+                "fresh": self.fresh_points(setting).numbers()}
+
+    def print_setting(self, name, player):
         """Prints what a setting made in the tuning, and makes in the fresh fights."""
-        total, greatest = self.cert.total_of(setting, self.fights), self.fights.greatest
+        total, greatest = player["total"], self.fights.greatest
         tuned = "dropped" if total is None else (
             f"{total} of {greatest} ({100 * total / greatest:.1f}%)")
-        print(f"{name}: tuning {tuned}, fresh {self.fresh_points(setting)} "
-              f"{self.template.constants(setting)}", flush=True)
+        print(f"{name}: tuning {tuned}, fresh {self.fresh_points(player['setting'])} "
+              f"{self.template.constants(player['setting'])}", flush=True)
+
+    def first(self):
+        """Yields the numbers of the first of the ranking."""
+        for rank, (_, setting) in enumerate(self.ranking.full[:self.args.top], 1):
+            yield self.player(setting, rank)
 
     def print_first(self):
         """Prints what the first of the ranking make."""
-        for rank, (_, setting) in enumerate(self.ranking.full[:self.args.top], 1):
-            shown_rank = f", rank {rank}" if rank <= self.ranking.exact else ""
-            self.print_setting(f"setting {setting}{shown_rank}", setting)
+        for player in self.first():
+            shown_rank = f", rank {player['rank']}" if player["rank"] else ""
+            self.print_setting(f"setting {player['setting']}{shown_rank}", player)
+
+    def other(self):
+        """Returns with whom the best setting is compared: its name, and its fresh points, None if
+        there is nothing to compare."""
+        args, start = self.args, self.template.start
+        if args.against:
+            return escaped(args.against), self.fresh_fights.play("--", args.against)
+        is_other = self.cert.assembles(start) and start != self.cert.best
+        return "START", self.fresh_points(start) if is_other else None
 
     def print_comparison(self):
         """Compares the best setting with the warrior of --against, or with START."""
-        args, start = self.args, self.template.start
-        if args.against:
-            points = self.fresh_fights.play("--", args.against)
-            against = escaped(args.against)
-            print(f"{against}: fresh {points}")
-            self.print_gain(against, points)
-        elif self.cert.points(start) is None:
-            print(f"START, setting {start}: does not assemble")
+        start, (other, points) = self.template.start, self.other()
+        if self.args.against:
+            print(f"{other}: fresh {points}")
+        elif points:
+            self.print_setting(f"START, setting {start}", self.player(start))
         elif start == self.cert.best:
             print(f"setting {start} is START: the tuning found nothing better")
         else:
-            self.print_setting(f"START, setting {start}", start)
-            self.print_gain("START", self.fresh_points(start))
-
-    def print_gain(self, other, other_points):
-        """Prints whether the best setting is better than `other` in the fresh fights."""
-        difference = self.fresh_points(self.cert.best).minus(other_points)
-        print(f"over {other}, setting {self.cert.best}: {difference.mean():+.1f}% +- "
-              f"{difference.error():.1f}, {gain_words(difference)}")
+            print(f"START, setting {start}: does not assemble")
+        if points:
+            gain = self.fresh_points(self.cert.best).minus(points)
+            print(f"over {other}, setting {self.cert.best}: {gain.mean():+.1f}% +- "
+                  f"{gain.error():.1f}, {gain_words(gain)}")
 
     def print_dropped(self):
         """Prints how far the ranking is exact, if settings were dropped."""
@@ -201,6 +229,17 @@ class Holdout:
             so = ", so" if exact < self.args.top else ";"
             print(f"{counted(dropped, 'setting')} {verb} dropped{so} "
                   f"{tuning_files.exactness_text(exact, self.args.top)}")
+
+    def numbers(self):
+        """Returns all that the command prints: the object of --json."""
+        players, (other, points) = list(self.first()), self.other()
+        best, start = self.cert.best, self.template.start
+        gain = points and self.fresh_points(best).minus(points)
+        return {"greatest": self.fights.greatest, "players": players,
+                "start": self.player(start) if self.cert.assembles(start) else None,
+                "against": points.numbers() if self.args.against else None,
+                "gain": gain and {"over": other, "setting": best, **gain_numbers(gain)},
+                "dropped": self.ranking.dropped, "exact": self.ranking.exact}
 
 
 def make_parser():
@@ -215,6 +254,7 @@ def make_parser():
                         help="the schedule [default: that of the tuning]")
     parser.add_argument("--against", metavar="FILE",
                         help="compare with the warrior of this Redcode text, and not with START")
+    add_json(parser)
     add_program(parser)
     add_rules(parser, of_tuning=True)
     add_files(parser, "template", "cert")
@@ -238,7 +278,10 @@ def read_words():
 def main():
     args, why_unused = read_words()
     holdout = Holdout(args)
-    holdout.print_first()
-    holdout.print_comparison()
-    holdout.print_dropped()
+    if args.json:
+        print_json(holdout.numbers())
+    else:
+        holdout.print_first()
+        holdout.print_comparison()
+        holdout.print_dropped()
     cert_inputs.print_note(why_unused)

@@ -3,9 +3,10 @@
 One constant is a line, two are a map of colours, more are a map for each choice of the constants
 beside the two axes. A setting that was dropped has no total, so it is grey: a square of a map,
 lighter if its total can be greater, or a triangle on a line, as high as its total can be at most.
-The best setting is a star; a setting that does not assemble is left white. A second picture shows
-for each constant the mean total of each of its values, with its standard error; it needs every
-total, so a certificate of `cwtune tune --all`. Needs matplotlib (Debian: python3-matplotlib).
+The best setting is a star, and START a ring; a setting that does not assemble is left white. A
+second picture shows for each constant the mean total of each of its values, with its standard
+error, to one scale; it needs every total, so a certificate of `cwtune tune --all`. Needs matplotlib
+(Debian: python3-matplotlib).
 
 Example: cwtune-landscape my.red my.cert totals.png --effects effects.png
 """
@@ -22,6 +23,10 @@ MOST_MAPS = 36
 GREY = "#cccccc"
 # How matplotlib lays out the squares of a map.
 MAP_SCALE = {"origin": "lower", "aspect": "auto"}
+# How a map marks START and the best setting.
+START_MARK = {"marker": "o", "markersize": 13, "color": "none", "markeredgecolor": "red",
+              "markeredgewidth": 2}
+BEST_MARK = {"marker": "*", "markersize": 16, "color": "red", "markeredgecolor": "white"}
 
 
 def load_pyplot():
@@ -96,10 +101,20 @@ def draw_line(plot, totals):
             axes.scatter(values, heights, marker=marker, color=colour, label=label, zorder=2)
     axes.scatter([values[best]], [totals.totals[best]], marker="*", s=220, color="C3",
                  label=f"best: {template.constants(best)}", zorder=3)
+    start = template.start
+    axes.scatter([values[start]], [greater(totals.totals[start], totals.caps[start])], marker="o",
+                 s=120, facecolors="none", edgecolors="black", zorder=4,
+                 label=f"START: {template.constants(start)}")
     axes.set_xlabel(template.names[0])
     axes.set_ylabel("points")
+    axes.locator_params(axis="y", integer=True)
     axes.legend()
     return figure
+
+
+def greater(total, cap):
+    """Returns which of a total and a cap is a number; NaN if none is."""
+    return cap if math.isnan(total) else total
 
 
 def maps_of(totals, x, y, others):
@@ -112,13 +127,25 @@ def maps_of(totals, x, y, others):
     return [array.reshape(-1, sizes[y], sizes[x]) for array in arrays]
 
 
-def label_ticks(set_ticks, values):
-    """Labels an axis with at most eight of its values."""
-    indices = range(0, len(values), -(-len(values) // 8))
+def label_ticks(set_ticks, values, most):
+    """Labels an axis with at most `most` of its values."""
+    indices = range(0, len(values), -(-len(values) // most))
     set_ticks(list(indices), [str(values[index]) for index in indices])
 
 
-def grid_of(plot, count):
+def most_across(values, columns):
+    """Returns how many values have room from left to right in one of `columns` maps side by
+    side."""
+    longest = max(len(str(value)) for value in values)
+    return max(1, min(8, int(inches_across(columns) * 72 * 0.7 // (7 * longest + 8))))
+
+
+def inches_across(columns):
+    """Returns how wide each of `columns` maps side by side is."""
+    return max(8 / columns, 3.6)
+
+
+def grid_of(plot, count, **sharing):
     """Returns a figure with room for `count` maps, the axes of these, and those of the whole
     grid."""
     if count > MOST_MAPS:
@@ -126,8 +153,8 @@ def grid_of(plot, count):
                     f"{MOST_MAPS}: tune a template with fewer of them")
     columns = math.ceil(math.sqrt(count))
     rows = math.ceil(count / columns)
-    figure, grid = plot.subplots(rows, columns, squeeze=False, layout="constrained",
-                                 figsize=(max(8, 3.6 * columns), max(5, 3 * rows)))
+    figure, grid = plot.subplots(rows, columns, squeeze=False, layout="constrained", **sharing,
+                                 figsize=(columns * inches_across(columns), max(5, 3 * rows)))
     for axes in grid.flat[count:]:
         axes.axis("off")
     return figure, list(grid.flat[:count]), grid
@@ -136,28 +163,32 @@ def grid_of(plot, count):
 def draw_maps(plot, totals, x, y):
     """Draws a map over the constants x and y for each choice of the others."""
     names, ranges = totals.template.names, totals.template.ranges
+    shown = [[totals.template.shown_value(name, value) for value in values]
+             for name, values in zip(names, ranges)]
     others = [constant for constant in range(len(names)) if constant not in (x, y)]
     total_maps, cap_maps = maps_of(totals, x, y, others)
     figure, axes_of_maps, grid = grid_of(plot, len(total_maps))
     numbers = [total for total in totals.totals if not math.isnan(total)]
-    greys, best = totals.greys(), totals.template.values_of_settings[totals.best]
+    greys, settings = totals.greys(), totals.template.values_of_settings
+    marked = [(settings[totals.template.start], START_MARK), (settings[totals.best], BEST_MARK)]
     choices = itertools.product(*(ranges[constant] for constant in others))
     for axes, choice, total_map, cap_map in zip(axes_of_maps, choices, total_maps, cap_maps):
         if greys:
             axes.imshow(cap_map, **greys, **MAP_SCALE)
         image = axes.imshow(total_map, cmap="viridis", vmin=min(numbers), vmax=max(numbers),
                             **MAP_SCALE)
-        label_ticks(axes.set_xticks, ranges[x])
-        label_ticks(axes.set_yticks, ranges[y])
-        axes.set_title(" ".join(f"{names[constant]}={value}"
+        label_ticks(axes.set_xticks, shown[x], most_across(shown[x], grid.shape[1]))
+        label_ticks(axes.set_yticks, shown[y], 8)
+        axes.set_title(" ".join(f"{names[constant]}="
+                                f"{totals.template.shown_value(names[constant], value)}"
                                 for constant, value in zip(others, choice)), fontsize=9)
         axes.set_xlabel(names[x])
         axes.set_ylabel(names[y])
-        if choice == tuple(best[constant] for constant in others):
-            axes.plot([ranges[x].index(best[x])], [ranges[y].index(best[y])], marker="*",
-                      markersize=16, color="red", markeredgecolor="white")
-    label = "total (grey: dropped)" if greys else "total"
-    figure.colorbar(image, ax=grid, label=label)
+        for values, style in marked:
+            if choice == tuple(values[constant] for constant in others):
+                axes.plot([ranges[x].index(values[x])], [ranges[y].index(values[y])], **style)
+    label = "total (star: best, ring: START" + (", grey: dropped)" if greys else ")")
+    figure.colorbar(image, ax=grid, label=label).locator.set_params(integer=True)
     return figure
 
 
@@ -178,7 +209,8 @@ def draw_effects(plot, totals):
     if totals.greys():
         raise Fault("settings were dropped: the means need a certificate of `cwtune tune --all`")
     template = totals.template
-    figure, grid, _ = grid_of(plot, len(template.names))
+    # One scale, so that the effects can be compared.
+    figure, grid, _ = grid_of(plot, len(template.names), sharey=True)
     for constant, (axes, name) in enumerate(zip(grid, template.names)):
         axes.errorbar(*effect_of(template, totals.totals, constant), marker="o", linewidth=1,
                       capsize=2)
@@ -253,7 +285,7 @@ def main():
     refuse_opponent(parser, args, fights)
     axes = axes_of(parser, args, template.names)
     totals, plot = Totals(template, cert, fights, args.opponent), load_pyplot()
-    title = (f"best {cert.best}: {template.constants(cert.best)}, total {cert.total} of "
+    title = (f"best setting {cert.best}: {template.constants(cert.best)}, total {cert.total} of "
              f"{fights.greatest}")
     if args.opponent is not None:
         title += f"\nthe fights against opponent {args.opponent}"

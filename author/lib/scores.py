@@ -11,50 +11,66 @@ from . import cert_inputs, tuning_files
 from .endings import Fault, say
 from .program import assemble, rules_of
 from .watching import watched
-from .words import add_files, add_program, add_rules, command_parser, counted, number_from
+from .words import (add_files, add_json, add_program, add_rules, command_parser, counted,
+                    number_from, print_json)
 
 # With more settings than this none is assembled, to save time.
 MOST_ASSEMBLED = 2000
 
 
-def print_scores(title, points, fights):
+def scores_of(setting, cert, fights, template):
+    """Returns the numbers of a setting: its total, None if it was dropped or does not assemble, and
+    what it made against each opponent, None if it does not assemble."""
+    points = cert.points(setting)
+    opponents = sorted({fight.opponent for fight in fights})
+    return {"setting": setting, "values": template and template.values_by_name(setting),
+            "total": cert.total_of(setting, fights),
+            "opponents": points and [score_of(opponent, points, fights) for opponent in opponents]}
+
+
+def score_of(opponent, points, fights):
+    """Returns what a setting made against an opponent. `points` has the points of each fight that
+    it played."""
+    scheduled = [(index, fight.weight) for index, fight in enumerate(fights)
+                 if fight.opponent == opponent]
+    played = [(points[index], weight) for index, weight in scheduled if index in points]
+    outcomes = [fight_points for fight_points, _ in played]
+    wins, ties, losses = map(outcomes.count, (3, 1, 0))
+    return {"opponent": opponent, "wins": wins, "ties": ties, "losses": losses,
+            "score": sum(fight_points * weight for fight_points, weight in played),
+            "greatest": 3 * sum(weight for _, weight in scheduled),
+            "not_played": len(scheduled) - len(played)}
+
+
+def print_scores(title, scores):
     """Prints wins, ties and losses of a setting against each opponent."""
     print(title)
-    if points is None:
+    if scores["opponents"] is None:
         print("    does not assemble")
-        return
-    for opponent in sorted({fight.opponent for fight in fights}):
-        scheduled = [(index, fight.weight) for index, fight in enumerate(fights)
-                     if fight.opponent == opponent]
-        played = [(points[index], weight) for index, weight in scheduled if index in points]
-        outcomes = [fight_points for fight_points, _ in played]
-        wins, ties, losses = map(outcomes.count, (3, 1, 0))
-        score = sum(fight_points * weight for fight_points, weight in played)
-        greatest = 3 * sum(weight for _, weight in scheduled)
-        left = len(scheduled) - len(played)
-        print(f"    opponent {opponent}: {wins} wins {ties} ties {losses} losses, "
-              f"{score} of {greatest}{f', {left} not played' if left else ''}")
+    for one in scores["opponents"] or ():
+        left = f", {one['not_played']} not played" if one["not_played"] else ""
+        print(f"    opponent {one['opponent']}: {one['wins']} wins {one['ties']} ties "
+              f"{one['losses']} losses, {one['score']} of {one['greatest']}{left}")
 
 
-def print_start(cert, fights, template):
+def print_start(start, best, template):
     """Prints what START made, and how much less than the best."""
-    total = cert.total_of(template.start, fights)
-    shown = "" if total is None else f", total {total}, {cert.total - total} less than the best"
-    print_scores(f"START, setting {template.start}{shown} {template.constants(template.start)}",
-                 cert.points(template.start), fights)
+    total = start["total"]
+    shown = "" if total is None else f", total {total}, {best['total'] - total} less than the best"
+    print_scores(f"START, setting {start['setting']}{shown} "
+                 f"{template.constants(start['setting'])}", start)
 
 
-def print_first(cert, fights, template, wanted):
+def print_first(numbers, template, wanted):
     """Prints the first `wanted` settings of the ranking, as far as the certificate shows it."""
-    full, dropped, exact = cert.ranked(fights)
-    print(f"{counted(len(full), 'setting')} played all fights, {dropped} "
-          f"{'was' if dropped == 1 else 'were'} dropped" if dropped
-          else f"best of {counted(len(full), 'setting')}")
+    played_all, dropped = counted(numbers["played_all"], "setting"), numbers["dropped"]
+    print(f"{played_all} played all fights, {dropped} {'was' if dropped == 1 else 'were'} dropped"
+          if dropped else f"best of {played_all}")
     if dropped:
-        print(f"    {tuning_files.exactness_text(exact, wanted)}")
-    for total, setting in full[:min(wanted, exact)]:
-        constants = f" {template.constants(setting)}" if template else ""
-        print(f"    setting {setting}: total {total}{constants}")
+        print(f"    {tuning_files.exactness_text(numbers['exact'], wanted)}")
+    for ranked in numbers["ranking"]:
+        constants = f" {template.constants(ranked['setting'])}" if template else ""
+        print(f"    setting {ranked['setting']}: total {ranked['total']}{constants}")
 
 
 class Warriors:
@@ -90,26 +106,69 @@ class Warriors:
         return None if None in load_files or b"" in load_files else len(load_files) == 1
 
 
-def idle_text(alike):
-    """Returns a text that says how often a constant changes nothing. `alike` says for each choice
-    of the other constants whether all its values make one warrior, None if that is not known."""
-    text = f"{alike.count(True)} of {len(alike)}"
-    if None in alike:
-        return text + f", {alike.count(None)} not known"
-    return text + ", changes nothing" if all(alike) else text
+def idle_text(constant):
+    """Returns a text that says how often a constant changes nothing."""
+    if constant["values"] == 1:
+        return "only one value"
+    text = f"{constant['same']} of {constant['choices']}"
+    if constant["not_known"]:
+        return f"{text}, {constant['not_known']} not known"
+    return text + ", changes nothing" * (constant["same"] == constant["choices"])
 
 
-def print_idle(template, warriors):
-    """Prints for each constant in how many choices of the others its values make one warrior."""
-    print("for how many choices of the other constants all values of one make the same warrior")
-    count = len(template.values_of_settings)
+def constants_of(template, warriors):
+    """Returns for each constant how many choices of the others there are, and in how many all its
+    values make the same warrior."""
+    count, constants = len(template.values_of_settings), []
     for name, values, step in zip(template.names, template.ranges, template.strides()):
         block = step * len(values)
         groups = (range(first, first + block, step) for start in range(0, count, block)
                   for first in range(start, start + step))
         alike = [warriors.are_one(group)
                  for group in watched(groups, count // len(values), f"choices beside {name}")]
-        print(f"    {name}: {'only one value' if len(values) == 1 else idle_text(alike)}")
+        constants.append({"name": name, "values": len(values), "choices": len(alike),
+                          "same": alike.count(True), "not_known": alike.count(None)})
+    return constants
+
+
+def numbers_of(args, cert, fights, template):
+    """Returns all that the command prints: the object of --json."""
+    full, dropped, exact = cert.ranked(fights)
+    first = full[:min(args.top, exact)]
+    return {"greatest": fights.greatest, "best": scores_of(cert.best, cert, fights, template),
+            "start": template and scores_of(template.start, cert, fights, template),
+            "played_all": len(full), "dropped": dropped, "exact": exact,
+            "ranking": [{"setting": setting, "total": total,
+                         "values": template and template.values_by_name(setting)}
+                        for total, setting in first],
+            "constants": template and constants_of(template, Warriors(cert, args))}
+
+
+def print_numbers(numbers, template, wanted):
+    best = numbers["best"]
+    constants = f" {template.constants(best['setting'])}" if template else ""
+    print_scores(f"best setting {best['setting']}, total {best['total']} of {numbers['greatest']}"
+                 f"{constants}", best)
+    if template:
+        print_start(numbers["start"], best, template)
+    print_first(numbers, template, wanted)
+    if template:
+        print("constants that change nothing: in how many choices of the others")
+    for constant in numbers["constants"] or ():
+        print(f"    {constant['name']}: {idle_text(constant)}")
+
+
+def print_totals(cert, fights, template):
+    """Prints a line for each setting, with commas: the total of one that played all fights, the cap
+    of a dropped one."""
+    names = template.names if template else []
+    print(",".join(["setting", "row", "total", *names]))
+    for setting in range(cert.count):
+        row = ("refused" if not cert.assembles(setting)
+               else "all" if cert.plays_all(setting, fights) else "dropped")
+        total = "" if row == "refused" else cert.cap(setting, fights)
+        values = template.values_of_settings[setting] if template else []
+        print(",".join(map(str, [setting, row, total, *values])))
 
 
 def make_parser():
@@ -121,6 +180,10 @@ def make_parser():
                         "and for START [default: that of the tuning]")
     parser.add_argument("--top", type=number_from(1), default=10, metavar="K",
                         help="how many of the best settings [default: 10]")
+    output = parser.add_mutually_exclusive_group()
+    add_json(output)
+    output.add_argument("--csv", action="store_true",
+                        help="print the total of each setting, a line for each, with commas")
     add_program(parser)
     add_rules(parser, of_tuning=True)
     return parser
@@ -135,12 +198,9 @@ def main():
     cert = tuning_files.Certificate(args.cert)
     fights = cert.fights(args.schedule)
     template = tuning_files.Template(args.template).checked_for(cert) if args.template else None
-    constants = f" {template.constants(cert.best)}" if template else ""
-    print_scores(f"best setting {cert.best}, total {cert.total} of {fights.greatest}{constants}",
-                 cert.points(cert.best), fights)
-    if template:
-        print_start(cert, fights, template)
-    print_first(cert, fights, template, args.top)
-    if template:
-        print_idle(template, Warriors(cert, args))
+    if args.csv:
+        print_totals(cert, fights, template)
+    else:
+        numbers = numbers_of(args, cert, fights, template)
+        print_json(numbers) if args.json else print_numbers(numbers, template, args.top)
     cert_inputs.print_note(why_unused)

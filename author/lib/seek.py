@@ -17,13 +17,15 @@ Example: cwtune-seek --minutes 10 my.red fights.csv dwarf.red scanner.red > bett
 import math, sys
 
 from . import holdout
+from .adapt import add_as_is, adapted_for, read_text
 from .endings import Fault
 from .grid import Grid
 from .program import run_program
 from .race import Race
 from .race_fights import Arena, add_budget, budget_of
 from .tuning_files import MOST_SETTINGS
-from .words import add_files, add_program, add_rules, command_parser, number_from
+from .words import (add_files, add_json, add_program, add_rules, command_parser, number_from,
+                    print_json)
 from .writing import temporary_folder
 
 
@@ -46,6 +48,20 @@ def print_outcome(grid, outcome, weights):
               file=sys.stderr)
 
 
+def outcome_numbers(grid, outcome, weights, text):
+    """Returns the object of --json. `outcome` is None of a race that was stopped, whose template
+    has the best so far as its START."""
+    gain = outcome and outcome.points and holdout.gain_of(outcome.points, weights)
+    return {"winner": dict(zip(grid.names, outcome.winner)) if outcome else None,
+            "start": dict(zip(grid.names, grid.start_values)),
+            "rise": outcome and outcome.rise and 100 * outcome.rise,
+            "gain": holdout.gain_numbers(gain) if gain else None,
+            "finalists": [{"values": dict(zip(grid.names, one.values)),
+                           "percent": 100 * one.rate(), "blocks": one.blocks}
+                          for one in (outcome.finalists if outcome else ())],
+            "template": text.decode("latin-1")}
+
+
 def ranges_of(args, grid, values):
     """Returns the ranges of the template that is printed: those of the box around a setting, unless
     it has more settings than `cwtune tune` takes."""
@@ -63,18 +79,21 @@ def ranges_of(args, grid, values):
 def make_parser():
     parser = command_parser(__doc__)
     add_budget(parser)
+    add_json(parser)
     parser.add_argument("--seed", type=number_from(0), default=1, metavar="N",
                         help="another number gives other settings and positions [default: 1]")
     parser.add_argument("--box", type=number_from(0), metavar="N",
                         help="cut each range to N values on both sides of the winner's")
     add_program(parser)
     add_rules(parser)
+    add_as_is(parser)
     add_files(parser, "template", "schedule", "opponent")
     return parser
 
 
 def seek(args, grid, weights):
-    """Runs the race. Returns the values of the winner, or after Ctrl-C of the best so far."""
+    """Runs the race. Returns the values of the winner and the outcome, or after Ctrl-C those of the
+    best so far and None."""
     with (temporary_folder() as folder,
           Arena(args, budget_of(args), grid, args.opponent, weights, [], folder) as arena):
         race = Race(grid, arena, args.seed)
@@ -85,18 +104,22 @@ def seek(args, grid, weights):
                 raise
             print(f"stopped: the best so far is {grid.constants_of(race.leader())}; its gain was "
                   "not measured", file=sys.stderr)
-            return race.leader()
+            return race.leader(), None
     print_outcome(grid, outcome, [weight for weight in weights if weight])
-    return outcome.winner
+    return outcome.winner, outcome
 
 
 def main():
     args = make_parser().parse_args()
-    grid = Grid(args.template)
+    grid = Grid(args.template, adapted_for(args, args.template, read_text(args.template)))
     if not grid.names:
         raise Fault(f"{args.template}: no range line, which begins `;@tune` at the left margin "
                     "(cwtune-vary makes a template of a text with EQU lines)")
     run_program(args.program, "--version")
     weights = holdout.weights_by_opponent(args.schedule, len(args.opponent))
-    winner = seek(args, grid, weights)
-    sys.stdout.buffer.write(grid.text(ranges_of(args, grid, winner), winner))
+    winner, outcome = seek(args, grid, weights)
+    text = grid.text(ranges_of(args, grid, winner), winner)
+    if args.json:
+        print_json(outcome_numbers(grid, outcome, [weight for weight in weights if weight], text))
+    else:
+        sys.stdout.buffer.write(text)

@@ -1,6 +1,6 @@
 """Improves a warrior: tuning or race, fresh fights and report, in one folder.
 
-WARRIOR is a template, or an ordinary text with words NAME=LOW:HIGH:STEP, as cwtune-vary takes them.
+WARRIOR is a template, or an ordinary text with words PLACE=VALUES, as cwtune-vary takes them.
 An opponent is a file, or a folder whose files *.red are taken by their names; with `=N` after it,
 as in papers/=2, its fights count N times.
 
@@ -19,9 +19,10 @@ inputs is refused.
 
 Example: cwtune-study --minutes 10 my.red opponents/ STEP=5:7995:10 GATE=-3500:-500:500
 """
-import json, os, pathlib, sys
+import contextlib, json, os, pathlib, sys
 
 from . import study_fresh, study_inputs, study_report
+from .adapt import add_as_is
 from .grid import Grid
 from .program import Rules, rules_of
 from .race import Contender
@@ -31,7 +32,7 @@ from .study_folder import StudyFolder
 from .study_race import RaceOfStudy
 from .study_result import report_numbers
 from .tuning_files import MOST_FIGHTS, MOST_SETTINGS, Certificate, read_schedule, schedule_text
-from .words import add_program, add_rules, command_parser, number_from
+from .words import add_json, add_program, add_rules, command_parser, number_from, print_json
 from .writing import temporary_folder
 
 fight_count = number_from(1, MOST_FIGHTS)
@@ -79,13 +80,17 @@ class Study:
         (folder.path / "opponents").mkdir(exist_ok=True)
         for path, (_, text) in zip(self.opponents, inputs.opponents):
             folder.write(path, text)
-        if self.args.ranges:
-            folder.write("warrior.red", inputs.warrior)
-            words = [f"{name}={values[0]}:{values[-1]}:{values.step}"
-                     for name, values in self.args.ranges]
-            folder.run(self.author_words("cwtune-vary", "warrior.red", *words), "template.red")
+        name = "warrior.red" if self.args.ranges else "template.red"
+        if inputs.original != inputs.warrior:
+            folder.write("original.red", inputs.original)
+            folder.run(self.author_words("cwtune-adapt", "original.red"), name)
         else:
-            folder.write("template.red", inputs.template)
+            folder.write(name, inputs.warrior)
+        if self.args.ranges:
+            words = [opening.word for opening in self.args.ranges]
+            as_is = ["--as-is"] * self.args.as_is
+            folder.run(self.author_words("cwtune-vary", *as_is, "warrior.red", *words),
+                       "template.red")
         grid = Grid(folder.path / "template.red")
         folder.write("start.red", grid.line_through(grid.start_values, ()))
 
@@ -143,7 +148,9 @@ class Study:
 
     def write_winner(self, setting, template):
         """Writes the text of the winner."""
-        words = self.author_words("cwtune-warrior", f"--setting={setting}", template)
+        is_adapted = self.inputs.original != self.inputs.warrior
+        original = ["--original=original.red"] * is_adapted
+        words = self.author_words("cwtune-warrior", *original, f"--setting={setting}", template)
         self.folder.run(words, "winner.red")
 
     def write_report(self, results):
@@ -153,25 +160,21 @@ class Study:
         self.folder.write("report.html", study_report.html_of(report).encode(errors="replace"))
 
 
-def constants_text(values):
-    """Returns the values of a setting as they are printed."""
-    return " ".join(f"{constant}={value}" for constant, value in values.items())
-
-
-def print_fresh(name, player):
+def print_fresh(name, player, report):
     """Prints what a player made in its fresh fights, and its values."""
-    fresh = player["fresh"]
+    fresh, values = player["fresh"], study_report.shown_values(report, player["values"])
+    constants = " ".join(f"{constant}={value}" for constant, value in values.items())
     print(f"fresh: {name}: {fresh['points']} of {3 * fresh['fights']} ({fresh['percent']:.1f}% "
-          f"+- {fresh['error']:.1f}) {constants_text(player['values'])}")
+          f"+- {fresh['error']:.1f}) {constants}")
 
 
 def print_tuned(report):
     """Prints what the tuning of a whole template found."""
     best, winner, start = report["ranking"][0], report["winner"], report["start"]
     print(f"tuned: setting {best['setting']} is best, total {best['tuned']} of "
-          f"{report['schedule']['greatest']}, START {start['tuned']} ({report['check']})")
-    print_fresh(f"setting {winner['setting']}, rank {winner['rank']}", winner)
-    print_fresh("START", start)
+          f"{report['schedule']['greatest']}, START {start['tuned']}; the certificate is checked")
+    print_fresh(f"setting {winner['setting']}, rank {winner['rank']}", winner, report)
+    print_fresh("START", start, report)
 
 
 def print_raced(report):
@@ -182,8 +185,8 @@ def print_raced(report):
         print(f"box: {box['settings']} settings around the race's winner, "
               + ("one of them is better" if box["replaces"] else "none of them is better"))
     if report["gain"]:
-        print_fresh("winner", report["winner"])
-        print_fresh("START", report["start"])
+        print_fresh("winner", report["winner"], report)
+        print_fresh("START", report["start"], report)
     if report["gain"] and not (box and box["replaces"]):
         luck = race["rise"] - report["gain"]["percent"]
         print(f"in the fights that picked it, the winner was {race['rise']:+.1f}% over START; "
@@ -227,16 +230,18 @@ def make_parser():
     parser.add_argument("--anew", action="store_true",
                         help="throw away what is done, and begin again")
     add_budget(parser)
+    add_json(parser)
     add_program(parser)
     add_rules(parser)
+    add_as_is(parser)
     parser.add_argument("warrior", metavar="WARRIOR", help="a template, or with words "
-                        "NAME=LOW:HIGH:STEP a Redcode text with EQU lines")
+                        "PLACE=VALUES a Redcode text")
     parser.add_argument("opponents", metavar="OPPONENT", nargs="*", default=[],
                         help="the opponents: folders with files *.red, or files (write ./*.red: a "
                         "name in *.red may be an option); `=N` after one has its fights count N "
                         "times, 1 to 1000")
-    parser.add_argument("ranges", metavar="NAME=LOW:HIGH:STEP", nargs="*", default=[],
-                        help="a constant and its values, as for cwtune-vary")
+    parser.add_argument("ranges", metavar="PLACE=VALUES", nargs="*", default=[],
+                        help="a place of the text and its values, as for cwtune-vary")
     return parser
 
 
@@ -245,9 +250,11 @@ def main():
     args = parser.parse_mixed()
     study = Study(args, study_inputs.read(parser, args))
     try:
-        study.go()
+        # Standard output is for the object alone.
+        with contextlib.redirect_stdout(sys.stderr if args.json else sys.stdout):
+            study.go()
         with study.folder.reading("report.json") as report:
-            print_end(study.folder, report)
+            print_json(report) if args.json else print_end(study.folder, report)
     except KeyboardInterrupt:
         print(f"stopped: what is done is kept in {study.folder.given_path}: repeat the command to "
               "go on", file=sys.stderr)

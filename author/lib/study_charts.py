@@ -127,11 +127,17 @@ def draw_axes(x_scale, y_scale, name, values):
         yield path(f"M{LEFT} {y}H{RIGHT}", "rule")
         yield label(LEFT - 6, y + 4, tick_text(tick), "soft end")
     bottom = y_scale.begin
-    for tick in values if len(values) <= MOST_TICKS else x_scale.ticks():
+    for tick in apart(values if len(values) <= MOST_TICKS else x_scale.ticks()):
         x = x_scale.coordinate(tick)
         yield path(f"M{x} {bottom}v4", "rule")
         yield label(x, bottom + 16, tick_text(tick), "soft middle")
     yield label((LEFT + RIGHT) / 2, bottom + 32, shortened(name), "middle")
+
+
+def apart(ticks):
+    """Returns as many of the ticks from left to right as do not touch."""
+    longest = max(len(tick_text(tick)) for tick in ticks)
+    return ticks[::math.ceil(len(ticks) * (6.5 * longest + 8) / (RIGHT - LEFT))]
 
 
 def points_of(x_scale, y_scale, values, heights):

@@ -1,14 +1,17 @@
 """Reads the words and files of `cwtune-study`, and refuses those that make no study."""
-import argparse, hashlib, json, math, os, pathlib, re
+import argparse, collections, hashlib, json, math, os, pathlib, re
 from typing import NamedTuple
 
 from . import vary
-from .endings import Fault, fault_of
-from .grid import NAME, Grid, is_range_line
+from .adapt import adapted_for, adapted_text, read_text
+from .endings import Fault, fault_of, say
+from .grid import Grid, is_range_line
+from .openings import opening_from
+from .places import PLACE
 from .program import EXPLAIN, rules_of, run_program
-from .regular import read_regular
 from .series import refuse_distance, refuse_fights, refuse_seed
-from .tuning_files import MOST_BYTES, MOST_OPPONENTS, MOST_WEIGHT
+from .tuning_files import MOST_OPPONENTS, MOST_WEIGHT
+from .words import counted
 from .writing import temporary_folder
 
 # The options that a study depends on.
@@ -16,9 +19,10 @@ OPTIONS = ["rounds", "seed", "exact", "box", "fresh", "fights", "minutes", "cert
 
 
 class Inputs(NamedTuple):
-    """The text of WARRIOR; the template made of it, or the same text if it is one; and name and
-    text of each opponent."""
+    """The text of WARRIOR, as it was given and adapted; the template made of it, or the same text
+    if it is one; and name and text of each opponent."""
 
+    original: bytes
     warrior: bytes
     template: bytes
     opponents: list
@@ -49,13 +53,13 @@ def sort_words(parser, args):
     """Sorts the words of the command into the warrior, the opponents and the ranges."""
     words, args.ranges = [], []
     for word in [args.warrior, *args.opponents]:
-        is_range = re.match(rf"{NAME}=", word) and not os.path.exists(word.rpartition("=")[0])
+        is_range = re.match(rf"{PLACE}=", word) and not os.path.exists(word.rpartition("=")[0])
         if is_range and not os.path.exists(word):
             args.ranges.append(range_of(parser, word))
         else:
             words.append(word)
     if not words:
-        parser.error("WARRIOR is missing: a template, or a warrior with words NAME=LOW:HIGH:STEP")
+        parser.error("WARRIOR is missing: a template, or a warrior with words PLACE=VALUES")
     args.warrior, opponents = words[0], [opponents_named(parser, word) for word in words[1:]]
     args.opponents = [path for word in opponents for path in word.paths]
     if not opponents:
@@ -90,7 +94,7 @@ def weights_of(parser, opponents, by_kind):
 
 def range_of(parser, word):
     try:
-        return vary.range_from(word)
+        return opening_from(word)
     except argparse.ArgumentTypeError as fault:
         parser.error(str(fault))
 
@@ -122,27 +126,21 @@ def read(parser, args):
     sort_words(parser, args)
     settle_options(parser, args)
     args.program = os.path.abspath(args.program)
-    warrior = read_text(args.warrior)
-    is_template = any(map(is_range_line, warrior.split(b"\n")))
+    original = read_text(args.warrior)
+    is_template = any(map(is_range_line, original.split(b"\n")))
     if args.ranges or not is_template:
         text = vary.warrior_text(parser, args)
         if not args.ranges:
-            raise Fault(f"{args.warrior}: no range line: give words NAME=LOW:HIGH:STEP too "
-                        f"(`cwtune-vary {args.warrior}` lists the names)")
-        refuse_text(args, args.warrior, "--", args.warrior)
+            raise Fault(f"{args.warrior}: no range line: give words PLACE=VALUES too "
+                        f"(`cwtune-vary {args.warrior}` lists the places)")
+        warrior = text.encode("latin-1")
+        if warrior == original:
+            refuse_text(args, args.warrior, "--", args.warrior)
         template = vary.checked_template(args, text)
     else:
-        refuse_start(args, Grid(args.warrior))
-        template = warrior
-    return Inputs(warrior, template, opponents_of(args))
-
-
-def read_text(path):
-    """Returns the bytes of a text. Refuses one that `cwtune` does not take, before it is read."""
-    try:
-        return read_regular(MOST_BYTES, path)
-    except ValueError as fault:
-        raise Fault(f"{path}: {fault}") from None
+        warrior = template = adapted_for(args, args.warrior, original)
+        refuse_start(args, Grid(args.warrior, template))
+    return Inputs(original, warrior, template, opponents_of(args))
 
 
 def refuse_start(args, grid):
@@ -168,13 +166,27 @@ def refuse_text(args, name, *words, **options):
 
 def opponents_of(args):
     """Returns names and texts of the opponents. A name that is taken gets a number."""
-    texts = {}
+    texts, adapted = {}, collections.defaultdict(list)
     for path in args.opponents:
         if "\n" in path:
             raise Fault("the name of an opponent has a line end", 2)
-        texts[free_name(os.path.basename(path), texts)] = read_text(path)
-        refuse_text(args, path, "--", path)
+        original = read_text(path)
+        text, said = adapted_text(args, path, original)
+        if said:
+            adapted[said].append(path)
+        else:
+            refuse_text(args, path, "--", path)
+        texts[free_name(os.path.basename(path), texts)] = text
+    note_adapted(adapted)
     return list(texts.items())
+
+
+def note_adapted(adapted):
+    """Notes on standard error which opponents are adapted, by what pMARS says of them."""
+    for said, paths in adapted.items():
+        verb = "are" if len(paths) > 1 else "is"
+        say("note", f"{counted(len(paths), 'opponent')} {verb} adapted, as by cwtune-adapt: "
+            f"{', '.join(paths)}; {said}", 0)
 
 
 def free_name(name, taken):

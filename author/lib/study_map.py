@@ -163,12 +163,17 @@ def draw_squares(landscape, squares, titled):
 
 
 def draw_mark(squares, place, style):
-    """Returns a mark around a square, on a line of the page's colour."""
+    """Returns a mark around a square, so that its number can be read, in a line of the page's
+    colour."""
     (x, y), width, height = squares.corner(place), squares.width, squares.height
-    mark_width, mark_height = max(LEAST_MARK, width - 3), max(LEAST_MARK, height - 3)
-    mark = (round(x + (width - mark_width) / 2, 2), round(y + (height - mark_height) / 2, 2),
-            round(mark_width, 2), round(mark_height, 2))
-    return charts.rect(*mark, "halo") + charts.rect(*mark, style)
+
+    def frame(room, frame_style):
+        frame_width, frame_height = (max(LEAST_MARK, side) + room for side in (width, height))
+        return charts.rect(round(x + (width - frame_width) / 2, 2),
+                           round(y + (height - frame_height) / 2, 2), round(frame_width, 2),
+                           round(frame_height, 2), frame_style)
+
+    return frame(7, "halo") + frame(3, style)
 
 
 def draw_ticks(squares, landscape):

@@ -3,6 +3,8 @@
 `html_of` takes what report.json says. Each number of the page is one of the report's, or is
 computed from it: an opponent's standard error comes from its wins, ties and losses.
 """
+import math
+
 from . import study_charts, study_map
 from .study_page import (DASH, decimal, escaped, folded, fresh_percent, integer, name_list, page,
                          source, table, with_error)
@@ -100,11 +102,23 @@ def tuned_rows(sides, greatest):
             ["tuned percent", *percents]]
 
 
+def shown_values(report, values):
+    """Returns the values of a setting by the names of the constants. Of one that is an index of a
+    list in the author's text it has what is in the list there."""
+    lists = {constant["name"]: constant.get("list") for constant in report["constants"]}
+    return {name: lists[name][value] or DASH if lists.get(name) else value
+            for name, value in values.items()}
+
+
+def value_cells(report, values):
+    return map(escaped, shown_values(report, values).values())
+
+
 def comparison(report):
     """Returns START beside the winner."""
     start, winner = sides = report["start"], report["winner"]
-    rows = [[escaped(name), *(escaped(side["values"][name]) for side in sides)]
-            for name in winner["values"]]
+    rows = list(map(list, zip(map(escaped, winner["values"]),
+                              *(value_cells(report, side["values"]) for side in sides))))
     notes = []
     if not report["race"]:
         rows += tuned_rows(sides, report["schedule"]["greatest"])
@@ -160,6 +174,11 @@ def landscape(report):
         notes.append(f"Each {shown} is the greatest total among {step} values of each constant.")
     if study_map.is_outside(start_values, winner_values, box):
         notes.append(f"START is not in this picture: {values_text(start_values)}.")
+    if all(opponent["weight"] == 1 for opponent in report["opponents"]):
+        luck = 4 / 3 * math.sqrt(report["schedule"]["fights"] if not report["race"]
+                                 else report["box"]["schedule"]["fights"])
+        notes.insert(0, f"Luck alone moves a total by about {luck:.0f} points, so squares that "
+                     "differ by less may be equal, and a stripe may be one lucky value.")
     tuned = "all settings" if not report["race"] else "the settings around the race’s winner"
     return section("Landscape", paragraph(f"Totals of {tuned}, in the fights of the schedule."),
                    f"<figure>{picture}</figure>",
@@ -207,11 +226,11 @@ def effects(report):
     return pieces
 
 
-def ranking_row(ranked, names, is_winner):
+def ranking_row(report, ranked, is_winner):
     """Returns a setting of the ranking, as cells."""
     fresh = ranked["fresh"]
     return [escaped(ranked["rank"]) + (f" {WINNER}" if is_winner else ""),
-            escaped(ranked["setting"]), *(escaped(ranked["values"][name]) for name in names),
+            escaped(ranked["setting"]), *value_cells(report, ranked["values"]),
             integer(ranked["tuned"]), fresh_percent(fresh),
             *(integer(fresh and fresh[key]) for key in ("points", "fights"))]
 
@@ -222,7 +241,7 @@ def ranking(report):
     heads = ["rank", "setting", *map(escaped, names), "tuned total", "percent", "points", "fights"]
     marked = [index for index, ranked in enumerate(first)
               if ranked["setting"] == report["winner"]["setting"]]
-    rows = [ranking_row(ranked, names, index in marked) for index, ranked in enumerate(first)]
+    rows = [ranking_row(report, ranked, index in marked) for index, ranked in enumerate(first)]
     return section(f"The first {len(first)} of the ranking" if len(first) > 1 else "The ranking",
                    paragraph("In order of the tuned total. In fresh fights the better half went on "
                              "each time, so some played more of them than others.", "soft"),
@@ -237,7 +256,7 @@ def finalists(report):
               if one["values"] == report["winner"]["values"]]
     rows = [[str(place) + (f" {WINNER}" if place - 1 in marked else "")
              + (f" {START}" if one["values"] == report["start"]["values"] else ""),
-             *(escaped(one["values"][name]) for name in names),
+             *value_cells(report, one["values"]),
              f"{decimal(one['percent'])}%", integer(one["fights"])]
             for place, one in enumerate(found, 1)]
     return section("The final of the race", paragraph(

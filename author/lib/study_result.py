@@ -3,7 +3,7 @@ import datetime, math, re
 
 from . import landscape
 from .grid import Grid
-from .holdout import FreshPoints, gain_of, gain_words
+from .holdout import FreshPoints, gain_numbers, gain_of
 from .program import rules_of, run_program
 from .study_fresh import START
 from .tuning_files import Certificate, Template, read_schedule
@@ -21,10 +21,6 @@ class Box:
         self.ranking = self.cert.ranked(self.fights)
         # By setting, NaN for one that does not assemble.
         self.totals = landscape.Totals(self.template, self.cert, self.fights).totals
-
-    def values(self, setting):
-        """Returns the values of a setting by the names of the constants."""
-        return dict(zip(self.template.names, self.template.values_of_settings[setting]))
 
     def landscape(self, winner):
         """Returns the totals over the first two constants, with the others as the winner has them:
@@ -58,8 +54,7 @@ def fresh_fights(points, study):
                   "losses": text.count("0"),
                   "percent": 100 * sum(map(int, text)) / (3 * len(text))}
                  for name, text in zip(study.names, points)]
-    return {"fights": sum(map(len, points)), "points": sum(map(sum, fresh.by_opponent)),
-            "percent": fresh.mean(), "error": fresh.error(), "opponents": opponents}
+    return {**fresh.numbers(), "opponents": opponents}
 
 
 def gain(points, study):
@@ -68,12 +63,9 @@ def gain(points, study):
     difference = points and gain_of(points, study.args.weights)
     if not difference:
         return None
-    opponents = [{"name": name, "percent": alone.mean(), "error": alone.error(),
-                  "words": gain_words(alone)}
-                 for name, differences in zip(study.names, difference.by_opponent)
-                 for alone in [FreshPoints([differences], [1])]]
-    return {"percent": difference.mean(), "error": difference.error(),
-            "words": gain_words(difference), "opponents": opponents}
+    opponents = [{"name": name, **gain_numbers(FreshPoints([differences], [1]))}
+                 for name, differences in zip(study.names, difference.by_opponent)]
+    return {**gain_numbers(difference), "opponents": opponents}
 
 
 def title_of(text, name):
@@ -86,7 +78,8 @@ def constants_of(grid, winner_values, box):
     """Returns the constants: the ranges of the template, and the values of the box, if any."""
     ranges = box.template.ranges if box else [[]] * len(grid.names)
     return [{"name": name, "low": values[0], "high": values[-1], "step": values.step,
-             "start": start, "best": winner_values[name], "box": list(box_values)}
+             "start": start, "best": winner_values[name], "box": list(box_values),
+             "list": grid.lists.get(name)}
             for name, values, start, box_values in zip(grid.names, grid.ranges, grid.start_values,
                                                        ranges)]
 
@@ -116,8 +109,8 @@ def common_numbers(study, grid, box, winner_values, points):
 
 def ranking_of(box, points, study):
     """Returns the first of the ranking, each with its fresh fights."""
-    return [{"rank": rank, "setting": setting, "values": box.values(setting), "tuned": total,
-             "fresh": fresh_fights(points[str(setting)], study)}
+    return [{"rank": rank, "setting": setting, "values": box.template.values_by_name(setting),
+             "tuned": total, "fresh": fresh_fights(points[str(setting)], study)}
             for rank, (total, setting) in enumerate(box.ranking.full[:len(points)], 1)]
 
 
@@ -130,7 +123,7 @@ def tuned_numbers(study, results):
     """Returns the report of a template that was tuned whole."""
     folder, winner = study.folder.path, int(results["winner"])
     grid, box, last_points = Grid(folder / "template.red"), Box(folder), results["last_points"]
-    report = common_numbers(study, grid, box, box.values(winner),
+    report = common_numbers(study, grid, box, box.template.values_by_name(winner),
                             (last_points[results["winner"]], last_points[START]))
     ranking = ranking_of(box, results["points"], study)
     ranked_winner = next(ranked for ranked in ranking if ranked["setting"] == winner)

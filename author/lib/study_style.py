@@ -3,11 +3,11 @@ STYLE = """
 :root{color-scheme:light dark;--page:#fff;--ink:#1c2127;--soft:#59636e;--line:#d5dbe1;
 --quiet:#f4f6f8;--winner:#b8420b;--own:#d2662f;--other:#8a949f;
 --q0:#eef2f6;--q1:#d3dde7;--q2:#b3c3d3;--q3:#8fa5ba;--q4:#5b758f;--q5:#3d5770;--q6:#213a52;
---low:#1c2127;--high:#fff}
+--low:#1c2127;--high:#fff;--shade:#1c212759}
 @media (prefers-color-scheme:dark){:root{--page:#14181c;--ink:#e4e8ec;--soft:#a3adb8;
 --line:#343b43;--quiet:#1d2329;--winner:#ff9a5c;--own:#c4682f;--other:#737e8a;
 --q0:#212b35;--q1:#2c3c4b;--q2:#3a5166;--q3:#4a6681;--q4:#8aa5bf;--q5:#b0c5d9;--q6:#dbe7f2;
---low:#fff;--high:#14181c}}
+--low:#fff;--high:#14181c;--shade:#e4e8ec59}}
 *{box-sizing:border-box}
 body{margin:0;background:var(--page);color:var(--ink);font:1rem/1.5rem system-ui,sans-serif;
 font-variant-numeric:tabular-nums;overflow-wrap:anywhere}
@@ -24,10 +24,14 @@ li{margin-bottom:.4rem}
 .soft,caption,dt,summary{color:var(--soft)}
 .winner{color:var(--winner);font-weight:600}
 .start{color:var(--soft);font-weight:600}
-.box{overflow-x:auto;margin:0 0 1rem}
+.box{overflow-x:auto;margin:0 0 1rem;background:linear-gradient(90deg,var(--page) 40%,transparent)
+left/2.5rem 100%,linear-gradient(270deg,var(--page) 40%,transparent) right/2.5rem 100%,
+linear-gradient(90deg,var(--shade),transparent) left/1rem 100%,
+linear-gradient(270deg,var(--shade),transparent) right/1rem 100%;background-repeat:no-repeat;
+background-attachment:local,local,scroll,scroll}
 .box:focus-visible,summary:focus-visible{outline:2px solid var(--winner);outline-offset:2px}
 table{border-collapse:separate;border-spacing:0;font-size:.875rem;line-height:1.25rem;
-overflow-wrap:normal}
+overflow-wrap:normal;min-width:min(36rem,100%)}
 caption{text-align:left;padding:0 0 .4rem}
 th,td{padding:.375rem .5rem;border-bottom:1px solid var(--line);text-align:right;
 white-space:nowrap;vertical-align:top}
@@ -55,7 +59,7 @@ summary{cursor:pointer;margin-bottom:.5rem}
 .charts figure{margin:0}
 .charts{display:grid;grid-template-columns:repeat(auto-fit,minmax(min(100%,20rem),1fr));gap:1rem}
 figure{margin:0 0 1rem}
-svg{display:block;width:100%;max-width:30rem;height:auto}
+svg{display:block;width:100%;max-width:36rem;height:auto}
 svg text{font-size:11px;fill:var(--ink);stroke:none}
 svg .soft{fill:var(--soft)}
 svg .middle{text-anchor:middle}
@@ -68,7 +72,7 @@ svg .rule{stroke:var(--line);fill:none}
 svg .stroke{stroke:var(--ink);fill:none}
 svg .curve{stroke:var(--soft);fill:none;stroke-linejoin:round}
 svg .dot{fill:var(--soft);stroke:none}
-svg .halo{stroke:var(--page);fill:none;stroke-width:6}
+svg .halo{stroke:var(--page);fill:none;stroke-width:1}
 svg .mark{stroke:var(--winner);fill:none;stroke-width:3}
 svg .mark-start{stroke:var(--ink);fill:none;stroke-width:2;stroke-dasharray:3 2}
 """ + "".join(f"svg .q{k}{{fill:var(--q{k});stroke:none}}\n" for k in range(7))

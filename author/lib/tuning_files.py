@@ -130,6 +130,10 @@ class Template(Grid):
         """Returns the values of a setting as the report says them."""
         return self.constants_of(self.values_of_settings[setting])
 
+    def values_by_name(self, setting):
+        """Returns the values of a setting by the names of the constants."""
+        return dict(zip(self.names, self.values_of_settings[setting]))
+
     def checked_for(self, cert):
         """Returns this template. Refuses it if the certificate has another number of rows than it
         has settings."""

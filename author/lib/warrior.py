@@ -1,23 +1,32 @@
-"""Prints a setting of a template as the author's own text, with its values as EQU lines.
+"""Prints a setting of a template as the author's own text, with its values in their places.
 
 The setting is the best one of a certificate, or the one that --setting names: its index, or
-`start`. All other lines stay as they are, comments, name and author too. Each range line becomes a
-comment. A line `;strategy` with the setting and its total, and then the EQU lines, follow the
-`;redcode` line, or begin a text without one. The text is printed only if `cwtune asm` makes the
-same load file of it as of the setting.
+`start`. In a template that `cwtune-vary` made each number, mode, modifier or opcode is written
+where the author wrote it. A range line of one's own becomes an EQU line. Nothing else is changed,
+but that after the author's `;strategy` lines comes one that names the values; it replaces the one
+of an earlier tuning. So the text is ready for the next `cwtune-vary`. With --template the template
+is printed, with the setting as its START.
+
+The text is printed only if `cwtune asm` makes the same load file of it as of the setting.
 
 Example: cwtune-warrior my.red my.cert > winner.red
 """
 import argparse, re, sys
 
-from . import cert_inputs, tuning_files
-from .endings import Fault
+from . import cert_inputs, slots, tuning_files
+from .adapt import adapt, add_as_is, adapted_if_refused
+from .endings import Fault, say
 from .grid import is_range_line
+from .places import assembled_lines, lines_of
 from .program import load_file_of, refuse_other_warrior, rules_of
+from .put_back import original_lines
 from .words import FILE_HELP, add_files, add_program, add_rules, command_parser
 
-# The new lines come after the first line that begins so.
-REDCODE_LINE = b";redcode"
+# What the line of this command begins with.
+STRATEGY = ";strategy cwtune: "
+# It follows the last line that begins with the first of these words, else with the second, and so
+# on.
+LINES_BEFORE = [";strategy", ";author", ";name", ";redcode"]
 # pMARS 0.9.2 reads no longer lines.
 MOST_LINE_BYTES = 255
 
@@ -28,29 +37,66 @@ def equ_line(name, value):
     return f"{name} EQU {value}" if value >= 0 else f"{name} EQU ({value})"
 
 
-def new_lines(template, setting, totals):
-    """Returns the lines that say which setting it is, and what its values are.
-
-    `totals` are those of the setting and of START, each None if it is not known.
-    """
+def strategy_line(template, setting, totals):
+    """Returns the line that says what the values are, and their total and that of START, each None
+    if it is not known."""
     total, start_total = totals
     shown = f", total {total}" if total is not None else ""
-    shown += f"; total of START {start_total}" if start_total is not None else ""
-    return [f";strategy cwtune: setting {setting} of {len(template.values_of_settings)}{shown}",
-            *map(equ_line, template.names, template.values_of_settings[setting])]
+    shown += f", total of START {start_total}" if start_total is not None else ""
+    return f"{STRATEGY}{template.constants(setting)}{shown}"
 
 
 def text_of(text, template, setting, totals=(None, None)):
-    """Returns the text of a setting. `text` is that of the template; both are bytes."""
-    lines = [b"; " + line[1:] if is_range_line(line) else line
-             for line in text.split(b"\n")]
-    place = 1 + next((index for index, line in enumerate(lines)
-                      if line[:len(REDCODE_LINE)].lower() == REDCODE_LINE), -1)
-    end = b"\r" if lines[0].endswith(b"\r") else b""
-    new = [line.encode("latin-1") + end for line in new_lines(template, setting, totals)]
-    if place == len(lines):  # the text ends with its `;redcode` line
-        lines.append(b"")
-    return b"\n".join([*lines[:place], *new, *lines[place:]])
+    """Returns the author's text with the values of a setting. `text` is that of the template; both
+    are bytes."""
+    value_of = template.values_by_name(setting)
+    lines, _ = slots.author_lines(template.path, text.decode("latin-1").split("\n"), value_of)
+    own = [slots.filled(line, slots.texts_of(of_line, value_of)) for line, of_line in lines]
+    return finished(own, template, setting, totals)
+
+
+def finished(own, template, setting, totals):
+    """Returns the author's text of lines in which the places that are open have their values, with
+    EQU lines for range lines of one's own, and the line of this command."""
+    end = "\r" if own[0].endswith("\r") else ""
+    own = with_equs(own, template.values_by_name(setting), end)
+    return "\n".join(with_strategy(own, strategy_line(template, setting, totals) + end)).encode(
+        "latin-1")
+
+
+def with_equs(lines, value_of, end):
+    """Returns lines with an EQU line for each range line, in its place. Where no EQU is read, as in
+    a block or after END, it follows the `;redcode` line, or begins the text."""
+    text = "\n".join(lines)
+    depths = [(line.number, line.depth + (line.word == "for")) for line in lines_of(text)]
+    read = {number for number, _ in assembled_lines(text)
+            if not next((depth for of, depth in reversed(depths) if of < number), 0)}
+    new, moved = [], []
+    for number, line in enumerate(lines, 1):
+        if is_range_line(line.encode("latin-1")):
+            name = line.split()[1]
+            (new if number in read else moved).append(equ_line(name, value_of[name]) + end)
+        else:
+            new.append(line)
+    place = 1 + last_that_begins(new, ";redcode")
+    return new[:place] + moved + new[place:]
+
+
+def with_strategy(lines, line):
+    """Returns lines with the line of this command after the author's `;strategy` lines. That of an
+    earlier tuning is left out."""
+    lines = [other for other in lines if not other.startswith(STRATEGY)]
+    head = max(last_that_begins(lines, ";redcode"), 0)
+    places = [last_that_begins(lines[head:], word) for word in LINES_BEFORE]
+    place = head + 1 + next((place for place in places if place >= 0), -1)
+    return lines[:place] + [line] + lines[place:] + [""] * (place == len(lines))
+
+
+def last_that_begins(lines, word):
+    """Returns the index of the last of the lines that begins with a word, in letters of any case;
+    of `;redcode` the first; -1 if there is none."""
+    found = [index for index, line in enumerate(lines) if line[:len(word)].lower() == word]
+    return (found[0] if word == ";redcode" else found[-1]) if found else -1
 
 
 def setting_word(word):
@@ -90,12 +136,47 @@ def print_pmars_notes(text):
                   file=sys.stderr)
 
 
+def checked_text(args, template, setting, totals):
+    """Returns the author's text with the values of a setting. Refuses one that is another
+    warrior."""
+    rules = rules_of(args).words()
+    load_file = load_file_of(args.program, f"setting {setting}", *rules, f"--setting={setting}",
+                             "--", template.path)
+    if args.original and (text := text_put_back(args, template, setting, totals, load_file)):
+        return text
+    text = text_of(b"\n".join(template.lines), template, setting, totals)
+    refuse_other_warrior("with its values", text, load_file, args.program, *rules)
+    print_pmars_notes(text)
+    return text
+
+
+def text_put_back(args, template, setting, totals, load_file):
+    """Returns the text of --original with the values of a setting. If it cannot have them all in
+    their places, a note says so, and nothing is returned."""
+    try:
+        text = finished(original_lines(args, template, setting), template, setting, totals)
+        if adapt(args.original, text, rules_of(args), args.program).load_file != load_file:
+            raise Fault(f"{args.original} has one place for several of the adapted text")
+        return text
+    except Fault as fault:
+        if fault.status != 1:
+            raise
+        say("note", f"{fault}, so this is the adapted text", 0)
+        return None
+
+
 def make_parser():
     parser = command_parser(__doc__)
     parser.add_argument("--setting", type=setting_word, metavar="W",
                         help="the index of a setting, or `start`")
+    printed = parser.add_mutually_exclusive_group()
+    printed.add_argument("--template", action="store_true", dest="as_template",
+                         help="print the template, with the setting as its START")
+    printed.add_argument("--original", metavar="FILE", help="put the values into this text, which "
+                         "was adapted before the template was made of it")
     add_program(parser)
     add_rules(parser, of_tuning=True)
+    add_as_is(parser)
     add_files(parser, "template")
     parser.add_argument("cert", metavar="CERT", nargs="?", help=FILE_HELP["cert"])
     return parser
@@ -108,7 +189,13 @@ def main():
         parser.error("CERT is missing: give it, or --setting W")
     if args.cert is not None and args.setting is not None:
         parser.error("give CERT or --setting, and not both")
-    template, totals = tuning_files.Template(args.template), (None, None)
+    with adapted_if_refused(args) as path:
+        print_text(args, path)
+
+
+def print_text(args, path):
+    """Prints the text of a setting of the template at a path."""
+    template, totals = tuning_files.Template(path), (None, None)
     args.schedule, why_unused = None, ""
     if args.cert is None:
         setting = setting_of(template, args.setting)
@@ -118,12 +205,6 @@ def main():
         template.checked_for(cert)
         setting = cert.best
         totals = cert.total, total_of_start(cert, template, args.schedule)
-    with open(args.template, "rb") as file:
-        text = text_of(file.read(), template, setting, totals)
-    rules = rules_of(args).words()
-    load_file = load_file_of(args.program, f"setting {setting}", *rules, f"--setting={setting}",
-                             "--", args.template)
-    refuse_other_warrior("with the values as EQU lines", text, load_file, args.program, *rules)
-    print_pmars_notes(text)
-    sys.stdout.buffer.write(text)
+    sys.stdout.buffer.write(template.with_start(setting) if args.as_template
+                            else checked_text(args, template, setting, totals))
     cert_inputs.print_note(why_unused)

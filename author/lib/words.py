@@ -1,5 +1,5 @@
 """Makes the parsers of the commands, with the files, options and numbers that several have."""
-import argparse, shutil, sys
+import argparse, json, shutil, sys
 
 from .endings import escaped
 from .program import BUILT, DEFAULT, HILLS, Rules, program_of
@@ -113,6 +113,16 @@ def program_at(word):
 def add_program(parser):
     parser.add_argument("--program", type=program_at, default=DEFAULT, metavar="FILE",
                         help="the program cwtune [default: the one built here, else on the PATH]")
+
+
+def add_json(parser):
+    parser.add_argument("--json", action="store_true",
+                        help="print one JSON object in place of lines (docs/FORMATS.md)")
+
+
+def print_json(numbers):
+    """Prints an object as JSON. A byte of a name that is not UTF-8 becomes an escape."""
+    print(json.dumps(numbers, indent=1))
 
 
 def add_hill(parser, default="94nop"):

@@ -4,6 +4,7 @@ run              the stored results (expected/), helps, closed streams, Ctrl-C; 
 refusals         files and words that the commands refuse
 warriors         `cwtune-warrior` and `cwtune-holdout`
 varying          `cwtune-vary`
+adapting         `cwtune-adapt`, and the commands that adapt a text by themselves
 racing           `cwtune-seek`, and races with made-up fights
 origins          certificates with their CERT.inputs, and inputs of another tuning
 landscapes       `cwtune-landscape --effects`

@@ -58,7 +58,7 @@ FILES = {
 EFFECTS = """errorbar ([0, 1], [0.0, 1.0], [0.0, 0.0])
 set_xlabel ('K',)
 set_ylabel ('mean total',)
-suptitle ('best 1: K=1, total 1 of 3',)"""
+suptitle ('best setting 1: K=1, total 1 of 3',)"""
 
 
 def effects(place):

@@ -59,7 +59,7 @@ def readers(place):
     yield compare("cwtune-scores by CERT.inputs", (0, True, ""),
                   (status, "START, setting 0, total 15, 1 less than the best K=0\n" in out, err))
     status, out, err = run_in(place, "cwtune-warrior t.red cert")
-    line = ";strategy cwtune: setting 1 of 2, total 16; total of START 15\n"
+    line = ";strategy cwtune: K=1, total 16, total of START 15\n"
     yield compare("cwtune-warrior by CERT.inputs", (0, True, ""), (status, line in out, err))
     (place.folder / "below").mkdir()
     status, out, err = run_in(place, "cwtune-scores ../cert", "below")

@@ -1,5 +1,5 @@
 """Plays `cwtune-seek` with the program, and races with made-up fights."""
-import argparse, os, random, signal, subprocess
+import argparse, json, os, random, signal, subprocess
 from unittest import mock
 from unittest import mock
 
@@ -149,6 +149,11 @@ def finds(place):
                                    "over START"],
                   [lines[0].partition(": about")[0], lines[-3],
                    *(line.partition(":")[0] for line in lines[-2:])])
+    status, as_json, _ = seek(place, "--json")
+    numbers = json.loads(as_json)
+    yield compare("--json has it too", (0, dict(zip(found.names, found.start_values)), out, True), (
+        status, numbers["winner"], numbers["template"],
+        f"over START: {numbers['gain']['percent']:+.1f}%" in lines[-1]))
     yield compare("one job finds the same", (out, lines[-3:]), (
         seek(place, "--jobs=1").out, seek(place, "--jobs=1").err.splitlines()[-3:]))
     yield compare("a box is cut around it", (0, found.start_values, True), boxed(place))

@@ -82,6 +82,9 @@ CANNOT_BE_READ = [
     Refusal("cwtune-scores none schedule.csv", 3, f"failed: none: {NO_FILE}"),
     Refusal("cwtune-scores step.cert none", 3, f"failed: none: {NO_FILE}"),
     Refusal("cwtune-scores step.cert .", 3, "failed: .: Is a directory"),
+    Refusal("cwtune-scores none", 3, f"failed: none: {NO_FILE}"),
+    usage_error("cwtune-scores --json --csv step.cert schedule.csv",
+                "argument --csv: not allowed with argument --json"),
     Refusal("cwtune-files none", 3, f"failed: none: {NO_FILE}"),
     Refusal("cwtune-landscape none step.cert x.png", 3, f"failed: none: {NO_FILE}"),
     # A symbolic link to itself.
@@ -185,7 +188,7 @@ NOT_ASSEMBLED = [
 NOT_CWTUNE = [
     Refusal(words, 3, f"failed: /bin/true{fault}") for words, fault in [
         ("cwtune-seek --program /bin/true two.red two.csv plain.red",
-         " tune: not the output of cwtune"),
+         " asm: not the output of cwtune"),
         ("cwtune-spread --program /bin/true --check-only two.red two.csv x.cert plain.red",
          " settings: not the output of cwtune"),
         ("cwtune-spread --program /bin/true two.red two.csv x.cert plain.red",

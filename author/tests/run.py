@@ -16,7 +16,7 @@ from author.lib.program import program_of
 from author.lib.words import add_built, module_parser
 from gate.tally import LeftOut, compare, tally
 
-from . import (clusters, hosts, landscapes, merging, origins, own_folders, racing, refusals,
+from . import (adapting, clusters, hosts, landscapes, merging, origins, own_folders, racing, refusals,
                reporting, sharing, spreading, strangers, study_hosts, studying, varying, warriors)
 from .commands import (AUTHOR, SECONDS, TUNING, command, played, printed, run, started,
                        wait_until)
@@ -41,7 +41,8 @@ PLAIN = {
     "other-template.txt": "cwtune-landscape step.red weighted.cert picture.svg",
 }
 # Command lines that run the program before they write anything.
-RUN_PROGRAM = ["cwtune-warrior step.red --setting 3", "cwtune-vary ../warriors/dwarf.red step=4:5",
+RUN_PROGRAM = ["cwtune-adapt ../warriors/dwarf.red",
+               "cwtune-warrior step.red --setting 3", "cwtune-vary ../warriors/dwarf.red step=4:5",
                "cwtune-seek --jobs=2 step.red schedule.csv ../warriors/dwarf.red",
                "cwtune-study step.red ../warriors/dwarf.red"]
 NO_PROGRAM = "no cwtune here or on the PATH: give --program FILE\n"
@@ -199,7 +200,7 @@ def all_trials(program, replaces):
             "helps": helps(), "closed": closed(), "without_program": without_program(),
             "refusals": refusals.trials(python), "signals": signals(),
             **{f"{module.__name__.rpartition('.')[2]}.{name}": trial
-               for module in (warriors, varying, racing, origins, landscapes, strangers,
+               for module in (warriors, varying, adapting, racing, origins, landscapes, strangers,
                               own_folders, studying, spreading, merging, sharing, hosts, study_hosts,
                               clusters)
                for name, trial in module.trials(program).items()},

@@ -77,7 +77,7 @@ def terminals(place):
                 run_in(place, *words.format(name).split(), program=False))
     place.write("equ.red", f"K EQU 1{ESCAPE}\nDAT K\n")
     yield compare("cwtune-vary", (1, "", f"refused: equ.red, line 1: {NOT_SHOWN} is not a plain "
-                                  "number, so K can have no range\n"),
+                                  "number, so K can have no range; it has K.1=1, K.2=0\n"),
                   run_in(place, "cwtune-vary", "equ.red", "K=1:2"))
     place.write("CERT.1.report", "vectors 2\ncandidates 2\nbest 0\nconstants K=0" + ESCAPE
                 + "\ntotal 1 of 3\nfights 2 of 2\n")

@@ -18,7 +18,7 @@ aim EQU 3
 WARRIOR = STONE.replace(";@tune STEP 1 9 2 5\n", "").replace("STEP EQU 4", "STEP EQU 5")
 TEMPLATE = STONE.replace("STEP EQU 4\n", "")
 PLANE = TEMPLATE.replace("aim EQU 3\n", ";@tune aim -4 4 1 0\n")
-OPPONENTS = {"dat.red": "DAT 0\n", "imp.red": "MOV 0, 1\n", "two.red": "SPL 0\nMOV 0, 1\n"}
+OPPONENTS = {"dat.red": "DAT 0, 0\n", "imp.red": "MOV 0, 1\n", "two.red": "SPL 0\nMOV 0, 1\n"}
 FEW = ["--hill=nano", "--rounds=3", "--fresh=10", "--jobs=1"]
 
 
@@ -40,6 +40,15 @@ class StudyPlace(play.Place):
 
     def report(self, name):
         return json.loads(self.read(f"{name}.study/report.json"))
+
+    def own_lines(self, name, index):
+        """Returns which lines of the winner's text are not those of the warrior, but for the line
+        of `cwtune-warrior`, which has to have this index."""
+        lines = self.read(f"{name}.study/winner.red").decode().split("\n")
+        own = self.read(f"{name}.red").decode().split("\n")
+        if not lines.pop(index).startswith(";strategy cwtune: ") or len(lines) != len(own):
+            return lines
+        return [line for line, other in zip(lines, own) if line != other]
 
     def load_file(self, *words):
         """Returns the load file of a text."""

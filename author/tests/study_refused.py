@@ -10,9 +10,10 @@ FOREIGN = "error: mine is not a folder of this cwtune-study, and is not touched{
 WRONG_WORDS = [
     usage_error("cwtune-study t.red", "OPPONENT is missing: files, or a folder with files *.red"),
     usage_error("cwtune-study STEP=1:2 K=1:2",
-                "WARRIOR is missing: a template, or a warrior with words NAME=LOW:HIGH:STEP"),
+                "WARRIOR is missing: a template, or a warrior with words PLACE=VALUES"),
     usage_error("cwtune-study w.red all STEP=1",
-                "STEP=1 is not of the form NAME=LOW:HIGH:STEP, as STEP=5:4000:10, without blanks"),
+                "STEP=1 is not of the form PLACE=LOW:HIGH:STEP or PLACE=VALUE,VALUE, as "
+                "STEP=5:4000:10 or throw.b=-40,-25, without blanks"),
     usage_error("cwtune-study w.red all STEP=1:9 STEP=1:9", "STEP has two ranges"),
     usage_error("cwtune-study t.red " + "all " * 22, "66 opponents; at most 64"),
     usage_error("cwtune-study --rounds=4000 t.red all",
@@ -27,11 +28,9 @@ WRONG_WORDS = [
 ]
 WRONG_WARRIORS = [
     Refusal("cwtune-study w.red all", 1, "refused: w.red: no range line: give words "
-            "NAME=LOW:HIGH:STEP too (`cwtune-vary w.red` lists the names)"),
+            "PLACE=VALUES too (`cwtune-vary w.red` lists the places)"),
     Refusal("cwtune-study t.red all STEP=1:9:2", 1,
             "refused: t.red: it has range lines, so it is a template already"),
-    Refusal("cwtune-study w.red all STEP=1:9:3", 1, "refused: w.red, line 3: STEP is 5, which is "
-            "none of its values; the nearest are 4 and 7"),
     Refusal("cwtune-study three-words.red all", 1, "refused: three-words.red: line 1 is not a "
             "range line: ;@tune NAME LOW HIGH STEP START, with START one of the values"),
     Refusal("cwtune-study no-start.red all", 1, "refused: START of no-start.red does not assemble: "

@@ -8,7 +8,7 @@ from gate.tally import compare
 
 from . import study_refused
 from .commands import AUTHOR, SECONDS, in_folders, run, wait_until
-from .study_place import OPPONENTS, PLANE, TEMPLATE, StudyPlace
+from .study_place import OPPONENTS, PLANE, TEMPLATE, WARRIOR, StudyPlace
 
 STAGES = ["inputs", "schedule", "template", "best", "fresh 1", "fresh 2", "fresh 3", "fresh 4",
           "fresh 5", "winner", "report"]
@@ -37,7 +37,7 @@ def finds(place):
                   report["landscape"]["totals"])
     yield compare("the winner's text is the winner", place.read("t.study/fresh/"
                   f"{report['winner']['setting']}.red"), place.load_file("t.study/winner.red"))
-    line = f"\n;strategy cwtune: setting {report['winner']['setting']} of 5\n"
+    line = f"\n;strategy cwtune: STEP={report['winner']['values']['STEP']}\n"
     yield compare("its text says which it is", (True, True), (
         line in report["winner_text"], line.encode() in place.read("t.study/winner.red")))
     yield from fresh_fights(report, folder)
@@ -93,6 +93,8 @@ def varies(place):
     report = place.report("w")
     yield compare("a name that is taken gets a number", ["imp.red", "imp-2.red", hostile],
                   [opponent["name"] for opponent in report["opponents"]])
+    yield compare("only the number of the winner's text differs", [
+        f"STEP EQU {report['winner']['values']['STEP']}"], place.own_lines("w", 2))
     yield compare("the title is the warrior's name", 'Little <Stone> & "Co"', report["title"])
     yield compare("the log has the commands of the report", report["commands"], [
         line.rpartition("  # ")[0] for line in place.read("w.study/log.txt").decode().splitlines()
@@ -101,6 +103,24 @@ def varies(place):
     place.write("one.red", TEMPLATE.replace("1 9 2 5", "5 5 1 5"))
     yield compare("one setting", "the winner is START: nothing better was found",
                   place.study("one.red", "all").out.splitlines()[-3])
+
+
+def opens(place):
+    """Makes a study of a warrior with places of several kinds, in which settings race."""
+    words = ["--exact=9", "--fights=2000", "w.red", "all", "STEP=1:9:2", "aim=7,-3,0",
+             "6.b-mode=@,<,}"]
+    status, out, _ = place.study(*words)
+    yield compare("a study of places of several kinds", (0, "race: ", "w.study/report.html"),
+                  (status, out[:6], out.splitlines()[-1]))
+    values = place.report("w")["winner"]["values"]
+    lines = [f"STEP EQU {values['STEP']}", f"aim EQU {[3, 7, -3, 0][values['aim_choice']]}",
+             f"        MOV  2, {'@<}'[values['line6_b_mode']]}2"]
+    yield compare("only what was opened differs in the winner's text",
+                  [line for line in lines if line not in WARRIOR.split("\n")],
+                  place.own_lines("w", 2))
+    status, out, _ = place.study("--json", *words)
+    yield compare("--json prints the report alone", (0, place.report("w")), (
+        status, json.loads(out)))
 
 
 def typed(place):
@@ -211,4 +231,4 @@ def without_seconds(log):
 
 def trials(program):
     return in_folders(lambda folder: StudyPlace(program, folder), [
-        finds, varies, whole, races, study_refused.foreign, study_refused.refusals])
+        finds, varies, opens, whole, races, study_refused.foreign, study_refused.refusals])

@@ -1,5 +1,5 @@
 """Plays `cwtune-vary` with the program."""
-import subprocess
+import re, subprocess
 
 from gate.play import Place
 from gate.tally import compare
@@ -22,26 +22,103 @@ k       EQU  3
         END
 late    EQU  7
 """
-TEMPLATE = TEXT.replace("STEP EQU 5 ; of the bombs", "; of the bombs\n;@tune STEP 1 9 4 5")
-FAR = ";@tune far -30 10 10 -20"
+TEMPLATE = TEXT.replace("STEP EQU 5 ;", ";@text STEP EQU [STEP] ;").replace(
+    "far: equ", ";@tune STEP 1 9 4 5\nfar: equ")
+FAR = ";@text far: equ ([far])\n;@tune far -30 10 10 -20"
+# A text with places of each kind.
+PLACES = """;redcode-94
+;name Places
+;strategy one
+;strategy two
+GATE equ -25
+AIM  equ (bomb+1555)
+go
+throw: spl #0, <-25 ; [throw_b] is not a slot
+        MOV.I bomb, @throw
+        sub #2*8-3, bomb
+        djn throw, <GATE
+bomb    DAT >1, #4
+i       for 2
+x&i     dat i, 7
+        rof
+        end
+"""
+# The number of a line, what opens a place of it, what the template has there, and the notes.
+OPENED = [
+    (5, "GATE=-40:-10:5", ";@text GATE equ [GATE]\n;@tune GATE -40 -10 5 -25", ""),
+    (5, "GATE=7,-25,100", ";@text GATE equ [GATE_choice:7,-25,100]\n;@tune GATE_choice 0 2 1 1\n"
+     "GATE equ ((GATE_choice==0)*(7)+(GATE_choice==1)*(-25)+(GATE_choice==2)*(100))", ""),
+    (5, "GATE=-30,-20", ";@text GATE equ [GATE]\n;@tune GATE -30 -20 5 -25",
+     "note: GATE is -25, which is tried too\n"),
+    (5, "GATE=-41:-9:5", ";@text GATE equ [GATE]\n;@tune GATE -40 -10 5 -25",
+     "note: GATE is -25, so its values are -40 to -10 by 5\n"),
+    (5, "GATE=1:12:5", ";@text GATE equ [GATE]\n;@tune GATE -25 10 5 -25",
+     "note: GATE is -25, so its values are -25 to 10 by 5\n"),
+    (6, "AIM.1=1555:1600", ";@text AIM  equ (bomb+[AIM_1])\n;@tune AIM_1 1555 1600 1 1555\n"
+     "AIM  equ (bomb+AIM_1)", ""),
+    (8, "throw.b=-40:-10:5", ";@text throw: spl #0, <[throw_b_] ; [throw_b] is not a slot\n"
+     ";@tune throw_b_ -40 -10 5 -25\nthrow: spl #0, <throw_b_", ""),
+    (9, "9.modifier=i,ab", ";@text         MOV[line9_modifier:.I,.AB] bomb, @throw\n"
+     ";@tune line9_modifier 0 1 1 0\nFOR line9_modifier == 0\n        MOV.I bomb, @throw\nROF\n"
+     "FOR line9_modifier == 1\n        MOV.AB bomb, @throw\nROF", ""),
+    (10, "10.modifier=f", ";@text         sub[line10_modifier:,.f] #2*8-3, bomb\n"
+     ";@tune line10_modifier 0 1 1 0\nFOR line10_modifier == 0\n        sub #2*8-3, bomb\nROF\n"
+     "FOR line10_modifier == 1\n        sub.f #2*8-3, bomb\nROF",
+     "note: 10.modifier is not written, which is tried too\n"),
+    (10, "10.a.3=1:5:2", ";@text         sub #2*8-[line10_a_3], bomb\n;@tune line10_a_3 1 5 2 3\n"
+     "        sub #2*8-line10_a_3, bomb", ""),
+    (10, "10.b-mode=<,$", ";@text         sub #2*8-3, [line10_b_mode:<,]bomb\n"
+     ";@tune line10_b_mode 0 1 1 1\nFOR line10_b_mode == 0\n        sub #2*8-3, <bomb\nROF\n"
+     "FOR line10_b_mode == 1\n        sub #2*8-3, bomb\nROF", ""),
+    (11, "11.opcode=djn,jmn", ";@text         [line11_opcode:djn,jmn] throw, <GATE\n"
+     ";@tune line11_opcode 0 1 1 0\nFOR line11_opcode == 0\n        djn throw, <GATE\nROF\n"
+     "FOR line11_opcode == 1\n        jmn throw, <GATE\nROF", ""),
+    (14, "14.b=7:9", ";@text x&i     dat i, [line14_b]\n;@tune line14_b 7 9 1 7\n"
+     "x&i     dat i, line14_b", ""),
+    (13, "13.a=1:5", ";@text i       for [line13_a]\n;@tune line13_a 1 5 1 2\n"
+     "i       for line13_a", ""),
+]
+LIST = """STEP=5: line 4, 3 uses
+far=-20: line 5, 1 use
+both.1=1: line 6, 0 uses
+9.a=-2: line 9
+11.a=2: line 11
+7: line 7, a-mode=$ b-mode=@ modifier=- opcode=MOV
+8: line 8, a-mode=# b-mode=$ modifier=- opcode=ADD
+9: line 9, a-mode=$ modifier=- opcode=JMP
+bomb: line 10, a-mode=# b-mode=# modifier=- opcode=DAT
+"""
+FORM = (" is not of the form PLACE=LOW:HIGH:STEP or PLACE=VALUE,VALUE, as STEP=5:4000:10 or "
+        "throw.b=-40,-25, without blanks")
+MODES = "# $ * @ { < } >"
+OPCODES = "dat mov add sub mul div mod jmp jmz jmn djn cmp seq sne slt spl nop"
 WRONG_RANGES = [
     Refusal("cwtune-vary two.red both=1:9", 1, "refused: two.red, line 6: STEP+1 is not a plain "
-            "number, so both can have no range"),
+            "number, so both can have no range; it has both.1=1"),
     Refusal("cwtune-vary two.red step=1:9", 1,
             "refused: two.red: no line `step EQU number`; did you mean STEP?"),
     *(Refusal(f"cwtune-vary two.red {name}=1:9", 1,
               f"refused: two.red: no line `{name} EQU number`") for name in ["k", "late"]),
-    Refusal("cwtune-vary two.red STEP=1:9:3", 1, "refused: two.red, line 4: STEP is 5, which is "
-            "none of its values; the nearest are 4 and 7"),
-    Refusal("cwtune-vary two.red STEP=6:9:3", 1, "refused: two.red, line 4: STEP is 5, which is "
-            "none of its values; the nearest is 6"),
+    *(Refusal(f"cwtune-vary two.red {word}", 1, f"refused: two.red{fault}") for word, fault in [
+        ("bom.b=1:9", ": no label `bom`; did you mean bomb?"),
+        ("99.a=1:9", ", line 99: nothing there can be opened"),
+        ("3.a=1:9", ", line 3: nothing there can be opened"),
+        ("9.b=1:9", ", line 9: JMP has no b here"),
+        ("9=1:9", ", line 9: give a field too, as 9.a"),
+        ("STEP.a=1:9", ", line 4: give STEP or STEP.1, as STEP is the name of an EQU line"),
+        ("bomb.a=1:9", ", line 10: STEP is not a plain number, so bomb.a can have no range"),
+        ("both.2=1:9", ", line 6: both has 1 number, and no both.2")]),
+    Refusal("cwtune-vary two.red STEP=1:9 4.1=2:5", 2,
+            "error: two.red, line 4: STEP and STEP.1 are in one place"),
     usage_error("cwtune-vary two.red STEP=1:9 STEP=2:5", "STEP has two ranges"),
-    *(usage_error(f"cwtune-vary two.red {word}", f"argument NAME=LOW:HIGH:STEP: {word}{fault}")
+    *(usage_error(f"cwtune-vary two.red {word}", f"argument PLACE=VALUES: {word}{fault}")
       for word, fault in [
-          *((word, " is not of the form NAME=LOW:HIGH:STEP, as STEP=5:4000:10, without blanks")
-            for word in ["STEP=1", "STEP=a:b", "STEP"]),
+          *((word, FORM) for word in ["STEP=1", "STEP=a:b", "STEP", "STEP=1,", "bomb.c=1:2"]),
           ("STEP=9:1", ": 9 is above 1"), ("STEP=1:9:0", ": the step is 0"),
-          ("STEP=1:99999", ": values are -65535 to 65535")]),
+          ("STEP=1:99999", ": values are -65535 to 65535"),
+          ("bomb.a-mode=#,q", f": q is no mode; there are {MODES}"),
+          ("bomb.modifier=ab,", ": nothing is no modifier; there are a b ab ba f x i"),
+          ("bomb.opcode=ldp", f": ldp is no opcode; there are {OPCODES}")]),
 ]
 
 
@@ -64,14 +141,45 @@ def templates(place):
     yield compare("CR LF", (0, template.replace("\n", "\r\n")),
                   run_bytes(place, "lines.red", "STEP=1:9:4"))
     status, _, err = vary(place, "two.red", "STEP=1:3000", "far=-999:0")
-    yield compare("too many settings for tune", (0, "note: 3000000 settings, more than the 1000000 "
-                  "that `cwtune tune` takes\n"), (status, err))
+    yield compare("too many settings for tune", (0, "note: 3000000 settings: too many for `cwtune "
+                  "tune`; cwtune-study and cwtune-seek have them race\n"), (status, err))
     place.write("two.red", TEXT)
-    yield compare("the numbers of a text", (
-        0, "STEP=5: line 4, 3 uses\nfar=-20: line 5, 1 use\n", ""), vary(place, "two.red"))
-    place.write("none.red", "MOV 0, 1\n")
-    yield compare("a text without numbers", (0, "", "note: no line `NAME EQU number`\n"),
+    yield compare("what could be opened", (0, LIST, ""), vary(place, "two.red"))
+    place.write("none.red", ";name None\n equ 5\n")
+    yield compare("a text without places", (0, "", "note: nothing that could be opened\n"),
                   vary(place, "none.red"))
+
+
+def places(place):
+    """Opens places of each kind, alone and together, and takes the text out of each template
+    again."""
+    place.write("places.red", PLACES)
+    lines = PLACES.split("\n")
+    for number, word, new, notes in OPENED:
+        status, out, err = vary(place, "places.red", word)
+        expected = "\n".join([*lines[:number - 1], new, *lines[number:]])
+        yield compare(f"opened: {word}", (0, expected, notes),
+                      (status, out, err[:err.rfind("note: ")]))
+        place.write("t.red", out)
+        yield from returned(place, word, 1)
+    words = [word for _, word, _, _ in OPENED[5:7] + OPENED[8:12]]
+    place.write("t.red", vary(place, "places.red", "GATE=-40:-10:5", *words).out)
+    yield from returned(place, "all", 2)
+
+
+def returned(place, name, count):
+    """Compares the author's text of START, and those of the first and the last setting, with the
+    text that the template was made of."""
+    settings = int(place.run(["settings", "t.red"]).out.split()[1])
+    for setting in ["start", 0, settings - 1]:
+        out = run("cwtune-warrior", "--program", place.program, f"--setting={setting}", "t.red",
+                  folder=place.folder).out.split("\n")
+        own = [line for line in out if not line.startswith(";strategy cwtune: ")]
+        differ = [line for line, other in zip(own, PLACES.split("\n")) if line != other]
+        most = 0 if setting == "start" else 1 if count == 1 else 6
+        yield compare(f"{name}: the text of setting {setting}", (1, 4, True), (
+            len(out) - len(own), next(index for index, line in enumerate(out) if line not in own),
+            len(own) == PLACES.count("\n") + 1 and len(differ) <= most))
 
 
 def run_bytes(place, *words):
@@ -98,4 +206,4 @@ def refusals(place):
 
 def trials(program):
     return in_folders(lambda folder: Place(program, folder, {}), [
-        templates, refusals])
+        templates, places, refusals])

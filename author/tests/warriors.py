@@ -1,4 +1,6 @@
 """Plays `cwtune-warrior` and `cwtune-holdout` with the program."""
+import json
+
 from author.lib import tuning_files, warrior
 from author.lib.program import assemble
 from gate.play import Place
@@ -65,18 +67,42 @@ def warriors(place):
         yield f"ranges: {name}", wrong_settings(place, text, count)
     status, out, err = warrior_of(place, "step.red", "step.cert")
     cert = tuning_files.Certificate(TUNING / "step.cert")
-    start = cert.total_of(tuning_files.Template(TUNING / "step.red").start, cert.fights(None))
-    line = (f";strategy cwtune: setting {cert.best} of 21, total {cert.total}; "
+    template = tuning_files.Template(TUNING / "step.red")
+    start = cert.total_of(template.start, cert.fights(None))
+    line = (f";strategy cwtune: {template.constants(cert.best)}, total {cert.total}, "
             f"total of START {start}\n")
     yield compare("the best setting of a certificate",
                   (0, True, origins.note("step.cert.inputs is not there")),
                   (status, line in out, err))
 
 
+def own_texts(place):
+    """Makes texts of templates with range lines of one's own, and with an older `;strategy` line of
+    this command; and the template with another START."""
+    text = (";redcode\n;name N\n;strategy cwtune: old\n;strategy own\n;@tune K -2 2 1 0\n"
+            "MOV 0, K\n")
+    place.write("t.red", text)
+    for words, expected in [
+        (["--setting=0"], ";redcode\n;name N\n;strategy own\n;strategy cwtune: K=-2\nK EQU (-2)\n"
+         "MOV 0, K\n"),
+        (["--setting=4", "--template"], text.replace("1 0", "1 2"))]:
+        yield compare(f"the text by {words}", (0, expected, ""), warrior_of(
+            place, *words, "t.red", folder=place.folder))
+    place.write("t.red", ";redcode\n;author A\n;name N\n MOV 0, 1")
+    yield compare("a text without a `;strategy` line",
+                  (0, ";redcode\n;author A\n;strategy cwtune: -\n;name N\n MOV 0, 1", ""),
+                  warrior_of(place, "t.red", "--setting=0", folder=place.folder))
+
+
 def refusals(place):
     """Gives `cwtune-warrior` what it refuses."""
     for name, text, begin in [
-        ("chain.red", CHAIN, "refused: with the values as EQU lines the text does not assemble: "
+        ("kept.red", b";@text K EQU [K]\n;@tune K 0 1 1 0\n;@text DAT [L_choice:3,5]\n"
+         b";@tune L_choice 0 1 1 0\nDAT 3\n",
+         "refused: kept.red, line 3: what follows it is not what cwtune-vary wrote there"),
+        ("list.red", b";@text DAT [L_choice:3,5]\n;@tune L_choice 0 2 1 0\nDAT 3\n",
+         "refused: list.red: L_choice is an index of a list of 2, from 0"),
+        ("chain.red", CHAIN, "refused: with its values the text does not assemble: "
          "Asm line "),
         ("refused.red", b"DAT 1/0\n", "refused: setting 0 does not assemble: Asm line 1 "),
     ]:
@@ -163,6 +189,36 @@ def holdouts(place):
                   (status, out, err.rpartition(": ")[0]))
 
 
+def objects(place):
+    """Asks for JSON and CSV."""
+    for name, text in [("t.red", ";@tune K 0 2 1 0\nJMP 1-1/(K!=2)\n"), ("imp.red", "MOV 0, 1\n"),
+                       ("s.csv", FIGHT)]:
+        place.write(name, text)
+    place.run(["tune", "--all", "t.red", "s.csv", "cert", "imp.red"], keep=True)
+    scores = json.loads(run("cwtune-scores", "--program", place.program, "--json", "--top=1",
+                            "cert", folder=place.folder).out)
+    made = {"opponent": 0, "wins": 0, "ties": 1, "losses": 0, "score": 1, "greatest": 3,
+            "not_played": 0}
+    best = {"setting": 0, "values": {"K": 0}, "total": 1, "opponents": [made]}
+    yield compare("cwtune-scores --json", {
+        "greatest": 3, "best": best, "start": best, "played_all": 2, "dropped": 0, "exact": 2,
+        "ranking": [{"setting": 0, "total": 1, "values": {"K": 0}}],
+        "constants": [{"name": "K", "values": 3, "choices": 1, "same": 0, "not_known": 0}]}, scores)
+    yield compare("cwtune-scores --csv",
+                  "setting,row,total,K\n0,all,1,0\n1,all,1,1\n2,refused,,2\n",
+                  run("cwtune-scores", "--csv", "cert", folder=place.folder).out)
+    player = {"setting": 0, "rank": 1, "values": {"K": 0}, "total": 1,
+              "fresh": {"points": 4, "fights": 4, "percent": 100 * (4 / 12), "error": 0.0}}
+    status, out, _ = holdout(place, "--json", "--top=1", "--rounds=4", "--against=imp.red", "t.red",
+                             "cert", "imp.red")
+    words = "no difference that these fights show"
+    yield compare("cwtune-holdout --json", (0, {
+        "greatest": 3, "players": [player], "start": player | {"rank": None},
+        "against": player["fresh"],
+        "gain": {"over": "imp.red", "setting": 0, "percent": 0.0, "error": 0.0, "words": words},
+        "dropped": 0, "exact": 2}), (status, json.loads(out)))
+
+
 def ranks(place):
     """Plays fresh fights of a setting whose rank is exact, and of one that a dropped setting may
     come before."""
@@ -193,4 +249,4 @@ def ranks(place):
 
 def trials(program):
     return in_folders(lambda folder: Place(program, folder, {}), [
-        warriors, refusals, pmars_notes, faults, holdouts, gains, ranks])
+        warriors, own_texts, refusals, pmars_notes, faults, holdouts, gains, objects, ranks])

@@ -1,0 +1,455 @@
+"""Collects what has to be written otherwise in a text, while it is read as pMARS reads it.
+
+A change puts a new text in place of some columns of a line. A line of a FOR block is read once for
+each copy; a change that not all copies ask for is not made, and the block is unrolled instead.
+"""
+import collections, re
+from typing import NamedTuple
+
+from .adapt_counts import Curline
+from .adapt_values import can_stay, extents_of, has_large_number, is_large, is_other_here
+from .pmars_tokens import OPCODES, P_SPACE_OPCODES, comment_sign, tokens_of
+from .pmars_values import Registers, written
+from .traced import Traced, joined
+
+DEEPEST_BLOCK = 8
+RESERVED = [*(word for word in OPCODES if word not in P_SPACE_OPCODES), "EQU", "FOR", "ROF"]
+# What `cwtune` takes for tokens, and blanks.
+TOKENS = re.compile(r"(?:[A-Za-z_][A-Za-z0-9_]*|[0-9]+|[<>=!]=|&&|\|\||[.,#$@{}<>*()+\-/%:&!]"
+                    r"|[ \t\r])*")
+HEAD_LABEL = re.compile(r"[ \t\r]*([A-Za-z_]\w*)((?:[ \t\r]*&[ \t\r]*[A-Za-z_]\w*)*)[ \t\r]*:?",
+                        re.ASCII)
+
+ONE_COPY = "pMARS makes one copy of the block"
+# The reading of changes that are made only in a line that is always dropped.
+DROPPED = -1
+
+
+class Change:
+    """A new text in place of the columns from `start` to `end` of the line with an index, or None
+    if the whole line goes. `readings` are the readings of the line that ask for it; without any it
+    is made in any case."""
+
+    def __init__(self, index, start, end, new, note):
+        self.index, self.start, self.end, self.new, self.note = index, start, end, new, note
+        self.readings = set()
+
+    def where(self):
+        return self.index, self.start, self.end
+
+    def overlaps(self, other):
+        """Returns whether two changes change the same columns. Several texts may be put in at one
+        place."""
+        if self.index != other.index:
+            return False
+        is_same = self.where() == other.where() and self.start < self.end
+        return is_same or self.start < other.end and other.start < self.end
+
+
+class FoundBlock(NamedTuple):
+    """A FOR block of the text: the index of its head, its counter, the labels before that, and the
+    numbers of copies that it was found to have."""
+
+    head: int
+    counter: str
+    labels: list
+    counts: set
+
+
+class Finder:
+    """What is found in the lines of a text, each a `Traced`, while pMARS's reading goes on."""
+
+    def __init__(self, lines, rules):
+        self.lines, self.core, self.curline = lines, rules.core, Curline(rules)
+        self.changes, self.read_counts = {}, collections.Counter()
+        self.unknown, self.to_unroll = [], []
+        self.blocks, self.tails, self.numbers = {}, {}, []
+        self.equs, self.uses, self.inverted = {}, collections.defaultdict(set), {}
+
+    def add(self, where, new, note, reading=None):
+        """Adds a change. `where` is an index and two columns."""
+        new = Traced.new(new) if isinstance(new, str) else new
+        change = self.changes.setdefault((*where, new and new.text), Change(*where, new, note))
+        if reading is not None:
+            change.readings.add(reading)
+
+    def word(self, index, root):
+        """Returns what stands at a root."""
+        return self.lines[index].text[slice(*root)]
+
+    def take_out(self, where, note, reading):
+        """Takes out a label, and the line if nothing else is on it."""
+        index, start, end = where
+        line = self.lines[index]
+        end += line.text[end:end + 1] == ":"
+        is_alone = not (line.text[:start] + line.text[end:]).strip()
+        self.add((index, 0, len(line)) if is_alone else (index, start, end),
+                 None if is_alone else "", note, reading)
+
+    def comment_out(self, index, note, reading=None):
+        """Makes a comment of a line."""
+        self.comment_from((index, 0), note, reading)
+
+    def comment_from(self, where, note, reading):
+        """Makes a comment of a line from a column on."""
+        index, start = where
+        self.add((index, start, start), comment_sign(self.lines[index].text[start:]), note, reading)
+
+    def begins_line(self, text, line, is_dropped):
+        if not is_dropped:
+            self.read_counts[line.index] += 1
+
+    def cannot(self, text, word):
+        if (text.index, word) not in self.unknown:
+            self.unknown.append((text.index, word))
+
+    def is_unknown(self, index):
+        """Returns whether a line has what no other text can say."""
+        return any(unknown == index for unknown, _ in self.unknown)
+
+    def opcode(self, text, word, root):
+        """Looks at an opcode: those of P-space are not known here. PIN alone does nothing."""
+        if word == "PIN":
+            self.comment_from((text.index, root[0]),
+                              "PIN is a comment now, as there is no P-space", text.reading)
+        elif word in P_SPACE_OPCODES:
+            self.cannot(text, word)
+
+    def given_name(self, text, source, root, name):
+        """Looks at a name that pMARS has from the start."""
+        if name == "ROUNDS":
+            self.cannot(text, name)
+        elif name == "PSPACESIZE" and source.root:
+            self.write_out((text.index, *root), text.reading, source.equ)
+        elif name == "PSPACESIZE":
+            value = text.names[name].lines[0].text
+            self.add((text.index, *root), value, f"{name} is {value} here", text.reading)
+
+    def dropped(self, line, depth):
+        """Looks at a line of a dropped block. `depth` is 1 if it begins a block, and -1 if it ends
+        one."""
+        is_bad = TOKENS.fullmatch(line.text) is None or has_large_number(line.text)
+        word = next((token for token in tokens_of(line.text)
+                     if token.text.upper() == ("FOR" if depth > 0 else "ROF")), None)
+        note = "prose in a block without copies is a comment now"
+        if depth == 0:
+            if is_bad or word_here(line.text) in ("FOR", "ROF", "END"):
+                self.comment_out(line.index, note, DROPPED)
+        elif depth > 0 and is_bad:
+            end = line.column + word.end
+            self.add((line.index, end, end), " ;", note, DROPPED)
+        elif depth < 0:
+            self.only_rof(line, word, line.text[:word.start].strip())
+
+    def only_rof(self, line, rof, before):
+        """Leaves ROF alone on a line of a dropped block, with all other words in a comment."""
+        start, end = line.column + rof.start, line.column + rof.end
+        if before:
+            self.add((line.index, line.column, start), "", "what is before ROF is a comment now",
+                     DROPPED)
+        if before or line.text[rof.end:].strip():
+            self.add((line.index, end, end), f" ; {before}".rstrip(),
+                     "what is after ROF is a comment now", DROPPED)
+
+    def begins_value(self, text):
+        """Forgets the numbers of labels and of CURLINE that were read before a count or an
+        assertion."""
+        self.numbers = []
+
+    def number(self, text, source, root, what, value):
+        self.numbers.append((source, root, what, value))
+
+    def write_numbers(self, text, chars, numbers):
+        """Writes labels and CURLINE as numbers."""
+        for source, root, what, value in numbers:
+            word = self.word(text.index, root)
+            new, note = str(value) if value >= 0 else f"({value})", f"{word} is {value} here"
+            if source.root:
+                new, note = chars.of_root(root).strip(), f"{word} is written out"
+            elif what == "CURLINE" and not text.blocks:
+                new = self.curline.written(value)
+            self.add((text.index, *root), new, note, text.reading)
+
+    def count(self, text, chars, node, registers):
+        """Looks at the count of a block, in which no name of an instruction has a value here."""
+        if not text.inside:
+            self.write_numbers(text, chars, self.numbers)
+            self.expression((text.index, text.reading), chars, node, registers)
+
+    def assertion(self, text, chars, node, registers):
+        """Looks at an assertion that holds. CURLINE has the same value here."""
+        labels = [number for number in self.numbers if number[2] == "label"]
+        self.write_numbers(text, chars, labels)
+        self.expression((text.index, text.reading), chars, node, registers)
+
+    def assertion_without_value(self, text):
+        self.comment_out(text.index, "the assertion has no value, and is a comment now",
+                         text.reading)
+
+    def block(self, text, block):
+        """Keeps a block that is copied."""
+        if text.inside:
+            return
+        head = self.head_of(text, block)
+        counter = block.counter
+        found = FoundBlock(head, counter.name if counter else "",
+                           [label for label in block.labels if label.index == head], set())
+        self.blocks.setdefault(head, found).counts.add(block.count)
+        self.curline.begins(text)
+        if len(text.blocks) > DEEPEST_BLOCK:
+            self.to_unroll.append(head)
+
+    def block_ends(self, text, block):
+        if not text.inside:
+            self.curline.ends(text, block)
+
+    def counter(self, text, label):
+        """Looks at the counter of a block, which may be on a line before."""
+        if label.index != text.index and not text.inside:
+            note = f"the counter {label.name} is on the line of its FOR now"
+            self.take_out((label.index, *label.root), note, label.reading)
+            self.add((text.index, 0, 0), f"{label.name} ", note, text.reading)
+
+    def head_of(self, text, block):
+        return text.lines[block.head].index
+
+    def end_of_block(self, text, source, token):
+        """Looks at a ROF: labels before it go after it, and words after it into a comment."""
+        if source.root:
+            return
+        if text.blocks:
+            self.tails[self.head_of(text, text.blocks[-1])] = text.index
+        start, end = source.root_of(token.start, token.end)
+        labels = [label for label in text.labels if label.reading == text.reading]
+        if source.text[token.end:].strip():
+            self.add((text.index, end, end), " ;", "what is after ROF is a comment now",
+                     text.reading)
+        if labels:
+            column, line = labels[0].root[0], self.lines[text.index]
+            note = f"the label {labels[0].name} comes after ROF now"
+            self.add((text.index, column, start), "", note, text.reading)
+            self.add((text.index, len(line), len(line)), "\n" + line[column:start].strip(), note,
+                     text.reading)
+
+    def missing_rof(self, text):
+        """Ends at the end of the text the blocks that have no ROF."""
+        if not text.inside:
+            self.close(text.blocks, text, len(self.lines) - 1, "")
+
+    def end(self, text):
+        """Ends before END the blocks in which it is."""
+        if text.blocks and not text.inside:
+            self.close(text.blocks, text, text.index, "before END")
+
+    def close(self, blocks, text, index, where):
+        """Writes a ROF for each of some blocks, of which pMARS makes one copy."""
+        for block in blocks:
+            head = self.head_of(text, block)
+            if block.count > 1:
+                line = self.lines[head]
+                code = line.text.partition(";")[0]
+                word = next(token for token in tokens_of(code) if token.text.upper() == "FOR")
+                self.add((head, word.end, len(code)), " 1 ", ONE_COPY)
+            self.tails[head] = index
+        rofs = "        ROF\n" * len(blocks)
+        line = self.lines[index]
+        at, new = (0, rofs) if where or not line.text else (len(line), "\n" + rofs.rstrip("\n"))
+        self.add((index, at, at), new, f"ROF is written {where}".rstrip())
+
+    def ends(self, text):
+        """Looks at what is open at the end of the text."""
+        if text.dropping:
+            last = len(self.lines) - 1
+            self.add((last, len(self.lines[last]), len(self.lines[last])),
+                     "\n        ROF" * text.dropping, "ROF is written")
+
+    # Names.
+
+    def repeated_label(self, text, source, root):
+        """Makes a comment of a line with a label that is there already, or takes it out if it is
+        the copy of a line."""
+        line = self.lines[text.index]
+        is_copy = any(other.number() == line.number() for other in self.lines[:text.index])
+        note = f"{self.word(text.index, root)} is a label already, so pMARS leaves this out"
+        if is_copy:
+            self.add((text.index, 0, len(line)), None, note, text.reading)
+        else:
+            self.comment_from((text.index, root[0]), note, text.reading)
+
+    def text_of(self, known):
+        """Returns what an EQU name stands for."""
+        parts = [self.lines[line.index][line.column:line.column + len(line.text)].strip()
+                 for line in known.lines]
+        return joined(parts, "\n        ")
+
+    def write_out(self, where, reading, known, new=None):
+        """Puts the text of an EQU in place of its name."""
+        if known.is_given:
+            return
+        index, *root = where
+        self.add(where, self.text_of(known) if new is None else new,
+                 f"{self.word(index, root)} is written out", reading)
+
+    def equ_use(self, text, source, known, use):
+        """Looks at the use of an EQU, which `cwtune` takes for a label if it begins an
+        instruction."""
+        root, is_first = use
+        outer = source.equ or known
+        self.uses[known].add((text.index, *root) if outer is known else None)
+        if is_first or len(known.lines) > 1:
+            self.write_out((text.index, *root), text.reading, outer)
+
+    def late_use(self, code, root, name, known):
+        """Looks at the use of an EQU that comes later. Of several lines pMARS takes the first."""
+        where = (code.index, *root)
+        self.uses[known].add(where if self.word(code.index, root) == name else None)
+        if len(known.lines) > 1:
+            first = known.lines[0]
+            new = self.lines[first.index][first.column:first.column + len(first.text)].strip()
+            self.write_out(where, code.reading, known, new)
+
+    def counter_in_equ(self, text, source):
+        self.write_out((text.index, *source.root), text.reading, source.equ)
+
+    def equ(self, text, known, labels):
+        """Looks at an EQU. One with several names becomes several."""
+        if text.inside:
+            return
+        self.equs[known] = [line.index for line in known.lines]
+        if text.blocks:
+            self.to_unroll.append(text.index)
+        for label in labels[:-1]:
+            self.own_equ(text, known, label)
+
+    def own_equ(self, text, known, label):
+        """Gives one of the names of an EQU a line of its own."""
+        note = f"{label.name} has an EQU of its own"
+        self.take_out((label.index, *label.root), note, label.reading)
+        if len(known.lines) == 1:
+            line = self.lines[text.index]
+            self.add((text.index, len(line), len(line)),
+                     f"\n{label.name} EQU " + self.text_of(known), note, text.reading)
+
+    def label_again(self, text, source, root):
+        """Takes out a label that is pending already."""
+        if not source.root:
+            self.take_out((text.index, *root),
+                          f"{self.word(text.index, root)} is a label of this already", text.reading)
+
+    def stray_equ(self, text):
+        self.comment_out(text.index, "an EQU without a name is a comment now", text.reading)
+
+    def join(self, text, source, root, name, counters):
+        """Looks at a name with counters, of which the outer ones have to come first here."""
+        if source.root:
+            self.write_out((text.index, *source.root), text.reading, source.equ)
+            return
+        order = [block.counter.name for block in text.blocks if block.counter]
+        sorted_counters = sorted(counters, key=order.index)
+        if sorted_counters != counters:
+            base = self.word(text.index, root).partition("&")[0]
+            self.inverted.setdefault((text.index, *root), []).append(
+                (text.reading, name, "&".join([base, *sorted_counters])))
+
+    # While instructions are made.
+
+    def expression(self, where, chars, node, registers, others=frozenset()):
+        """Writes an expression otherwise if `cwtune` would give it another value. `others` are the
+        roots of what is beside it."""
+        index, reading = where
+        extents = extents_of(chars)
+        if not is_other_here(chars.text, node, extents):
+            return
+        shared = [root for root in extents if root in others]
+        if shared:
+            self.write_out_root(index, reading, shared[0])
+            return
+        registers = Registers(registers)
+        text = written(node, lambda part: self.leaf_text(index, chars, part, extents, registers))
+        start, end = min(root[0] for root in extents), max(root[1] for root in extents)
+        self.add((index, start, end), text,
+                 f"{self.word(index, (start, end)).strip()} is written as {text}", reading)
+
+    def write_out_root(self, index, reading, root):
+        """Writes out the EQU that stands at a root."""
+        name = self.word(index, root)
+        for known in self.equs:
+            if (index, *root) in self.uses[known]:
+                self.write_out((index, *root), reading, known)
+                return
+        self.unknown.append((index, name))
+
+    def leaf_text(self, index, chars, node, extents, registers):
+        """Returns the text of a part of an expression that has a name or is a number, or None."""
+        root = chars.roots[node.start]
+        if extents.get(root) == (node.start, node.end):
+            text = self.word(index, root)
+            if can_stay(chars.text[node.start:node.end]):
+                return text
+        if node.kind in ("register", "set"):
+            value = registers.leaf_value(chars.text, node)
+            return str(value) if value >= 0 else f"({value})"
+        if node.kind == "number":
+            text = chars.text[node.start:node.end]
+            return str(int(text) % self.core) if is_large(text) else text
+        return None
+
+    def operand(self, instruction, operand, node, registers):
+        other = instruction.a if operand is instruction.b else instruction.b
+        others = instruction.head_roots | other.roots() | {operand.mode_root}
+        code = instruction.code
+        self.expression((code.index, code.reading), operand.chars, node, registers, others)
+
+    def lone_operand(self, instruction):
+        """Writes the A-operand of a DAT with one operand."""
+        code, start = instruction.code, min(instruction.a.roots())
+        if start in instruction.head_roots:
+            self.write_out_root(code.index, code.reading, start)
+        else:
+            self.add((code.index, start[0], start[0]), "#0, ",
+                     "the A-operand of this DAT is #0 for pMARS", code.reading)
+
+    def instruction(self, instruction):
+        """Writes 0 after a mode without a number."""
+        pair = instruction.a, instruction.b
+        for operand, other in (pair, pair[::-1]):
+            if operand.mode_root and not operand.chars.text.strip():
+                self.empty_operand(instruction, operand, instruction.head_roots | other.roots())
+
+    def empty_operand(self, instruction, operand, others):
+        """Writes 0 after the mode of an operand. `others` are the roots of what is beside it."""
+        code, end = instruction.code, operand.mode_root[1]
+        if operand.mode_root in others:
+            self.write_out_root(code.index, code.reading, operand.mode_root)
+            return
+        is_sign = self.word(code.index, operand.mode_root) == operand.mode
+        self.add((code.index, end, end), "0" if is_sign else " 0",
+                 f"{operand.mode} without a number is {operand.mode}0", code.reading)
+
+    def org(self, instruction):
+        if not instruction.b.chars.text.strip():
+            end = instruction.root[1]
+            self.add((instruction.code.index, end, end), " 0", "ORG without an operand is ORG 0",
+                     instruction.code.reading)
+
+    def end_over_org(self, instructions):
+        for instruction in instructions:
+            self.comment_from((instruction.code.index, instruction.root[0]),
+                              "for pMARS the start is that of END", instruction.code.reading)
+
+    def start_outside(self, instruction):
+        roots = extents_of(instruction.b.chars)
+        start, end = min(root[0] for root in roots), max(root[1] for root in roots)
+        self.add((instruction.code.index, start, end), "0",
+                 "the start is outside of the code, which pMARS reads as 0",
+                 instruction.code.reading)
+
+
+def word_here(text):
+    """Returns the word that follows the labels of a line, as `cwtune` reads it."""
+    at = 0
+    while match := HEAD_LABEL.match(text, at):
+        if match[1].upper() in RESERVED:
+            return match[1].upper()
+        at = match.end()
+    return ""

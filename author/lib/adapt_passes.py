@@ -1,0 +1,159 @@
+"""Makes the changes that a reading of a text asks for, pass by pass."""
+import collections, re
+
+from .adapt_blocks import innermost, unrolled
+from .adapt_changes import DROPPED, ONE_COPY, TOKENS, Change
+from .pmars_text import is_head
+from .pmars_tokens import code_of, comment_sign, token_at, tokens_of
+from .traced import Traced
+
+HEAD_HERE = ";redcode"
+# A text of more copies is refused by `cwtune`.
+MOST_COPIES = 4096
+
+
+def changed(line, changes):
+    """Returns the lines that come of a line."""
+    if any(change.new is None for change in changes):
+        return []
+    for change in sorted(reversed(changes), key=Change.where, reverse=True):
+        line = line.replaced(change.start, change.end, change.new)
+    return line.lines()
+
+
+def is_asked_for(finder, change):
+    """Returns whether all readings of the line ask for a change."""
+    if DROPPED in change.readings:
+        return change.index not in finder.read_counts
+    return not change.readings or len(change.readings) == finder.read_counts[change.index]
+
+
+def without_overlaps(changes):
+    """Returns the changes that change no columns which an earlier one changes."""
+    chosen = collections.defaultdict(list)
+    for change in changes:
+        if not any(change.overlaps(other) for other in chosen[change.index]):
+            chosen[change.index].append(change)
+    return [change for of_line in chosen.values() for change in of_line]
+
+
+def comments_of_equs(finder, chosen):
+    """Returns changes that make comments of the EQU lines whose names are all written out."""
+    places, lines = {change.where() for change in chosen}, {}
+    for known, indices in finder.equs.items():
+        uses = finder.uses[known]
+        is_bad = any(TOKENS.fullmatch(line.text) is None for line in known.lines)
+        if uses <= places and (uses or len(indices) > 1 or is_bad):
+            lines |= dict.fromkeys(indices)
+    return [Change(index, 0, 0, Traced.new(comment_sign(finder.lines[index].text)),
+                   "this EQU is a comment now") for index in lines]
+
+
+def blanks(finder):
+    """Returns changes that make a blank of each form feed in code."""
+    places = [(index, match.span()) for index, line in enumerate(finder.lines)
+              for match in re.finditer("[\f\v]", code_of(line.text))]
+    return [Change(index, *span, Traced.new(" "), "a form feed is a blank now")
+            for index, span in places]
+
+
+def changes_of_joins(finder):
+    """Yields changes that join outer counters first. If a name is written with its digits
+    somewhere, the inner block has to be unrolled."""
+    words = {token.text for line in finder.lines for token in tokens_of(code_of(line.text))}
+    bases = {new.partition("&")[0] for found in finder.inverted.values() for _, _, new in found}
+    spelled = {word for word in words for base in bases
+               if re.fullmatch(rf"{base}[0-9]{{4,}}", word)}
+    for (index, start, end), found in finder.inverted.items():
+        if spelled:
+            finder.to_unroll.append(index)
+            continue
+        new = found[0][2]
+        yield Change(index, start, end, Traced.new(new), f"{new} has its outer counter first now")
+
+
+def passed(finder):
+    """Returns the lines of a text with the changes that were found, and the notes, each with the
+    line that it is of."""
+    asked = sorted((change for change in finder.changes.values() if is_asked_for(finder, change)),
+                   key=lambda change: change.note != ONE_COPY)
+    left = [change.index for change in finder.changes.values() if not is_asked_for(finder, change)]
+    chosen = without_overlaps([*asked, *changes_of_joins(finder)])
+    chosen = without_overlaps([*chosen, *comments_of_equs(finder, chosen), *blanks(finder)])
+    if not chosen:
+        return unrolled_pass(finder, [*finder.to_unroll, *left])
+    of_line = collections.defaultdict(list)
+    for change in chosen:
+        of_line[change.index].append(change)
+    lines = [new for index, line in enumerate(finder.lines)
+             for new in changed(line, of_line[index])]
+    return lines, [(finder.lines[change.index].number(), change.note) for change in chosen]
+
+
+def unrolled_pass(finder, indices):
+    """Returns the lines with one block unrolled around one of the indices, and a note of it."""
+    blocks = [innermost(finder.blocks, finder.tails, index) for index in indices]
+    block = max((block for block in blocks if block and max(block.counts) <= MOST_COPIES),
+                key=lambda block: block.head, default=None)
+    if block is None:
+        return finder.lines, []
+    lines = unrolled(finder.lines, block, finder.tails[block.head])
+    return lines, [(finder.lines[block.head].number(), "the block is unrolled")]
+
+
+def prepared(lines):
+    """Returns the lines as pMARS divides them, with its first and its second `;redcode` line where
+    `cwtune` sees them, and notes."""
+    notes = []
+    for step in (cut, continued, with_heads):
+        lines, more_notes = step(lines)
+        notes += more_notes
+    return lines, notes
+
+
+def cut(lines):
+    """Returns the lines without what comes after a carriage return, and notes."""
+    whole, notes = [], []
+    for line in lines:
+        end = line.text.partition("\r")[0]
+        is_cut = line.text[len(end):].strip() != ""
+        whole.append(line[:len(end)] if is_cut else line)
+        notes += [(line.number(), "pMARS ends the line at its carriage return")] * is_cut
+    return whole, notes
+
+
+def continued(lines):
+    """Returns the lines with those that end with a backslash joined to the next, and notes."""
+    whole, notes, goes_on = [], [], False
+    for line in lines:
+        if goes_on:
+            whole[-1] = whole[-1] + line
+            notes.append((line.number(), "the line is joined to the one before"))
+        else:
+            whole.append(line)
+        text = whole[-1].text.removesuffix("\r")
+        goes_on = text.endswith("\\")
+        if goes_on:
+            whole[-1] = whole[-1][:len(text) - 1]
+    return whole, notes
+
+
+def with_heads(lines):
+    """Returns the lines with the first `;redcode` line where both programs see it, and END before a
+    second one, and notes."""
+    lines, notes = list(lines), []
+    heads = [index for index, line in enumerate(lines) if is_head(line.text)]
+    before = heads[0] if heads else len(lines)
+    for index, line in enumerate(lines[:before]):
+        if line.text[:len(HEAD_HERE)].lower() == HEAD_HERE:
+            lines[index] = line.replaced(1, 1, " ")
+            notes.append((line.number(), "for pMARS this is no ;redcode line"))
+    if heads and lines[before].text[:1] != ";":
+        lines[before] = lines[before][token_at(lines[before].text, 0).start:]
+        notes.append((lines[before].number(), ";redcode begins the line now"))
+    if len(heads) > 1 and any(token_at(line.text, 0).kind not in ("", "comment")
+                              for line in lines[heads[1]:]):
+        lines.insert(heads[1], Traced.new("        END"))
+        notes.append((lines[heads[1] + 1].number(),
+                      "a second ;redcode line ends the warrior, so END is before it"))
+    return lines, notes

@@ -1,0 +1,163 @@
+"""Reads the words PLACE=VALUES of `cwtune-vary`, and makes a constant of each."""
+import argparse, re
+from typing import NamedTuple
+
+from .endings import Fault
+from .grid import NAME
+from .places import MODES, MODIFIERS, OPCODES, PLACE
+
+NUMBERS = re.compile(r"(-?[0-9]{1,5}):(-?[0-9]{1,5})(?::([0-9]{1,5}))?")
+LIST = re.compile(r"-?[0-9]{1,5}(?:,-?[0-9]{1,5})+")
+MOST_VALUE = 65535
+# Opcodes with two spellings.
+SAME = {"cmp": "seq"}
+
+
+class Opening(NamedTuple):
+    """What a word PLACE=VALUES opens: its place, and its values, a range or a list of texts."""
+
+    word: str
+    place: str
+    values: range | list
+
+
+class Constant(NamedTuple):
+    """A constant of the template: its name, its values, START, and the texts that these are indices
+    of, none if they are numbers of the text."""
+
+    name: str
+    values: range
+    start: int
+    texts: list
+
+    def slot(self):
+        return f"[{self.name}{':' * bool(self.texts)}{','.join(self.texts)}]"
+
+    def range_line(self, values):
+        return f";@tune {self.name} {values[0]} {values[-1]} {values.step} {self.start}"
+
+
+def opening_from(word):
+    """Reads PLACE=VALUES for argparse. Without `:STEP` the step of a range is 1."""
+    place, _, values = word.partition("=")
+    match = re.fullmatch(PLACE, place)
+    if not match or not values:
+        raise malformed(word)
+    if match[2] in (None, "a", "b"):
+        return Opening(word, place, numbers_from(word, values))
+    kind = match[2].rpartition("-")[2]
+    known = {"mode": list(MODES), "modifier": MODIFIERS, "opcode": OPCODES}[kind]
+    texts = values.lower().split(",")
+    if strange := [text for text in texts if text not in known]:
+        raise argparse.ArgumentTypeError(f"{word}: {strange[0] or 'nothing'} is no {kind}; there "
+                                         f"are {' '.join(known)}")
+    return Opening(word, place, once(texts))
+
+
+def malformed(word):
+    return argparse.ArgumentTypeError(
+        f"{word} is not of the form PLACE=LOW:HIGH:STEP or PLACE=VALUE,VALUE, as STEP=5:4000:10 or "
+        "throw.b=-40,-25, without blanks")
+
+
+def numbers_from(word, text):
+    """Returns the range or the list of numbers of a word."""
+    match = NUMBERS.fullmatch(text)
+    numbers = [int(number or 1) for number in (match.groups() if match else text.split(","))
+               if match or LIST.fullmatch(text)]
+    if not numbers:
+        raise malformed(word)
+    if max(map(abs, numbers)) > MOST_VALUE:
+        raise argparse.ArgumentTypeError(f"{word}: values are -{MOST_VALUE} to {MOST_VALUE}")
+    if not match:
+        return once(list(map(str, numbers)))
+    low, high, step = numbers
+    if step == 0:
+        raise argparse.ArgumentTypeError(f"{word}: the step is 0")
+    if low > high:
+        raise argparse.ArgumentTypeError(f"{word}: {low} is above {high}")
+    return range(low, high + 1, step)
+
+
+def once(texts):
+    """Returns texts without those that came before."""
+    return list(dict.fromkeys(texts))
+
+
+def range_through(number, values):
+    """Returns the values of a range, moved by less than a step so that the number is one of them,
+    and with those between it and the number."""
+    step = values.step
+    low, high = min(values.start, number), max(values.stop - 1, number)
+    return range(number - (number - low) // step * step, high + 1, step)
+
+
+def constant_of(spot, opening, text):
+    """Returns the constant for a place, and a note if it has other values than were asked for, or
+    an empty text. `text` is the warrior's."""
+    if spot.kind != "number":
+        return constant_of_list(spot, spot.name, list(opening.values), text)
+    start, values = int(spot.spelled()), opening.values
+    if abs(start) > MOST_VALUE:
+        raise Fault(f"{spot.name} is {start}; values are -{MOST_VALUE} to {MOST_VALUE}")
+    if isinstance(values, range):
+        values = range_through(start, values)
+        note = (f"{spot.name} is {start}, so its values are {values[0]} to {values[-1]} by "
+                f"{values.step}" if values != opening.values else "")
+        return Constant(number_name(spot, text), values, start, []), note
+    values = as_range(sorted({start, *map(int, values)}))
+    if values is None:
+        return constant_of_list(spot, f"{spot.name}.choice", list(opening.values), text)
+    return Constant(number_name(spot, text), values, start, []), tried_too(spot, opening)
+
+
+def constant_of_list(spot, name, texts, text):
+    """Returns the constant for a place with a list of values, and a note if the text's own value
+    is not in it, or an empty text."""
+    spelled, note = spot.spelled(), tried_too(spot, Opening("", "", texts))
+    own = own_value(spot)
+    if note:
+        texts = [own, *texts]
+    start = [SAME.get(word, word) for word in texts].index(own)
+    dot = "." if spot.kind == "modifier" else ""
+    texts = [spelled if index == start else dot + (word.upper() if spot.is_upper() else word)
+             for index, word in enumerate(texts)]
+    return Constant(free_name(name, text), range(len(texts)), start, texts), note
+
+
+def own_value(spot):
+    """Returns what the text has at a place, as a list of values has it."""
+    if spot.kind == "number":
+        return str(int(spot.spelled()))
+    own = spot.spelled().lower().strip(" \t.")
+    return "$" if spot.kind == "mode" and not own else SAME.get(own, own)
+
+
+def tried_too(spot, opening):
+    """Returns a note if the text's own value is not in a list, or an empty text."""
+    own = own_value(spot)
+    if own in [SAME.get(word, word) for word in opening.values]:
+        return ""
+    return f"{spot.name} is {own or 'not written'}, which is tried too"
+
+
+def number_name(spot, text):
+    """Returns the name of the constant that is the number at a place: the name of an EQU line that
+    is no more than a number, else a free one."""
+    return spot.name if spot.field == "equ" and "." not in spot.name else free_name(spot.name, text)
+
+
+def as_range(numbers):
+    """Returns rising numbers as a range, or None if they are none."""
+    step = numbers[1] - numbers[0] if len(numbers) > 1 else 1
+    values = range(numbers[0], numbers[-1] + 1, step)
+    return values if list(values) == numbers else None
+
+
+def free_name(place, text):
+    """Returns a name for the constant of a place, which is no name of the text."""
+    name = re.sub(r"[.-]", "_", f"line{place}" if place[0].isdecimal() else place)
+    taken = set(re.findall(NAME, text))
+    while name in taken:
+        name += "_"
+    return name

@@ -1,0 +1,69 @@
+"""Puts the values of a setting into the text that `cwtune-adapt` made the author's text of.
+
+The template has the adapted text. Which character of that comes from where, the adapted text knows.
+"""
+import re
+
+from . import slots
+from .adapt import adapt, read_text
+from .endings import Fault
+from .grid import is_range_line
+from .program import rules_of
+
+
+def original_lines(args, template, setting):
+    """Returns the lines of the text of --original, with the values of a setting where the adapted
+    text has them. Refuses a text of which the template was not made, or that lacks a place."""
+    text = read_text(args.original)
+    adapted = adapt(args.original, text, rules_of(args), args.program)
+    lines = text.decode("latin-1").split("\n")
+    for place, length, new in sorted(edits_of(args, template, setting, adapted), reverse=True):
+        line = lines[place.line - 1]
+        lines[place.line - 1] = line[:place.column] + new + line[place.column + length:]
+    return lines
+
+
+def edits_of(args, template, setting, adapted):
+    """Yields the edits of the original: the `Place` of each, how many characters go, and what is
+    put there."""
+    value_of, texts = template.values_by_name(setting), adapted.text.decode("latin-1").split("\n")
+    lines = [line.decode("latin-1") for line in template.lines]
+    own, _ = slots.author_lines(template.path, lines, value_of)
+    if len(own) != len(texts):
+        raise other_text(args)
+    for number, ((kept, of_line), text) in enumerate(zip(own, texts), 1):
+        if not of_line and kept != text and not is_range_line(kept.encode("latin-1")):
+            raise other_text(args)
+        for slot, (start, end) in spans(args, kept, of_line or (), text).items():
+            new = slots.text_in(kept, slot, slot.text_of(value_of[slot.name]))
+            if new == text[start:end]:
+                continue
+            place = place_of(adapted, number, start, end)
+            if place is None:
+                raise Fault(f"{args.original} has no place for {slot.name}")
+            yield place, end - start, new
+
+
+def other_text(args):
+    return Fault(f"{args.template} was not made of {args.original}, adapted", 2)
+
+
+def spans(args, kept, of_line, text):
+    """Returns which characters of the adapted line each slot of its kept line stands for."""
+    pattern, at = "", 0
+    for slot in of_line:
+        pattern += re.escape(kept[at:slot.start]) + "(.*?)"
+        at = slot.end
+    match = re.fullmatch(pattern + re.escape(kept[at:]), text, re.DOTALL)
+    if of_line and not match:
+        raise other_text(args)
+    return {slot: match.span(index) for index, slot in enumerate(of_line, 1)}
+
+
+def place_of(adapted, number, start, end):
+    """Returns where characters of the adapted text are in the original, or None. Of no character it
+    is where the one before ends."""
+    if end > start or not start:
+        return adapted.span(number, start, end)
+    before = adapted.span(number, start - 1, start)
+    return before and before._replace(column=before.column + 1)

@@ -1,0 +1,129 @@
+"""Keeps the author's own lines in a template, and writes them with the values of a setting.
+
+For a line in which something is open `cwtune-vary` writes a *kept line* into the template: the word
+`;@text`, and the author's line with a *slot* for each place that is open. Range lines follow, and
+then what is assembled in place of the line, which `code_of_kept` makes of it:
+
+    ;@text STEP EQU [STEP] ; of the bombs           STEP is a constant, so there is no EQU line
+    ;@text throw SPL #0, <[throw_b]                 a number: `throw SPL #0, <throw_b`
+    ;@text aim EQU [aim_choice:7,30,95]             a list of numbers, of which aim_choice is one
+    ;@text gate [gate_opcode:djn,jmp] @0, <1        a list of others: a FOR block for each of them
+
+The value of a constant whose slot has a list is an index of the list, from 0.
+"""
+import itertools, re
+from typing import NamedTuple
+
+from .endings import Fault
+from .grid import KEPT, SLOT, is_range_line
+from .places import HEAD, code_of
+
+# An operator before a number. A negative number after it gets parentheses.
+OPERATOR = re.compile(r"[-+/%=!&|]\s*$")
+
+
+class Slot(NamedTuple):
+    """A slot of a kept line: its constant, the texts of its list, none for a number, and its
+    characters."""
+
+    name: str
+    texts: tuple
+    start: int
+    end: int
+
+    def has_numbers(self):
+        """Returns whether its constant is a number of the text, or an index of numbers."""
+        return all(re.fullmatch("-?[0-9]+", text) for text in self.texts)
+
+    def expression(self):
+        """Returns what is assembled in place of a number."""
+        if not self.texts:
+            return self.name
+        terms = "+".join(f"({self.name}=={index})*({text})"
+                         for index, text in enumerate(self.texts))
+        return f"({terms})"
+
+    def text_of(self, value):
+        """Returns what the author's line has for a value of the constant."""
+        return self.texts[value] if self.texts else str(value)
+
+
+def slots_of(line, names):
+    """Returns the slots of a line: of each constant, at most one."""
+    slots = {}
+    for match in SLOT.finditer(line):
+        if match[1] in names and match[1] not in slots:
+            texts = () if match[2] is None else tuple(match[2].split(","))
+            slots[match[1]] = Slot(match[1], texts, *match.span())
+    return list(slots.values())
+
+
+def filled(line, texts):
+    """Returns a line with a text in the place of each slot. `texts` has them by slots."""
+    for slot, text in sorted(texts.items(), key=lambda pair: -pair[0].start):
+        line = line[:slot.start] + text_in(line, slot, text) + line[slot.end:]
+    return line
+
+
+def text_in(line, slot, text):
+    """Returns the text of a slot as its line has it."""
+    return f"({text})" if text.startswith("-") and OPERATOR.search(line[:slot.start]) else text
+
+
+def code_of_kept(line, names):
+    """Returns the lines of a template that are assembled in place of the author's line, which has
+    slots."""
+    end = "\r" if line.endswith("\r") else ""
+    line = code_of(line).rstrip()
+    slots = slots_of(line, names)
+    numbers = {slot: slot.expression() for slot in slots if slot.has_numbers()}
+    head = HEAD.match(line)
+    if head and head[2].lower() == "equ" and head[1].strip(" \t:") in names:
+        return []
+    lists = [slot for slot in slots if not slot.has_numbers()]
+    if not lists:
+        return [filled(line, numbers) + end]
+    lines = []
+    for indices in itertools.product(*(range(len(slot.texts)) for slot in lists)):
+        texts = {slot: slot.texts[index] for slot, index in zip(lists, indices)}
+        count = " && ".join(f"{slot.name} == {index}" for slot, index in zip(lists, indices))
+        lines += [f"FOR {count}{end}", filled(line, numbers | texts) + end, f"ROF{end}"]
+    return lines
+
+
+def author_lines(path, lines, names):
+    """Returns the author's lines of a template, each with its slots, if any, and the names of the
+    constants that have one. Their range lines are left out."""
+    own, index = [], 0
+    slots_at = {number: slots_of(line.removeprefix(KEPT), names)
+                for number, line in enumerate(lines) if line.startswith(KEPT)}
+    with_slot = {slot.name for slots in slots_at.values() for slot in slots}
+    while index < len(lines):
+        line, slots, index = lines[index], slots_at.get(index), index + 1
+        if slots:
+            line = line.removeprefix(KEPT)
+            index = after_code(path, lines, index, with_slot, code_of_kept(line, names))
+        if slots or not is_range_of(line, with_slot):
+            own.append((line, slots))
+    return own, with_slot
+
+
+def texts_of(slots, value_of):
+    """Returns for each slot what it has in a setting, whose values are given by names."""
+    return {slot: slot.text_of(value_of[slot.name]) for slot in slots or ()}
+
+
+def is_range_of(line, names):
+    """Returns whether a line is the range line of one of these constants."""
+    return is_range_line(line.encode("latin-1")) and line.split()[1:2] and line.split()[1] in names
+
+
+def after_code(path, lines, index, names, code):
+    """Returns the index after the lines that are assembled in place of a kept line, which comes
+    before `index`. Refuses others."""
+    number = index
+    while index < len(lines) and is_range_of(lines[index], names):
+        index += 1
+    if lines[index:index + len(code)] != code:
+        raise Fault(f"{path}, line {number}: what follows it is not what cwtune-vary wrote there")
+    return index + len(code)

@@ -1,0 +1,68 @@
+"""Holds text that knows where it comes from: for each character its place in an original text."""
+from typing import NamedTuple
+
+
+class Place(NamedTuple):
+    """A place in the original text: the number of a line, from 1, and a column, from 0."""
+
+    line: int
+    column: int
+
+
+class Traced:
+    """A text, and for each of its characters the place in the original, or None if it is new."""
+
+    def __init__(self, text, places):
+        self.text, self.places = text, places
+
+    @classmethod
+    def line(cls, number, text):
+        """Returns a line of the original."""
+        return cls(text, [Place(number, column) for column in range(len(text))])
+
+    @classmethod
+    def new(cls, text):
+        """Returns a text that is not in the original."""
+        return cls(text, [None] * len(text))
+
+    def __add__(self, other):
+        other = Traced.new(other) if isinstance(other, str) else other
+        return Traced(self.text + other.text, self.places + other.places)
+
+    def __radd__(self, text):
+        return Traced.new(text) + self
+
+    def __getitem__(self, where):
+        return Traced(self.text[where], self.places[where])
+
+    def __len__(self):
+        return len(self.text)
+
+    def strip(self):
+        """Returns the text without blanks at its ends."""
+        start = len(self.text) - len(self.text.lstrip())
+        return self[start:start + len(self.text.strip())]
+
+    def replaced(self, start, end, new):
+        """Returns the text with another one in place of the characters from `start` to `end`."""
+        return self[:start] + new + self[end:]
+
+    def lines(self):
+        """Returns the lines of the text."""
+        lines, start = [], 0
+        for part in self.text.split("\n"):
+            lines.append(self[start:start + len(part)])
+            start += len(part) + 1
+        return lines
+
+    def number(self):
+        """Returns the number of the first line of the original that is in it, or None."""
+        return next((place.line for place in self.places if place), None)
+
+
+def joined(parts, between):
+    """Returns texts as one, with `between` between them."""
+    whole = parts[0]
+    for part in parts[1:]:
+        whole = whole + between + part
+    return whole
