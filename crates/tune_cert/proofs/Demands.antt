@@ -1,5 +1,5 @@
 -- A check with a demand accepts exactly what meets the demand, in each share as in the whole.
-use Rattle.std.proofs.Common.{◌≡◌, ℕ, ◌<◌, ◌≤◌, arith, Bool, true, false, List, [], length, Option, Some, None, refl, sym, ◌∙◌, ap}
+use Rattle.std.proofs.Common.{◌≡◌, ℕ, ◌<◌, ◌≤◌, arith, Bool, true, false, List, length, Option, Some, None, refl, sym, ◌∙◌, ap}
 use Rattle.std.specs.Prelude.{not, ◌||◌, option_and_then}
 use Rattle.std.specs.List.{slice_get}
 use Rattle.std.proofs.lemmas.Bool.{or_left, or_right, eqb-true, eq-eqb}
@@ -22,18 +22,16 @@ use Rattle.tune_problem.specs.declared.statement.Answer.TheVariants.{Best as The
 use Rattle.tune_problem.specs.declared.statement.Statement.{Statement}
 use Rattle.tune_problem.specs.declared.watcher.Best.{Best}
 use Rattle.tune_problem.proofs.WholeOfParts.{in_a_part}
-use Rattle.tune_cert.specs.CertText.{stated}
-use Rattle.tune_cert.specs.Checks.{row_reason, is_exact, is_best_row, first_failure, failure_by, is_version_of, has_row_count, rows_failure, share_settings}
+use Rattle.tune_cert.specs.Checks.{row_reason, is_exact, is_best_row, failure_by, is_version_of, has_row_count, rows_failure, share_settings}
 use Rattle.tune_cert.specs.Shares.{IsRightInShare}
-use Rattle.tune_cert.specs.Verdict.{verdict_by, verdict_on}
-use Rattle.tune_cert.specs.Judgement.{no_demand, aim_for, best_against, as_cert, is_floor, is_answered, failure_of, judgement_by, judgement_on, ranking_for, accepted_with, judged, IsExactFor, MeetsBy, MeetsDemand}
+use Rattle.tune_cert.specs.Judgement.{aim_for, best_against, as_cert, is_floor, is_answered, failure_of, judgement_by, judgement_on, ranking_for, accepted_with, IsExactFor, MeetsBy, MeetsDemand}
 use Rattle.tune_cert.specs.declared.demand.Demand.{Demand}
 use Rattle.tune_cert.specs.declared.verdict.Reason.{Reason}
 use Rattle.tune_cert.specs.declared.verdict.Judgement.TheVariants.{Accepted}
 use Rattle.tune_cert.proofs.ShareBounds.{whole_bounds}
 use Rattle.tune_cert.proofs.RightRows.{IsExactRow, no_aim, not_false, or_other, right_if_none, exact_if_none, none_if_right}
 use Rattle.tune_cert.proofs.FirstWrong.{chain}
-use Rattle.tune_cert.proofs.ValidShares.{chain_by, right_best, four_checks, checks_four, valid_if_none, valid_if_whole, valid_in_shares, all_right, right_all}
+use Rattle.tune_cert.proofs.ValidShares.{first_failure, chain_by, right_best, four_checks, checks_four, valid_if_none, valid_if_whole, valid_in_shares, all_right, right_all}
 
 -- ---- a judgement by its failure
 
@@ -201,15 +199,6 @@ module _ (p : Problem) (demand : Demand) (s : Statement) (shares : ℕ) (some : 
       none_accepts p demand (part n shares) s (checks_four p (part n shares) cert aim answered checks.0 checks.1 checks.2 (λ v row from to at.
       let inside = in_whole p s.rows v row checks.1.1 at in
       checks.3 v row inside.0 inside.1 at))
-
--- ---- no demand
-
-judged_by : (c : Cert) (o : Option (ℕ × Reason)) → judgement_by (TheBest (record { vector = c.best; total = c.total })) [] o ≡ judged (verdict_by c o)
-judged_by c None = refl
-judged_by c (Some x) = refl
-
-pub without_demand : (p : Problem) (share : Part) (c : Cert) → judgement_on p no_demand share (stated c) ≡ judged (verdict_on p share c)
-without_demand p share c = judged_by c (first_failure p share c)
 
 -- ---- a check, step by step
 

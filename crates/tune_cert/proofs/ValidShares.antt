@@ -18,11 +18,10 @@ use Rattle.tune_problem.specs.declared.part.Part.{Part}
 use Rattle.tune_problem.proofs.CapRows.{whole as whole_row}
 use Rattle.tune_problem.proofs.Certificates.{some_is, same_number}
 use Rattle.tune_problem.proofs.WholeOfParts.{in_a_part}
-use Rattle.tune_cert.specs.Checks.{alone_reason, same_reason, row_reason, reason_at, rows_failure, share_settings, failure_by, first_failure, first_wrong, first_of, is_version_of, has_row_count, is_best_row}
+use Rattle.tune_cert.specs.Checks.{alone_reason, same_reason, row_reason, reason_at, rows_failure, share_settings, failure_by, first_wrong, first_of, is_version_of, has_row_count, is_best_row}
 use Rattle.tune_cert.specs.Shares.{IsRightInShare, IsValidInShare}
-use Rattle.tune_cert.specs.Verdict.{verdict_by, verdict_on, HasRowCount, IsBestRow}
+use Rattle.tune_cert.specs.Verdict.{HasRowCount, IsBestRow}
 use Rattle.tune_cert.specs.declared.verdict.Reason.{Reason}
-use Rattle.tune_cert.specs.declared.verdict.Verdict.TheVariants.{Accepted}
 use Rattle.tune_problem.proofs.ListedRanks.{listed_is_cap}
 use Rattle.tune_cert.proofs.RowChecks.{cap_row_rises, cap_row_points, points_fights, all_indices, indices_all, all_listed}
 use Rattle.tune_cert.proofs.RightRows.{right_if_none, none_if_right, no_aim}
@@ -131,6 +130,10 @@ module _ (p : Problem) (share : Part) (c : Cert) (aim : Option Aim) where
   checks_four answered version count answer right =
       chain_by p share c answered aim true true true None (right_version p c.version version) (right_count p c count) answer (each_rows right)
 
+-- the first failure of a certificate without a demand
+abbrev pub first_failure : Problem → Part → Cert → Option (ℕ × Reason)
+first_failure p share c = failure_by p share (is_best_row p c.total (slice_get c.rows c.best)) None c
+
 module _ (p : Problem) (share : Part) (c : Cert) where
   pub valid_if_none : first_failure p share c ≡ None → IsValidInShare p share c
   valid_if_none e =
@@ -234,17 +237,7 @@ module _ (p : Problem) (c : Cert) where
   pub valid_if_whole : IsValidInShare p whole c → IsValid p c
   valid_if_whole valid = valid_of_shares 1 (omega arith) (λ n low high. let one : n ≡ 1 = omega (arith, low, high) in subst (λ (k : ℕ). IsValidInShare p (part k 1) c) (sym one) valid)
 
--- ---- what a share says
-
-none_if_accepted : (c : Cert) (o : Option (ℕ × Reason)) → verdict_by c o ≡ Accepted c.best c.total → o ≡ None
-none_if_accepted c None e = refl
-none_if_accepted c (Some x) e = absurd (cc)
-
-pub accepts_valid : (p : Problem) (share : Part) (c : Cert) → verdict_on p share c ≡ Accepted c.best c.total → IsValidInShare p share c
-accepts_valid p share c e = valid_if_none p share c (none_if_accepted c (first_failure p share c) e)
-
-pub valid_accepts : (p : Problem) (share : Part) (c : Cert) → IsValidInShare p share c → verdict_on p share c ≡ Accepted c.best c.total
-valid_accepts p share c valid = ap (verdict_by c) (none_if_valid p share c valid)
+-- ---- the version
 
 -- whether the version is one for the schedule, by the version that a search would write
 pub own_version : (p : Problem) (own : ℕ) → IsOwnVersion p own → (own == 1) ≡ list_all (λ k. p.weight k == 1) (all_fights p)

@@ -197,7 +197,3 @@ failure_by p share answered aim c =
     ∷ rows_failure p c aim (share_settings share p.count)
     ∷ []
     )
-
--- `failure_by` without an aim, for a certificate that names a best setting.
-abbrev pub first_failure : Problem → Part → Cert → Option (ℕ × Reason)
-first_failure p share c = failure_by p share (is_best_row p c.total (slice_get c.rows c.best)) None c

@@ -1,6 +1,7 @@
--- Checks with a demand: certificates with either answer, and those that show the first of the
--- ranking.
-use Rattle.std.specs.Prelude.{◌≡◌, ℕ, ◌<◌, ◌≤◌, ◌^◌, Bool, false, ◌==◌, List, [], length, slice_get, Option, Some, None, option_map, Result, Ok, Err}
+-- What a check of a share says of a certificate, by its demand: certificates with either answer, and
+-- those that show the first of the ranking. In names `by` means from a failure, `on` from a
+-- statement, `of` from records.
+use Rattle.std.specs.Prelude.{◌≡◌, ℕ, ◌<◌, ◌^◌, Bool, false, ◌==◌, List, [], length, slice_get, Option, Some, None, option_map, Result, Ok, Err}
 use Rattle.std.specs.List.{AllByRecursion}
 use Rattle.std.specs.Option.{unwrap_or, is_some}
 use Rattle.tables.specs.Records.{Fields}
@@ -110,7 +111,7 @@ abbrev pub IsOfSettings : (count : ℕ) → Judgement → Type 0
 IsOfSettings count (Accepted answer ranking) = AreSettings count ranking
 IsOfSettings count (Rejected index reason) = Unit {0}
 
--- A verdict as a judgement.
+-- A verdict as a judgement, which has no ranking.
 abbrev pub judged : Verdict → Judgement
 judged (AcceptedCert best total) = Accepted (TheBest (record { vector = best; total = total })) []
 judged (RejectedCert index reason) = Rejected index reason

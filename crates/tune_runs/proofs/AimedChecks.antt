@@ -32,14 +32,14 @@ use Rattle.tune_cert.specs.declared.verdict.Judgement.TheVariants.{Accepted}
 use Rattle.tune_cert.proofs.Demands.{accepted_if_met, shares_of_whole}
 use Rattle.tune_cert.proofs.Statements.{statement_read}
 use Rattle.tune_cert.proofs.WrittenBack.{written, written_statement}
-use Rattle.tune_search.specs.Findings.{IsBestFrom, IsCertified, IsSearchFrom}
+use Rattle.tune_search.specs.Findings.{IsBestFrom, IsCertified, IsSearchFor}
 use Rattle.tune_search.specs.declared.findings.Findings.{Findings}
 use Rattle.tune_search.specs.declared.method.Method.{Method}
 use Rattle.tune_search.proofs.ExactRows.{is_exact, lists_ranking}
 use Rattle.tune_problem.proofs.WholeOfParts.{none_below}
 use Rattle.tune_runs.specs.Report.{named_setting, rank_lines}
 use Rattle.tune_runs.specs.TuneRun.{Texts, Means, answer_of}
-use Rattle.tune_runs.specs.CheckRun.{accepted_words, accepts_for, answer_text, check_for_output, judgement_lines, share_meant}
+use Rattle.tune_runs.specs.CheckRun.{accepted_words, accepts, answer_text, check_output, judgement_lines, share_meant}
 use Rattle.tune_runs.specs.Agreement.{filled}
 use Rattle.tune_runs.specs.Runs.{Writer, Gets}
 use Rattle.tune_runs.specs.AimedRuns.{AgreeAsked, Asked, ChecksAsked, IsAsked, TunesAsked, accepted_lines, aim_of}
@@ -69,7 +69,7 @@ no_first [] e = refl
 no_first (x ∷ xs) e = absurd (cc)
 
 module _ (p : Problem) (laws : IsProblem p) (start : p.start < p.count) (demand : Demand) (is_aim : IsAim (aim_of demand))
-    (method : Method) (f : Findings) (s : IsSearchFrom p (aim_of demand) method f) (some : 0 < f.candidates) where
+    (method : Method) (f : Findings) (s : IsSearchFor p (aim_of demand) method f) (some : 0 < f.candidates) where
   abbrev aim : Aim
   aim = aim_of demand
 
@@ -156,8 +156,8 @@ module _ (p : Problem) (laws : IsProblem p) (start : p.start < p.count) (demand 
 
 -- the output of a check
 answered : (t : Texts) (demand : Demand) (share : Option Part) (bytes : List ℕ) (i : InputsView) (j : Judgement) → Means t i → judgement_of (problem_of i) demand (share_meant share) (records_of bytes) ≡ j
-    → check_for_output t demand share bytes ≡ Ok (accepts_for j, judgement_lines i demand share j)
-unfolding check_for_output
+    → check_output t demand share bytes ≡ Ok (accepts j, judgement_lines i demand share j)
+unfolding check_output
 answered t demand share bytes i j m e = rw (m, e) refl
 
 -- there is one output

@@ -7,6 +7,7 @@ use Rattle.tune_problem.specs.Parts.{part, whole}
 use Rattle.tune_problem.specs.Problem.{problem_of}
 use Rattle.tune_problem.specs.declared.part.Part.{Part}
 use Rattle.tune_problem.proofs.Scores.{inputs_problem}
+use Rattle.tune_cert.specs.Judgement.{judged}
 use Rattle.tune_cert.specs.Verdict.{IsVerdictOf}
 use Rattle.tune_cert.specs.declared.verdict.Verdict.{Verdict}
 use Rattle.tune_cert.specs.declared.verdict.Verdict.TheVariants.{Accepted, Rejected}
@@ -25,7 +26,7 @@ record IsAccepting (share : Part) (bytes : List ℕ) (i : InputsView) (out : Wri
   verdict : IsVerdictOf (problem_of i) share (records_of bytes) (Accepted best total)
   line : NamesIn share best total out
 
-by_verdict : (share : Part) (bytes : List ℕ) (i : InputsView) (out : Writer) (v : Verdict) → IsVerdictOf (problem_of i) share (records_of bytes) v → true ≡ accepts v → Gets out (verdict_line (Some share) v)
+by_verdict : (share : Part) (bytes : List ℕ) (i : InputsView) (out : Writer) (v : Verdict) → IsVerdictOf (problem_of i) share (records_of bytes) v → true ≡ accepts (judged v) → Gets out (verdict_line (Some share) v)
     → IsAccepting share bytes i out
 by_verdict share bytes i out (Accepted best total) is says line = record { best = best; total = total; verdict = is; line = line }
 by_verdict share bytes i out (Rejected row reason) is says line = absurd (true≢false says)
@@ -64,4 +65,4 @@ in_each_share t share bytes says out check best total (i, m, right) =
     let (c, s, valid, best_is, total_is) = right.holds in
     let own : l.verdict ≡ Accepted c.best c.total = accepted_in_share p (inputs_problem i) share (records_of bytes) l.verdict c s valid here in
     let name : l.verdict ≡ Accepted best total = own ∙ (ap (λ b. Accepted b c.total) (sym best_is) ∙ ap (λ n. Accepted best n) (sym total_is)) in
-    (l.says ∙ ap accepts name, subst (λ (x : Verdict). Gets out (verdict_line (Some share) x)) name l.line)
+    (l.says ∙ ap (λ (x : Verdict). accepts (judged x)) name, subst (λ (x : Verdict). Gets out (verdict_line (Some share) x)) name l.line)

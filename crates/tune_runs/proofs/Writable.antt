@@ -28,7 +28,7 @@ use Rattle.tune_problem.specs.declared.statement.Statement.{Statement}
 use Rattle.tune_problem.specs.declared.watcher.Best.{Best}
 use Rattle.tune_problem.proofs.CapRows.{total_few}
 use Rattle.tune_search.specs.Found.{IsSearch}
-use Rattle.tune_search.specs.Findings.{IsBestFrom, IsCertified, IsSearchFrom}
+use Rattle.tune_search.specs.Findings.{IsBestFrom, IsCertified, IsSearchFor}
 use Rattle.tune_search.specs.declared.findings.Findings.{Findings}
 use Rattle.tune_search.specs.declared.method.Method.{Method}
 use Rattle.tune_runs.specs.TuneRun.{answer_of}
@@ -86,7 +86,7 @@ module _ (p : Problem) (laws : IsProblem p) (few : p.fights ≤ MOST_FIGHTS) (mo
         }
 
   -- with an aim, whose floor can be written down
-  module _ (aim : Aim) (fits : FitsU32 aim.floor) (method : Method) (f : Findings) (s : IsSearchFrom p aim method f) where
+  module _ (aim : Aim) (fits : FitsU32 aim.floor) (method : Method) (f : Findings) (s : IsSearchFor p aim method f) where
     abbrev said : Option Best → Statement
     said best = statement_with f.version (answer_of aim.floor best) f.rows
 

@@ -4,16 +4,15 @@ ghost use Rattle.std.specs.Prelude.{◌≡◌, ◌≤◌, ◌⊎◌, ℕ, Bool, 
 ghost use Rattle.tune_problem.specs.Inputs.{InputsView};
 ghost use Rattle.tune_problem.specs.Parts.{ForEach};
 ghost use Rattle.tune_problem.specs.Problem.{problem_of};
-ghost use Rattle.tune_problem.specs.Ranking.{best_alone};
 ghost use Rattle.tune_problem.specs.Valid.{cert_of};
 ghost use Rattle.tune_problem.specs.declared.part.Part.{Part};
 ghost use Rattle.tune_problem.specs.declared.watcher.Best.{Best};
 ghost use Rattle.tune_cert.specs.Spelling.{Spells};
 ghost use Rattle.tune_cert.specs.Verdict.{IsRightVerdict};
-ghost use Rattle.tune_runs.specs.TuneRun.{Texts, of_part, meaning_of, is_text_fault, Means, HasNoCandidate, WritesTuning, WritesTuningFrom};
+ghost use Rattle.tune_runs.specs.TuneRun.{Texts, of_part, meaning_of, is_text_fault, Means, HasNoCandidate, WritesTuning};
 ghost use Rattle.tune_runs.specs.Runs.{Writer, Gets};
 ghost use Rattle.tune_runs.specs.CheckRun.{Accepts, verdict_line};
-ghost use Rattle.tune_runs.specs.Agreement.{filled, TuningBytes, GivesBytes, MayFind, written, Checks, ChecksCert, IsRightLine, Agree, ChecksFor, NamesAnswer, IsBestShown, IsBestOfAll, AreShownBelow, AreAllBelow, ChecksShare, AllAccept, AllName, AcceptsAsWhole};
+ghost use Rattle.tune_runs.specs.Agreement.{filled, TuningBytes, GivesBytes, MayFind, written, Checks, IsRightLine, Agree, ChecksFor, NamesAnswer, IsBestShown, IsBestOfAll, AreShownBelow, AreAllBelow, ChecksShare, AllAccept, AllName, AcceptsAsWhole};
 ghost use Rattle.tune_runs.specs.AimedRuns.{Asked, IsAsked, TunesAsked, ChecksAsked, AgreeAsked};
 
 use crate::fault::RunFault;
@@ -41,12 +40,6 @@ pub fn equal_tunings_write_equal_bytes()
     ensures { (t : Texts) (method : Method) (one other : TuningBytes) → GivesBytes t method one → GivesBytes t method other → one ≡ other }
 {}
 
-/// States that a tuning that keeps one setting and has the floor 0 writes what `WritesTuning` says:
-/// the certificate and the report of the optimum.
-pub fn a_tuning_without_a_floor_is_a_tuning()
-    ensures { (t : Texts) (method : Method) (report cert : Writer) → WritesTuningFrom t best_alone method report cert → WritesTuning t method report cert }
-{}
-
 /// States that the line of a check is that of the right verdict on the bytes, whoever made them:
 /// what the verdict says holds, everything that is checked before a rejection is right, an accepted
 /// certificate names the optimum and its total, and a valid one is accepted.
@@ -54,18 +47,11 @@ pub fn a_check_writes_the_right_verdict()
     ensures { (t : Texts) (bytes : List ℕ) (accepted : Bool) (out : Writer) → Checks t bytes accepted out → IsRightLine t bytes accepted out }
 {}
 
-/// States that a check of the texts of a tuning accepts the bytes of its certificate, and names the
-/// best setting and the total of its report.
-pub fn a_tuning_is_accepted_by_its_check()
-    ensures { (t : Texts) (method : Method) (accepted : Bool) (report cert out : Writer)
-        → WritesTuning t method report cert → ChecksCert t cert accepted out → IsTrue accepted × Agree t method report cert out }
-{}
-
 /// States that a check accepts the bytes that a tuning wrote with the same `keep` and the same
 /// `floor`, each given to both or to neither. Its lines name the best setting and the total of the
 /// report, or the floor that no setting reaches, and the ranking, if the report has one. So does a
 /// check of any share of the rows.
-pub fn a_tuning_with_an_aim_is_accepted_by_its_check()
+pub fn a_tuning_is_accepted_by_its_check()
     ensures { (a : Asked) (bytes : List ℕ) (accepted : Bool) (report out : Writer) → IsAsked a
         → TunesAsked a report (filled bytes) → ChecksAsked a bytes accepted out → (accepted ≡ true) × AgreeAsked a report out }
 {}

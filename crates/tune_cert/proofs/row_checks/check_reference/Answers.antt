@@ -1,4 +1,4 @@
-use Rattle.std.proofs.Common.{◌≡◌, ◌<◌, ◌∙◌, sym, arith, length, Some, None, true, false}
+use Rattle.std.proofs.Common.{◌<◌, ◌∙◌, sym, arith, length}
 use Rattle.std.proofs.lemmas.Option.{slice_get_within}
 use Rattle.tune_problem.specs.Problem.{problem_of}
 use Rattle.tune_problem.specs.declared.cert.Row.TheVariants.{Cap}

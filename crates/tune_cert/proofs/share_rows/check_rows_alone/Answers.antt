@@ -1,4 +1,4 @@
-use Rattle.std.proofs.Common.{◌≡◌, ◌∙◌, ◌-◌, ◌<◌, ap, sym, arith, length, Some, slice_get}
+use Rattle.std.proofs.Common.{◌≡◌, ◌∙◌, ◌<◌, ap, sym, arith, length, Some, slice_get}
 use Rattle.tune_problem.specs.Problem.{problem_of}
 use Rattle.tune_problem.specs.Valid.{listed_in}
 use Rattle.tune_cert.specs.Checks.{alone_reason}
