@@ -8,6 +8,7 @@ use Rattle.tune_problem.specs.declared.cert.Cert.{Cert}
 use Rattle.tune_problem.specs.declared.cert.Row.{Row}
 use Rattle.tune_problem.specs.declared.cert.Row.TheVariants.{Refused, Same, Cap}
 use Rattle.tune_problem.specs.declared.part.Part.{Part}
+use Rattle.tune_cert.specs.CertText.{stated}
 use Rattle.tune_cert.specs.Spelling.{Spells, IsMalformed, IsFirstMalformed, record_of}
 use Rattle.tune_cert.specs.Checks.{row_reason}
 use Rattle.tune_cert.specs.Judgement.{no_demand, judgement_of, judged}
@@ -39,7 +40,7 @@ pub record IsWrongRow (p : Problem) (c : Cert) (index : ℕ) (reason : Reason) :
   pub index_is : index ≡ record_of vector
   pub row : Row
   pub here : slice_get c.rows vector ≡ Some row
-  pub wrong : row_reason p c None vector row ≡ Some reason
+  pub wrong : row_reason p (stated c) None vector row ≡ Some reason
 
 -- What each reason says of the certificate, at the record that a rejection names.
 abbrev pub IsRejected : Problem → Cert → (index : ℕ) → Reason → Type 0
@@ -75,7 +76,7 @@ pub record IsFirstRow (p : Problem) (c : Cert) (index : ℕ) : Type 0 where
   pub index_is : index ≡ record_of vector
   pub row : Row
   pub here : slice_get c.rows vector ≡ Some row
-  pub before : (u : ℕ) (r : Row) → slice_get c.rows u ≡ Some r → IsCheckedBefore u r vector row → row_reason p c None u r ≡ None
+  pub before : (u : ℕ) (r : Row) → slice_get c.rows u ≡ Some r → IsCheckedBefore u r vector row → row_reason p (stated c) None u r ≡ None
 
 -- Everything that is checked before the reason is right. A certificate has no malformed record.
 abbrev pub IsFirstOfCert : Problem → Cert → (index : ℕ) → Reason → Type 0

@@ -5,7 +5,7 @@ ghost use Rattle.tune_problem.specs.Parts.{whole};
 ghost use Rattle.tune_problem.specs.Problem.{problem_of};
 ghost use Rattle.tune_cert.specs.Checks.{is_version_of, has_row_count};
 ghost use Rattle.tune_cert.specs.Verdict.{IsVerdictOf};
-ghost use Rattle.tune_cert.specs.Judgement.{is_answered, as_cert, judgement_on, judgement_of, judged, IsOfSettings};
+ghost use Rattle.tune_cert.specs.Judgement.{is_answered, judgement_on, judgement_of, judged, IsOfSettings};
 ghost use Rattle.tune_cert.specs.declared.verdict.Verdict.{Verdict as VerdictView};
 ghost use Rattle.tune_cert.specs.Shares.{share_part};
 
@@ -19,7 +19,7 @@ use crate::share::Share;
 use crate::share_rows::check_claim;
 use crate::verdict::{Judgement, Reason, Verdict};
 use std::alloc::Global;
-use tune_problem::{Answer, Best, Cert, Inputs, Silent, Statement, Watcher, cert_version};
+use tune_problem::{Answer, Inputs, Silent, Statement, Watcher, cert_version};
 
 /// Checks the bytes of a certificate against the inputs of a tuning.
 ///
@@ -132,21 +132,19 @@ fn check_statement<T: Watcher>(
 {
     let answer = statement.answer;
     let aim = demand.aim_for(answer);
-    let answered = is_answered(inputs, demand, &statement);
-    let cert = as_cert(inputs, statement);
-    if !is_version_of(inputs, &cert) {
+    if !is_version_of(inputs, &statement) {
         return Ok(rejected(0, Reason::Version));
     }
-    if !has_row_count(inputs, &cert) {
+    if !has_row_count(inputs, &statement) {
         return Ok(rejected(0, Reason::RowCount));
     }
-    if !answered {
+    if !is_answered(inputs, demand, &statement) {
         return Ok(rejected(1, Reason::BestRow));
     }
-    let ranking = ranking_for(alloc, inputs, &cert.rows, aim)?;
+    let ranking = ranking_for(alloc, inputs, &statement.rows, aim)?;
     let claim = Claim {
         inputs,
-        cert: &cert,
+        statement: &statement,
         aim,
         ranking: &ranking,
     };
@@ -170,51 +168,23 @@ fn is_answered(inputs: &Inputs, demand: Demand, statement: &Statement) -> bool
     }
 }
 
-// Returns the certificate that a statement is checked as. If no setting is said to reach a floor,
-// its best setting is the one after the last, with the floor as its total: a cap beats that exactly
-// if it reaches the floor.
-fn as_cert(inputs: &Inputs, statement: Statement) -> Cert
-    ensures { result ≡ as_cert (problem_of inputs.now) statement }
-{
-    let Statement {
-        version,
-        count,
-        answer,
-        rows,
-    } = statement;
-    let best = match answer {
-        Answer::Best(best) => best,
-        Answer::NoneFrom(floor) => Best {
-            vector: inputs.count(),
-            total: floor,
-        },
-    };
-    Cert {
-        version,
-        count,
-        best: best.vector,
-        total: best.total,
-        rows,
-    }
-}
-
 // Checks whether the version is one for the schedule: version 1 is for schedules in which every
 // fight counts once.
-fn is_version_of(inputs: &Inputs, cert: &Cert) -> bool
-    ensures { result ≡ is_version_of (problem_of inputs.now) cert.now.version }
+fn is_version_of(inputs: &Inputs, statement: &Statement) -> bool
+    ensures { result ≡ is_version_of (problem_of inputs.now) statement.now.version }
 {
-    if cert.version == 1 {
+    if statement.version == 1 {
         return cert_version(inputs) == 1;
     }
     true
 }
 
-// Checks whether there is a row for each setting, and the certificate claims this count.
-fn has_row_count(inputs: &Inputs, cert: &Cert) -> bool
-    ensures { result ≡ has_row_count (problem_of inputs.now) cert.now }
+// Checks whether there is a row for each setting, and this count is claimed.
+fn has_row_count(inputs: &Inputs, statement: &Statement) -> bool
+    ensures { result ≡ has_row_count (problem_of inputs.now) statement.now }
 {
     let count = inputs.count();
-    cert.count == count && cert.rows.as_slice().len() == count as usize
+    statement.count == count && statement.rows.as_slice().len() == count as usize
 }
 
 fn rejected(index: u64, reason: Reason) -> Judgement
