@@ -13,14 +13,13 @@ use Rattle.tune_problem.specs.declared.aim.Aim.{Aim}
 use Rattle.tune_problem.specs.declared.statement.Statement.{Statement}
 use Rattle.tune_problem.specs.declared.cert.Row.{Row}
 use Rattle.tune_problem.specs.declared.cert.Row.TheVariants.{Refused, Same, Cap}
-use Rattle.tune_problem.proofs.Certificates.{same_number, some_is}
+use Rattle.tune_problem.proofs.Certificates.{some_is}
 use Rattle.tune_cert.specs.Checks.{rises, are_fights, has_points, have_points, share_warrior, names, stays_below, is_exact, cap_reason, listed_reason, reference_reason, row_reason, unless, first_of}
 use Rattle.tune_cert.specs.declared.verdict.Reason.{Reason}
 use Rattle.tune_cert.specs.declared.verdict.Reason.TheVariants.{Malformed, RowCount, BestRow, WrongPoints, RepeatedFight, CapTooHigh, NotSame, NotRefused, Version}
 use Rattle.tune_problem.proofs.ListedRanks.{listed_is_cap}
 use Rattle.tune_cert.proofs.RowChecks.{cap_row_of, cap_row_rises, cap_row_points}
 use Rattle.tune_cert.proofs.EqualWarriors.{share_one, one_share}
-use Rattle.std.proofs.Common.{inl, inr}
 
 -- ---- tests in a row
 

@@ -1,34 +1,34 @@
 -- Two tunings of the same texts.
-use Rattle.std.proofs.Common.{◌≡◌, sym, ◌∙◌, ap, subst}
+use Rattle.std.proofs.Common.{◌≡◌, ℕ, List, sym, ◌∙◌, ap, subst}
 use Rattle.tune_problem.specs.Inputs.{InputsView}
 use Rattle.tune_problem.specs.Problem.{problem_of}
-use Rattle.tune_problem.specs.Ranking.{best_alone}
-use Rattle.tune_problem.specs.Valid.{cert_of}
-use Rattle.tune_problem.specs.declared.cert.Found.{Found}
-use Rattle.tune_cert.specs.CertText.{cert_text}
-use Rattle.tune_search.specs.Found.{IsSearch, as_findings}
+use Rattle.tune_problem.specs.Ranking.{IsAim, first_of}
+use Rattle.tune_problem.specs.declared.aim.Aim.{Aim}
+use Rattle.tune_cert.specs.CertText.{statement_text, statement_with}
+use Rattle.tune_search.specs.Findings.{IsSearchFor}
+use Rattle.tune_search.specs.declared.findings.Findings.{Findings}
 use Rattle.tune_search.specs.declared.method.Method.{Method}
 use Rattle.tune_search.proofs.OneAnswer.{answer_one}
 use Rattle.tune_runs.specs.Report.{report_for, report_text}
-use Rattle.tune_runs.specs.TuneRun.{Texts}
-use Rattle.tune_runs.specs.Agreement.{TuningBytes, GivesBytes, filled}
-use Rattle.tune_runs.proofs.BestTunings.{tuned}
+use Rattle.tune_runs.specs.TuneRun.{Texts, answer_of}
+use Rattle.tune_runs.specs.Agreement.{TuningBytes, GivesBytes}
 use Rattle.tune_runs.proofs.Meaning.{one_meaning}
 
-pub same_bytes : (t : Texts) (method : Method) (one other : TuningBytes) → GivesBytes t method one → GivesBytes t method other → one ≡ other
-same_bytes t method one other a b =
-    let x = tuned t method (filled one.report) (filled one.cert) a in
-    let y = tuned t method (filled other.report) (filled other.cert) b in
-    let inputs : x.inputs ≡ y.inputs = one_meaning t x.inputs y.inputs x.tuning.means y.tuning.means in
-    let again : IsSearch (problem_of x.inputs) method y.found = subst (λ (i : InputsView). IsSearch (problem_of i) method y.found) (sym inputs) y.tuning.search in
-    let found : x.found ≡ y.found = answer_one (problem_of x.inputs) method x.found y.found x.tuning.search again in
-    let kept : one.cert ≡ cert_text (cert_of x.found) = x.certified in
-    let kept_too : other.cert ≡ cert_text (cert_of y.found) = y.certified in
-    let certs = kept ∙ (ap (λ (f : Found). cert_text (cert_of f)) found ∙ sym kept_too) in
-    let told : one.report ≡ report_text (report_for x.inputs best_alone (as_findings x.found)) = x.reported in
-    let told_too : other.report ≡ report_text (report_for y.inputs best_alone (as_findings y.found)) = y.reported in
-    let reports =
-    told
-    ∙ (ap (λ (i : InputsView). report_text (report_for i best_alone (as_findings x.found))) inputs
-    ∙ (ap (λ (f : Found). report_text (report_for y.inputs best_alone (as_findings f))) found ∙ sym told_too)) in
-    λ k. record { report = reports k; cert = certs k }
+module _ (aim : Aim) where
+  abbrev cert_text : Findings → List ℕ
+  cert_text f = statement_text (statement_with f.version (answer_of aim.floor (first_of f.ranking)) f.rows)
+
+  pub same_bytes : (t : Texts) (method : Method) (one other : TuningBytes) → IsAim aim → GivesBytes t aim method one → GivesBytes t aim method other → one ≡ other
+  same_bytes t method one other is_aim (i, f, (means, s, some), wrote_cert, wrote_report) (j, g, (means_too, r, more), wrote_cert_too, wrote_report_too) =
+      let inputs : i ≡ j = one_meaning t i j means means_too in
+      let again : IsSearchFor (problem_of i) aim method g = subst (λ (x : InputsView). IsSearchFor (problem_of x) aim method g) (sym inputs) r in
+      let found : f ≡ g = answer_one (problem_of i) aim method f g s again is_aim in
+      let cert : one.cert ≡ cert_text f = wrote_cert in
+      let cert_too : other.cert ≡ cert_text g = wrote_cert_too in
+      let report : one.report ≡ report_text (report_for i aim f) = wrote_report in
+      let report_too : other.report ≡ report_text (report_for j aim g) = wrote_report_too in
+      let certs = cert ∙ (ap cert_text found ∙ sym cert_too) in
+      let reports =
+      report
+      ∙ (ap (λ (x : InputsView). report_text (report_for x aim f)) inputs ∙ (ap (λ (x : Findings). report_text (report_for j aim x)) found ∙ sym report_too)) in
+      λ k. record { report = reports k; cert = certs k }

@@ -8,6 +8,7 @@ use Rattle.tune_problem.specs.Optimum.{IsBest}
 use Rattle.tune_problem.specs.Parts.{part, ForEach}
 use Rattle.tune_problem.specs.Problem.{problem_of}
 use Rattle.tune_problem.specs.Valid.{cert_of}
+use Rattle.tune_problem.specs.declared.aim.Aim.{Aim}
 use Rattle.tune_problem.specs.declared.cert.Found.{Found}
 use Rattle.tune_problem.specs.declared.part.Part.{Part}
 use Rattle.tune_problem.specs.declared.statement.Answer.{Answer}
@@ -21,7 +22,7 @@ use Rattle.tune_cert.specs.declared.verdict.Verdict.TheVariants.{Accepted}
 use Rattle.tune_search.specs.Found.{IsSearch, as_findings}
 use Rattle.tune_search.specs.declared.method.Method.{Method}
 use Rattle.tune_runs.specs.Report.{report_text, report_for}
-use Rattle.tune_runs.specs.TuneRun.{Texts, of_part, Means, WritesTuning}
+use Rattle.tune_runs.specs.TuneRun.{Texts, of_part, Means, WritesTuningFor}
 use Rattle.tune_runs.specs.Runs.{Writer, Gets}
 use Rattle.tune_runs.specs.CheckRun.{WritesCheck, HasRightVerdict, Accepts, AcceptsFor, IsShown, accepts, answer_text, verdict_line}
 
@@ -36,9 +37,9 @@ pub record TuningBytes : Type 0 where
   pub report : List ℕ
   pub cert : List ℕ
 
--- A tuning by this method gave these bytes.
-abbrev pub GivesBytes : Texts → Method → TuningBytes → Type 0
-GivesBytes t method o = WritesTuning t method (filled o.report) (filled o.cert)
+-- A tuning for this aim by this method gave these bytes.
+abbrev pub GivesBytes : Texts → Aim → Method → TuningBytes → Type 0
+GivesBytes t aim method o = WritesTuningFor t aim method (filled o.report) (filled o.cert)
 
 -- The texts mean these inputs, and a search by this method may find this for them.
 pub record MayFind (t : Texts) (method : Method) (i : InputsView) (f : Found) : Type 0 where

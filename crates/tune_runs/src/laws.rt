@@ -4,6 +4,7 @@ ghost use Rattle.std.specs.Prelude.{◌≡◌, ◌≤◌, ◌⊎◌, ℕ, Bool, 
 ghost use Rattle.tune_problem.specs.Inputs.{InputsView};
 ghost use Rattle.tune_problem.specs.Parts.{ForEach};
 ghost use Rattle.tune_problem.specs.Problem.{problem_of};
+ghost use Rattle.tune_problem.specs.Ranking.{IsAim};
 ghost use Rattle.tune_problem.specs.Valid.{cert_of};
 ghost use Rattle.tune_problem.specs.declared.part.Part.{Part};
 ghost use Rattle.tune_problem.specs.declared.watcher.Best.{Best};
@@ -17,6 +18,7 @@ ghost use Rattle.tune_runs.specs.AimedRuns.{Asked, IsAsked, TunesAsked, ChecksAs
 
 use crate::fault::RunFault;
 use tune_cert::{Demand, Found, Verdict};
+use tune_problem::Aim;
 use tune_search::Method;
 
 /// States that the texts of a tuning have at most one meaning, and which faults they may have:
@@ -34,10 +36,11 @@ pub fn a_written_certificate_is_accepted()
         → IsRightVerdict (problem_of i) (written f) v → v ≡ Verdict.Accepted f.best f.total }
 {}
 
-/// States that a tuning can be repeated: from empty writers the same texts and the same method give
-/// the same bytes of the report and of the certificate.
+/// States that a tuning can be repeated: from empty writers the same texts, the same aim and the
+/// same method give the same bytes of the report and of the certificate.
 pub fn equal_tunings_write_equal_bytes()
-    ensures { (t : Texts) (method : Method) (one other : TuningBytes) → GivesBytes t method one → GivesBytes t method other → one ≡ other }
+    ensures { (t : Texts) (aim : Aim) (method : Method) (one other : TuningBytes) → IsAim aim
+        → GivesBytes t aim method one → GivesBytes t aim method other → one ≡ other }
 {}
 
 /// States that the line of a check is that of the right verdict on the bytes, whoever made them:

@@ -30,10 +30,13 @@ pub fn fought_settings_differ()
         → p.start < p.count → fought_count f ≤ capacity_of method → HasFought p f w v → HasFought p f w u → v ≡ u }
 {}
 
-/// States that the inputs and the method determine what a search finds: its rows, and so which
-/// fights are played, as well as the optimum, its total and the counts.
+/// States that the inputs, the aim and the method determine what a search finds: its rows, and so
+/// which fights are played, as well as the ranking and the counts; and for the best setting alone
+/// the optimum and its total.
 pub fn a_search_has_one_answer()
-    ensures { (p : Problem) (method : Method) (f g : Found) → IsSearch p method f → IsSearch p method g → f ≡ g }
+    ensures findings { (p : Problem) (aim : Aim) (method : Method) (f g : Findings) → IsAim aim
+        → IsSearchFor p aim method f → IsSearchFor p aim method g → f ≡ g }
+    ensures alone { (p : Problem) (method : Method) (f g : Found) → IsSearch p method f → IsSearch p method g → f ≡ g }
 {}
 
 /// States that all methods find the same setting, with the same total, and count the same number of

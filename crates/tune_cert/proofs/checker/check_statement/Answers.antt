@@ -1,4 +1,4 @@
-use Rattle.std.proofs.Common.{◌∙◌, ◌<◌, ◌^◌, ap, subst, sym, refl, true, false, Option, None, Some, IfSome, length}
+use Rattle.std.proofs.Common.{◌∙◌, ◌<◌, ◌^◌, ap, subst, sym, refl, true, false, Option, None, Some, IfSome}
 use Rattle.tune_problem.specs.declared.aim.Aim.{Aim}
 use Rattle.tune_cert.specs.Judgement.{aim_for}
 use Rattle.tune_problem.specs.Parts.{part}
