@@ -5,6 +5,7 @@ something failed, or if nothing was tried. One is an exception: without the kit 
 was placed for, `loop_place` judges no place, and its status is 0.
 
 gate             runs all of it, on a copy of the tree
+answers          which answers the prover does without (run by hand)
 edits            wrong bodies (crates/*/must-fail/) that the prover has to refuse, and for each
                  crate a body (harmless/) that it must not refuse
 play_cases       the cases: runs of the program as data (cases/)
