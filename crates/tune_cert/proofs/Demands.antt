@@ -191,15 +191,15 @@ module _ (p : Problem) (laws : IsProblem p) (demand : Demand) (s : Statement) wh
 
 -- ---- all shares together
 
-module _ (p : Problem) (demand : Demand) (s : Statement) (shares : ℕ) (some : 1 ≤ shares) where
+module _ (p : Problem) (demand : Demand) (s : Statement) where
   abbrev answered : Bool
   answered = is_answered p demand s.rows s.answer
 
   abbrev aim : Option Aim
   aim = aim_for demand s.answer
 
-  pub whole_of_shares : ((n : ℕ) → 1 ≤ n → n ≤ shares → judgement_on p demand (part n shares) s ≡ accepted_with p demand s) → judgement_on p demand whole s ≡ accepted_with p demand s
-  whole_of_shares each =
+  pub whole_of_shares : (shares : ℕ) → 1 ≤ shares → ((n : ℕ) → 1 ≤ n → n ≤ shares → judgement_on p demand (part n shares) s ≡ accepted_with p demand s) → judgement_on p demand whole s ≡ accepted_with p demand s
+  whole_of_shares shares some each =
       let checks = λ (n : ℕ) (low : 1 ≤ n) (high : n ≤ shares). four_checks p (part n shares) s aim answered (accepts_none p demand (part n shares) s (each n low high)) in
       let one = checks 1 (omega arith) some in
       none_accepts p demand whole s (checks_four p whole s aim answered one.0 one.1 one.2 (λ v row low high at.
@@ -207,10 +207,10 @@ module _ (p : Problem) (demand : Demand) (s : Statement) (shares : ℕ) (some : 
       let found = in_a_part p.count shares some v (omega (arith, within, one.1.1)) in
       (checks found.0 found.1 found.2).3 v row found.3 found.4 at))
 
-  pub shares_of_whole : judgement_on p demand whole s ≡ accepted_with p demand s → (n : ℕ) → 1 ≤ n → n ≤ shares → judgement_on p demand (part n shares) s ≡ accepted_with p demand s
-  shares_of_whole e n low high =
+  pub share_of_whole : judgement_on p demand whole s ≡ accepted_with p demand s → (share : Part) → judgement_on p demand share s ≡ accepted_with p demand s
+  share_of_whole e share =
       let checks = four_checks p whole s aim answered (accepts_none p demand whole s e) in
-      none_accepts p demand (part n shares) s (checks_four p (part n shares) s aim answered checks.0 checks.1 checks.2 (λ v row from to at.
+      none_accepts p demand share s (checks_four p share s aim answered checks.0 checks.1 checks.2 (λ v row from to at.
       let inside = in_whole p s.rows v row checks.1.1 at in
       checks.3 v row inside.0 inside.1 at))
 

@@ -24,7 +24,7 @@ use Rattle.tune_search.specs.declared.method.Method.{Method}
 use Rattle.tune_runs.specs.Report.{report_text, report_for}
 use Rattle.tune_runs.specs.TuneRun.{Texts, of_part, Means, WritesTuningFor}
 use Rattle.tune_runs.specs.Runs.{Writer, Gets}
-use Rattle.tune_runs.specs.CheckRun.{WritesCheck, HasRightVerdict, Accepts, AcceptsFor, IsShown, accepts, answer_text, verdict_line}
+use Rattle.tune_runs.specs.CheckRun.{WritesCheck, HasRightVerdict, AcceptsFor, IsShown, accepted_words, accepts, answer_text, verdict_line}
 
 -- A writer that was empty, and holds these bytes.
 abbrev pub filled : List ℕ → Writer
@@ -118,26 +118,21 @@ AreAllBelow t floor = (i : InputsView) × Means (of_part t 1 1) i × AllBelow (p
 
 -- ---- shares
 
--- A check of a share of the rows of these bytes for the optimum alone wrote its line; `accepted` says
--- whether it accepts.
-abbrev pub ChecksShare : Texts → (share : Part) → List ℕ → (accepted : Bool) → Writer → Type 0
-ChecksShare t share bytes accepted out = WritesCheck t no_demand (Some share) bytes accepted out
+-- The first line of a share that accepts names this answer.
+abbrev pub NamesIn : (share : Part) → Answer → Writer → Type 0
+NamesIn share answer out = (rest : List ℕ) × Gets out (accepted_words (Some share) ++ answer_text answer ++ rest)
 
--- Each share of these bytes was checked, and accepts them.
-pub record AllAccept (t : Texts) (shares : ℕ) (bytes : List ℕ) (out : ℕ → Writer) : Type 0 where
+-- Each share of these bytes was checked with this demand, and accepts them.
+pub record AllAccept (t : Texts) (demand : Demand) (shares : ℕ) (bytes : List ℕ) (out : ℕ → Writer) : Type 0 where
   pub some : 1 ≤ shares
-  pub each : ForEach shares (λ n. ChecksShare t (part n shares) bytes true (out n))
+  pub each : ForEach shares (λ n. WritesCheck t demand (Some (part n shares)) bytes true (out n))
 
--- The line of a share names this best setting and total.
-abbrev pub NamesIn : (share : Part) → (best total : ℕ) → Writer → Type 0
-NamesIn share best total out = Gets out (verdict_line (Some share) (Accepted best total))
+-- The first line of each share names this answer.
+abbrev pub AllName : (shares : ℕ) → Answer → (out : ℕ → Writer) → Type 0
+AllName shares answer out = ForEach shares (λ n. NamesIn (part n shares) answer (out n))
 
--- The line of each share names this best setting and total.
-abbrev pub AllName : (shares best total : ℕ) → (out : ℕ → Writer) → Type 0
-AllName shares best total out = ForEach shares (λ n. NamesIn (part n shares) best total (out n))
-
--- If a check of all rows accepts these bytes, the share accepts them, too, and names the same best
--- setting and total.
-abbrev pub AcceptsAsWhole : Texts → (share : Part) → List ℕ → (accepted : Bool) → Writer → Type 0
-AcceptsAsWhole t share bytes accepted out =
-    (best total : ℕ) → Accepts t bytes best total → (accepted ≡ true) × NamesIn share best total out
+-- If a check of all rows accepts these bytes, the share accepts them, too, and names the same
+-- answer.
+abbrev pub AcceptsAsWhole : Texts → Demand → (share : Part) → List ℕ → (accepted : Bool) → Writer → Type 0
+AcceptsAsWhole t demand share bytes accepted out =
+    (answer : Answer) → AcceptsFor t demand bytes answer → (accepted ≡ true) × NamesIn share answer out

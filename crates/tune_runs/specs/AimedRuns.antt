@@ -1,5 +1,5 @@
 -- A tuning, and a check of what it wrote that is asked for the same ranking and floor.
-use Rattle.std.specs.Prelude.{ℕ, ◌≤◌, Bool, List, ◌++◌, Option}
+use Rattle.std.specs.Prelude.{ℕ, Bool, List, ◌++◌, Option}
 use Rattle.std.specs.Option.{unwrap_or}
 use Rattle.tune_problem.specs.Inputs.{InputsView}
 use Rattle.tune_problem.specs.Ranking.{IsAim, first_of}
@@ -11,7 +11,7 @@ use Rattle.tune_search.specs.declared.findings.Findings.{Findings}
 use Rattle.tune_search.specs.declared.method.Method.{Method}
 use Rattle.tune_runs.specs.Report.{rank_lines, report_for, report_text}
 use Rattle.tune_runs.specs.TuneRun.{Texts, IsTuning, WritesTuningFor, answer_of}
-use Rattle.tune_runs.specs.CheckRun.{WritesCheck, accepted_words, answer_text, share_meant}
+use Rattle.tune_runs.specs.CheckRun.{WritesCheck, accepted_words, answer_text}
 use Rattle.tune_runs.specs.Runs.{Writer, Gets}
 
 -- The aim of a tuning that is asked for what a check demands: it keeps one setting if `keep` is
@@ -27,13 +27,10 @@ pub record Asked : Type 0 where
   pub method : Method
   pub share : Option Part
 
--- `keep` is within its limits, the floor fits a `u32`, and the share is one of 1 to its number of
--- shares.
+-- `keep` is within its limits, and the floor fits a `u32`.
 pub record IsAsked (a : Asked) : Type 0 where
   pub aim : IsAim (aim_of a.demand)
   pub floor : FitsU32 (aim_of a.demand).floor
-  pub some : 1 ≤ (share_meant a.share).number
-  pub within : (share_meant a.share).number ≤ (share_meant a.share).parts
 
 -- The tuning wrote its report and its certificate.
 abbrev pub TunesAsked : Asked → (report cert : Writer) → Type 0

@@ -1,6 +1,6 @@
 //! Laws of tunings and their certificates. A law is a function with an empty body: its contract is
 //! what is proved.
-ghost use Rattle.std.specs.Prelude.{◌≡◌, ◌≤◌, ◌⊎◌, ℕ, Bool, List, None, true, Err, IsTrue};
+ghost use Rattle.std.specs.Prelude.{◌≡◌, ◌≤◌, ◌⊎◌, ℕ, Bool, List, Some, None, true, Err, IsTrue};
 ghost use Rattle.tune_problem.specs.Inputs.{InputsView};
 ghost use Rattle.tune_problem.specs.Parts.{ForEach};
 ghost use Rattle.tune_problem.specs.Problem.{problem_of};
@@ -8,16 +8,17 @@ ghost use Rattle.tune_problem.specs.Ranking.{IsAim};
 ghost use Rattle.tune_problem.specs.Valid.{cert_of};
 ghost use Rattle.tune_problem.specs.declared.part.Part.{Part};
 ghost use Rattle.tune_problem.specs.declared.watcher.Best.{Best};
+ghost use Rattle.tune_cert.specs.Judgement.{no_demand};
 ghost use Rattle.tune_cert.specs.Spelling.{Spells};
 ghost use Rattle.tune_cert.specs.Verdict.{IsRightVerdict};
 ghost use Rattle.tune_runs.specs.TuneRun.{Texts, of_part, meaning_of, is_text_fault, Means, HasNoCandidate, WritesTuning};
 ghost use Rattle.tune_runs.specs.Runs.{Writer, Gets};
-ghost use Rattle.tune_runs.specs.CheckRun.{Accepts, verdict_line};
-ghost use Rattle.tune_runs.specs.Agreement.{filled, TuningBytes, GivesBytes, MayFind, written, Checks, IsRightLine, Agree, ChecksFor, NamesAnswer, IsBestShown, IsBestOfAll, AreShownBelow, AreAllBelow, ChecksShare, AllAccept, AllName, AcceptsAsWhole};
+ghost use Rattle.tune_runs.specs.CheckRun.{Accepts, AcceptsFor, WritesCheck, verdict_line};
+ghost use Rattle.tune_runs.specs.Agreement.{filled, TuningBytes, GivesBytes, MayFind, written, Checks, IsRightLine, Agree, ChecksFor, NamesAnswer, IsBestShown, IsBestOfAll, AreShownBelow, AreAllBelow, AllAccept, AllName, AcceptsAsWhole};
 ghost use Rattle.tune_runs.specs.AimedRuns.{Asked, IsAsked, TunesAsked, ChecksAsked, AgreeAsked};
 
 use crate::fault::RunFault;
-use tune_cert::{Demand, Found, Verdict};
+use tune_cert::{Answer, Demand, Found, Verdict};
 use tune_problem::Aim;
 use tune_search::Method;
 
@@ -86,13 +87,18 @@ pub fn accepted_parts_name_the_optimum()
     ensures none { (t : Texts) (parts : ℕ) → 1 ≤ parts → ForEach parts (λ n. HasNoCandidate (of_part t n parts)) → HasNoCandidate (of_part t 1 1) }
 {}
 
-/// States that a check can be shared: if each of `shares` shares of the same bytes, checked for the
-/// same texts, wrote a line of acceptance, then a check of all rows accepts these bytes, and each
-/// line names its best setting and total: the optimum. The other way round, bytes that a check of
-/// all rows accepts are accepted by each share, with the same setting and total.
+/// States that a check can be shared, whatever the demand: if each of `shares` shares of the same
+/// bytes, checked for the same texts, wrote lines of acceptance, then a check of all rows accepts
+/// these bytes, and each first line names its answer. The other way round, bytes that a check of
+/// all rows accepts are accepted by each share, with the same answer. Without a demand the answer
+/// is a best setting with its total: the optimum.
 pub fn accepted_shares_name_the_optimum()
-    ensures optimum { (t : Texts) (shares : ℕ) (bytes : List ℕ) (out : ℕ → Writer) → AllAccept t shares bytes out
-        → (best total : ℕ) × Accepts t bytes best total × AllName shares best total out }
-    ensures each { (t : Texts) (share : Part) (bytes : List ℕ) (accepted : Bool) (out : Writer)
-        → ChecksShare t share bytes accepted out → AcceptsAsWhole t share bytes accepted out }
+    ensures answer { (t : Texts) (demand : Demand) (shares : ℕ) (bytes : List ℕ) (out : ℕ → Writer) → AllAccept t demand shares bytes out
+        → (answer : Answer) × AcceptsFor t demand bytes answer × AllName shares answer out }
+    ensures each { (t : Texts) (demand : Demand) (share : Part) (bytes : List ℕ) (accepted : Bool) (out : Writer)
+        → WritesCheck t demand (Some share) bytes accepted out → AcceptsAsWhole t demand share bytes accepted out }
+
+    // An answer that is accepted without a demand is a best setting, by the right verdict.
+    ensures optimum { (t : Texts) (bytes : List ℕ) (answer : Answer) → AcceptsFor t no_demand bytes answer
+        → (best : Best) × (answer ≡ Answer.Best best) × Accepts t bytes best.vector best.total }
 {}
