@@ -4,6 +4,7 @@ Each module prints what failed, and as its last line `N passed, N failed`. Its e
 something failed, or if nothing was tried.
 
 gate             runs all of it, on a copy of the tree
+answers          which answers the prover does without (run by hand)
 edits            wrong bodies (crates/*/must-fail/) that the prover has to refuse, and for each
                  crate a body (harmless/) that it must not refuse
 play_cases       the cases: runs of the program as data (cases/)

@@ -2,7 +2,7 @@
 looks whether `classes.py` has something to write.
 
 Each module that can be run has to be in a list here, and each of `gate` in those of gate.gate and
-of gate/__init__.py.
+of gate/__init__.py, but for those that are run by hand.
 """
 import itertools, os, pathlib, re, subprocess, sys, tempfile
 
@@ -19,7 +19,10 @@ ROOMS = ["author", "bench", "gate", "pmars", "release"]
 # The end of a module that can be run.
 MAIN = '\nif __name__ == "__main__":\n'
 # The modules that are only asked for help.
-HELPED = ["gate.gate", "gate.edits", "gate.runners", "release.dist", "release.manual"]
+HELPED = ["gate.gate", "gate.answers", "gate.edits", "gate.runners", "release.dist",
+          "release.manual"]
+# The modules of gate that are no step of it.
+NO_STEPS = {"gate.gate", "gate.answers"}
 # The others, which take a program as their last word, by the command that builds it.
 REFUSED = {
     "make build": ["author.tests.run", "author.tests.own_folders", "gate.play_cases", "gate.cuts",
@@ -55,6 +58,8 @@ def failing():
     """Gives modules a program that always fails: they have to say so, in a line."""
     status, _, err = run("gate.shares", FAILING)
     yield compare(f"gate.shares {FAILING}", (1, ""), (status, err))
+    said = "error: no crate is called none, or it has no proofs\n"
+    yield compare("gate.answers none", (2, "", said), run("gate.answers", "none"))
     words = ["bench.searches", "--kinds=best", "--program", FAILING, "examples/tuning/stone.red"]
     said = "failed: stone.red: a search ended with status 1\n"
     yield compare(" ".join(words), (3, "", said), run(*words))
@@ -106,7 +111,7 @@ def listed():
     here = {words.split()[0] for words in itertools.chain(HELPED, *REFUSED.values())}
     yield same("gate.runners", modules_of(ROOMS, MAIN), here)
     steps = {words.split()[0] for words in STEPS if words.startswith("gate.")}
-    yield same("gate.gate", run_in_gate - {"gate.gate"}, steps)
+    yield same("gate.gate", run_in_gate - NO_STEPS, steps)
     first = {f"gate.{name}" for name in re.findall("(?m)^([a-z_.]+)(?:  .*)?$", gate.__doc__)}
     yield same("gate/__init__.py", run_in_gate, first)
     named = first | {f"gate.{name}" for name in re.findall("`([a-z_.]+)`", gate.__doc__)}

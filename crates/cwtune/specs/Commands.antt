@@ -1,6 +1,6 @@
 -- What the commands write of the files that they read, and how they end.
-use Rattle.std.specs.Prelude.{◌≡◌, ◌≢◌, ◌⊎◌, ◌||◌, if◌then◌else◌, ℕ, Bool, true, false, List, Option, Some, None, Result, Ok, Err, IfErr, OnOk, IsErrOf, IsTrue}
-use Rattle.std.specs.Option.{is_some, option_map}
+use Rattle.std.specs.Prelude.{◌≡◌, ◌≢◌, ◌⊎◌, ℕ, Bool, true, false, List, Option, Some, None, Result, Ok, Err, IfErr, OnOk, IsErrOf, IsTrue}
+use Rattle.std.specs.Option.{option_map}
 use Rattle.rc_instr.specs.Outlet.{OutletView}
 use Rattle.rc_instr.specs.Rules.{RulesView}
 use Rattle.tune_problem.specs.declared.aim.Aim.{Aim}
@@ -15,8 +15,8 @@ use Rattle.tune_runs.specs.DuelRun.{duel, position_meant, WritesDuel}
 use Rattle.tune_runs.specs.FightRun.{WritesFight}
 use Rattle.tune_runs.specs.SettingRun.{setting_output}
 use Rattle.tune_runs.specs.SettingsRun.{WritesSettings}
-use Rattle.tune_runs.specs.TuneRun.{Texts, part_texts, WritesTuningFrom}
-use Rattle.tune_runs.specs.CheckRun.{check_for_output, check_output}
+use Rattle.tune_runs.specs.TuneRun.{Texts, part_texts, WritesTuningFor}
+use Rattle.tune_runs.specs.CheckRun.{WritesCheck}
 use Rattle.tune_search.specs.declared.method.Method.{Method}
 use Rattle.tune_runs.specs.declared.given.WhichSetting.{WhichSetting}
 use Rattle.tune_runs.specs.declared.fault.RunFault.{RunFault}
@@ -48,27 +48,13 @@ WritesDuelOf rules position first out =
 abbrev pub WritesReport : Aim → Method → RulesView → Part → (report : Writer) → Type 0
 WritesReport aim method rules part report =
     (template : List ℕ) × (opponents : List (List ℕ)) × (schedule : List ℕ) × (old : Option (List ℕ)) × (new : Option (List ℕ))
-    × WritesTuningFrom (part_texts template opponents schedule rules part) aim method report (record { old = old; new = new })
-
--- A ranking or a floor is asked for.
-abbrev pub is_asked : Demand → Bool
-is_asked demand = is_some demand.keep || is_some demand.floor
-
--- The output of `check`: whether the certificate is accepted, and the line of the verdict, or the
--- lines of the judgement if a ranking or a floor is asked for; or the first fault of the texts.
-abbrev pub check_command_output : Demand → Option Share → Texts → List ℕ → Result (Bool × List ℕ) RunFault
-check_command_output demand share t cert =
-    if is_asked demand then check_for_output t demand (option_map share_part share) cert else check_output t (option_map share_part share) cert
-
--- The lines were written, and `accepted` says whether the certificate is accepted.
-abbrev pub WritesCheckOf : Demand → Option Share → Texts → List ℕ → Bool → Writer → Type 0
-WritesCheckOf demand share t cert accepted out = Writes (check_command_output demand share t cert) accepted out
+    × WritesTuningFor (part_texts template opponents schedule rules part) aim method report (record { old = old; new = new })
 
 -- The lines of a check of some texts and a certificate were written.
 abbrev pub WritesCheckLine : RulesView → Part → Demand → Option Share → Bool → Writer → Type 0
 WritesCheckLine rules part demand share accepted out =
     (template : List ℕ) × (opponents : List (List ℕ)) × (schedule : List ℕ) × (cert : List ℕ)
-    × WritesCheckOf demand share (part_texts template opponents schedule rules part) cert accepted out
+    × WritesCheck (part_texts template opponents schedule rules part) demand (option_map share_part share) cert accepted out
 
 -- ---- what a command wrote, for some files and some values of its options
 

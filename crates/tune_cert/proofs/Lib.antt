@@ -5,7 +5,6 @@ pub mod Reasons
 pub mod EqualWarriors
 pub mod ShareBounds
 pub mod RowWalks
-pub mod Assembled
 pub mod FieldTexts
 pub mod Forms
 pub mod Statements
@@ -18,5 +17,6 @@ pub mod FirstWrong
 pub mod ValidShares
 pub mod RightVerdicts
 pub mod Demands
+pub mod PlainChecks
 pub mod ListedSteps
 pub mod ListedSettings

@@ -1,5 +1,5 @@
 -- The ranking that rows list is of their settings, and no longer than was asked for.
-use Rattle.std.proofs.Common.{◌≡◌, ℕ, zero, suc, ◌<◌, ◌≤◌, ◌^◌, IfSome, arith, Bool, true, false, List, [], Option, Some, None, length, take, refl, sym, ap, subst}
+use Rattle.std.proofs.Common.{◌≡◌, ℕ, zero, suc, ◌<◌, ◌≤◌, ◌^◌, IfSome, arith, Bool, true, false, List, Option, Some, None, length, sym, subst}
 use Rattle.std.specs.List.{AllByRecursion}
 use Rattle.std.proofs.lemmas.List.{length-take}
 use Rattle.tune_problem.specs.Problem.{Problem}

@@ -1,5 +1,5 @@
 -- The ranking that rows list, setting by setting.
-use Rattle.std.proofs.Common.{◌≡◌, ℕ, ◌+◌, List, [], Option, Some, None, refl, sym, ◌∙◌, ap, add-one}
+use Rattle.std.proofs.Common.{◌≡◌, ℕ, ◌+◌, List, [], Option, Some, None, sym, ◌∙◌, ap, add-one}
 use Rattle.tune_problem.specs.Problem.{Problem}
 use Rattle.tune_problem.specs.Ranking.{next_ranking}
 use Rattle.tune_problem.specs.Exact.{total_at, ranking_shown, ranking_below}

@@ -12,10 +12,11 @@ use Rattle.tune_problem.specs.declared.cert.Row.TheVariants.{Refused, Same, Cap}
 use Rattle.tune_problem.specs.declared.part.Part.{Part}
 use Rattle.tune_problem.proofs.Certificates.{valid_is_optimum, valid_total}
 use Rattle.tune_cert.proofs.ShareBounds.{whole_bounds}
+use Rattle.tune_cert.specs.CertText.{stated}
 use Rattle.tune_cert.specs.Spelling.{Spells, record_of, cert_of_records}
-use Rattle.tune_cert.specs.Checks.{refers, alone_reason, same_reason, row_reason, reason_at, first_wrong, rows_failure, share_settings, failure_by, first_failure, is_version_of, has_row_count, is_best_row}
+use Rattle.tune_cert.specs.Checks.{refers, alone_reason, same_reason, row_reason, reason_at, first_wrong, rows_failure, share_settings, failure_by, is_version_of, has_row_count, is_best_row}
 use Rattle.tune_cert.specs.Shares.{IsValidInShare}
-use Rattle.tune_cert.specs.Verdict.{verdict_by, verdict_on_read, IsVerdictOf, HasRowCount, IsBestRow, IsWrongRow, IsRejected, IsCheckedBefore, IsFirstRow, IsFirst, IsRightVerdict}
+use Rattle.tune_cert.specs.Verdict.{IsVerdictOf, HasRowCount, IsBestRow, IsWrongRow, IsRejected, IsCheckedBefore, IsFirstRow, IsFirst, IsRightVerdict}
 use Rattle.tune_cert.specs.declared.verdict.Reason.{Reason}
 use Rattle.tune_cert.specs.declared.verdict.Reason.TheVariants.{Malformed, RowCount, BestRow, WrongPoints, RepeatedFight, CapTooHigh, NotSame, NotRefused, Version}
 use Rattle.tune_cert.specs.declared.verdict.Verdict.{Verdict}
@@ -23,7 +24,8 @@ use Rattle.tune_cert.specs.declared.verdict.Verdict.TheVariants.{Accepted, Rejec
 use Rattle.tune_cert.proofs.Statements.{one_spelled, none_malformed, cert_read, cert_spelled, cert_malformed}
 use Rattle.tune_cert.proofs.RightRows.{IsOfRow, row_some}
 use Rattle.tune_cert.proofs.FirstWrong.{IsFound, none_each, found, two_walks_some, reason_here, wrong_row, Chain, at_version, at_count, at_best, at_rows, chain_some}
-use Rattle.tune_cert.proofs.ValidShares.{version_right, right_version, count_right, right_count, best_right, right_best, valid_if_none, none_if_valid, valid_in_shares, valid_of_shares, valid_if_whole}
+use Rattle.tune_cert.proofs.PlainChecks.{verdict_by, verdict_on_read, one_judged, verdict_is, is_verdict}
+use Rattle.tune_cert.proofs.ValidShares.{first_failure, version_right, right_version, count_right, right_count, best_right, right_best, valid_if_none, none_if_valid, valid_in_shares, valid_of_shares, valid_if_whole}
 
 -- ---- the first wrong row
 
@@ -53,19 +55,19 @@ module _ (p : Problem) (c : Cert) (rows_are : length c.rows ≡ p.count) where
       reason_here check c.rows u r None at (none_each (reason_at check c.rows) (part_end whole p.count - part_first whole p.count) (part_first whole p.count) e u (low u) (inside u r at))
 
   -- the row that a check of refused and cap rows finds
-  alone_is : (v : ℕ) (row : Row) (reason : Reason) → alone_reason p c None v row ≡ Some reason → (refers row ≡ false) × (row_reason p c None v row ≡ Some reason)
+  alone_is : (v : ℕ) (row : Row) (reason : Reason) → alone_reason p (stated c) None v row ≡ Some reason → (refers row ≡ false) × (row_reason p (stated c) None v row ≡ Some reason)
   alone_is v Refused reason e = (refl, e)
   alone_is v (Same u) reason e = absurd (cc)
   alone_is v (Cap row) reason e = (refl, e)
 
-  same_is : (v : ℕ) (row : Row) (reason : Reason) → same_reason p c None v row ≡ Some reason → (refers row ≡ true) × (row_reason p c None v row ≡ Some reason)
+  same_is : (v : ℕ) (row : Row) (reason : Reason) → same_reason p (stated c) None v row ≡ Some reason → (refers row ≡ true) × (row_reason p (stated c) None v row ≡ Some reason)
   same_is v Refused reason e = absurd (cc)
   same_is v (Same u) reason e = (refl, e)
   same_is v (Cap row) reason e = absurd (cc)
 
   -- what is checked before a refused or a cap row
-  before_alone : (v : ℕ) (row : Row) → refers row ≡ false → ((u : ℕ) (r : Row) → u < v → slice_get c.rows u ≡ Some r → alone_reason p c None u r ≡ None)
-      → (u : ℕ) (r : Row) → slice_get c.rows u ≡ Some r → IsCheckedBefore u r v row → row_reason p c None u r ≡ None
+  before_alone : (v : ℕ) (row : Row) → refers row ≡ false → ((u : ℕ) (r : Row) → u < v → slice_get c.rows u ≡ Some r → alone_reason p (stated c) None u r ≡ None)
+      → (u : ℕ) (r : Row) → slice_get c.rows u ≡ Some r → IsCheckedBefore u r v row → row_reason p (stated c) None u r ≡ None
   before_alone v Refused f h u Refused at l = h u Refused l at
   before_alone v Refused f h u (Same s) at l = absurd l
   before_alone v Refused f h u (Cap r) at l = h u (Cap r) l at
@@ -75,28 +77,28 @@ module _ (p : Problem) (c : Cert) (rows_are : length c.rows ≡ p.count) where
   before_alone v (Cap row) f h u (Cap r) at l = h u (Cap r) l at
 
   -- what is checked before a row that refers to another setting
-  before_same : (v : ℕ) (row : Row) → refers row ≡ true → ((u : ℕ) (r : Row) → slice_get c.rows u ≡ Some r → alone_reason p c None u r ≡ None)
-      → ((u : ℕ) (r : Row) → u < v → slice_get c.rows u ≡ Some r → same_reason p c None u r ≡ None)
-      → (u : ℕ) (r : Row) → slice_get c.rows u ≡ Some r → IsCheckedBefore u r v row → row_reason p c None u r ≡ None
+  before_same : (v : ℕ) (row : Row) → refers row ≡ true → ((u : ℕ) (r : Row) → slice_get c.rows u ≡ Some r → alone_reason p (stated c) None u r ≡ None)
+      → ((u : ℕ) (r : Row) → u < v → slice_get c.rows u ≡ Some r → same_reason p (stated c) None u r ≡ None)
+      → (u : ℕ) (r : Row) → slice_get c.rows u ≡ Some r → IsCheckedBefore u r v row → row_reason p (stated c) None u r ≡ None
   before_same v Refused f a h u r at l = absurd (cc)
   before_same v (Cap row) f a h u r at l = absurd (cc)
   before_same v (Same t) f a h u Refused at l = a u Refused at
   before_same v (Same t) f a h u (Same s) at l = h u (Same s) l at
   before_same v (Same t) f a h u (Cap r) at l = a u (Cap r) at
 
-  row_found : (index : ℕ) (reason : Reason) → rows_failure p c None (share_settings whole p.count) ≡ Some (index, reason) → IsWrongRow p c index reason × IsFirstRow p c index
+  row_found : (index : ℕ) (reason : Reason) → rows_failure p (stated c) None (share_settings whole p.count) ≡ Some (index, reason) → IsWrongRow p c index reason × IsFirstRow p c index
   row_found index reason e = elim (two_walks_some _ _ _ e) [
     | inl alone ↦
-        let i = by_walk (alone_reason p c None) index reason (found (reason_at (alone_reason p c None) c.rows) _ _ index reason alone) in
+        let i = by_walk (alone_reason p (stated c) None) index reason (found (reason_at (alone_reason p (stated c) None) c.rows) _ _ index reason alone) in
         let is = alone_is i.0 i.1 reason i.4 in (
           record { vector = i.0; index_is = i.2; row = i.1; here = i.3; wrong = is.1 },
           record { vector = i.0; index_is = i.2; row = i.1; here = i.3; before = before_alone i.0 i.1 is.0 i.5 },
         )
     | inr same ↦
-        let i = by_walk (same_reason p c None) index reason (found (reason_at (same_reason p c None) c.rows) _ _ index reason same.1) in
+        let i = by_walk (same_reason p (stated c) None) index reason (found (reason_at (same_reason p (stated c) None) c.rows) _ _ index reason same.1) in
         let is = same_is i.0 i.1 reason i.4 in (
           record { vector = i.0; index_is = i.2; row = i.1; here = i.3; wrong = is.1 },
-          record { vector = i.0; index_is = i.2; row = i.1; here = i.3; before = before_same i.0 i.1 is.0 (alone_all (alone_reason p c None) same.0) i.5 },
+          record { vector = i.0; index_is = i.2; row = i.1; here = i.3; before = before_same i.0 i.1 is.0 (alone_all (alone_reason p (stated c) None) same.0) i.5 },
         )
   ]
 
@@ -130,19 +132,19 @@ fails_not b h e x = let t = h x in let both : true ≡ false = sym t ∙ e in ab
 
 module _ (p : Problem) (laws : IsProblem p) (records : List Fields) (c : Cert) (s : Spells records c) where
   says : (index : ℕ) (reason : Reason)
-      → Chain (is_version_of p c.version) (has_row_count p c) (is_best_row p c.total (slice_get c.rows c.best)) (rows_failure p c None (share_settings whole p.count)) index reason
+      → Chain (is_version_of p c.version) (has_row_count p (stated c)) (is_best_row p c.total (slice_get c.rows c.best)) (rows_failure p (stated c) None (share_settings whole p.count)) index reason
       → IsRejected p c index reason × IsFirst p records (Rejected index reason)
   says index reason (at_version f n r) =
       rw r (((n, λ (h : IsVersionOf p c.version). fails_not (is_version_of p c.version) (right_version p c.version) f h), (c, s, tt)))
   says index reason (at_count v f n r) =
-      rw r (((n, λ (h : HasRowCount p c). fails_not (has_row_count p c) (right_count p c) f h), (c, s, version_right p c.version v)))
+      rw r (((n, λ (h : HasRowCount p c). fails_not (has_row_count p (stated c)) (right_count p (stated c)) f h), (c, s, version_right p c.version v)))
   says index reason (at_best v k f n r) =
-      rw r (((n, λ (h : IsBestRow p c). fails_not (is_best_row p c.total (slice_get c.rows c.best)) (right_best p c) f h), (c, s, (version_right p c.version v, count_right p c k))))
+      rw r (((n, λ (h : IsBestRow p c). fails_not (is_best_row p c.total (slice_get c.rows c.best)) (right_best p c) f h), (c, s, (version_right p c.version v, count_right p (stated c) k))))
   says index reason (at_rows v k b e) =
-      let many = count_right p c k in
+      let many = count_right p (stated c) k in
       let i = row_found p c many.1 index reason e in
       let w = i.0 in
-      let o = row_some p c None w.vector w.row reason w.wrong in
+      let o = row_some p (stated c) None w.vector w.row reason w.wrong in
       (rejected_row p c index reason o w, first_row p records c index reason o s (version_right p c.version v, many, best_right p c b, i.1))
 
   -- a certificate with a failure is not valid
@@ -186,7 +188,7 @@ by_read p records (Err index) laws e =
     }
 
 pub right_verdict : (p : Problem) (records : List Fields) (v : Verdict) → IsProblem p → IsVerdictOf p whole records v → IsRightVerdict p records v
-right_verdict p records v laws is = subst (λ (x : Verdict). IsRightVerdict p records x) (sym is) (by_read p records (cert_of_records records) laws refl)
+right_verdict p records v laws is = subst (λ (x : Verdict). IsRightVerdict p records x) (sym (verdict_is p whole records v is)) (by_read p records (cert_of_records records) laws refl)
 
 -- ---- a share that accepts
 
@@ -200,7 +202,7 @@ apart best total index reason e = cc
 -- what a share accepts is a certificate that is valid in it
 pub share_accepts : (p : Problem) (share : Part) (records : List Fields) (best total : ℕ) → IsVerdictOf p share records (Accepted best total)
     → (c : Cert) × Spells records c × IsValidInShare p share c × (best ≡ c.best) × (total ≡ c.total)
-share_accepts p share records best total is = by (cert_of_records records) refl is
+share_accepts p share records best total is = by (cert_of_records records) refl (verdict_is p share records (Accepted best total) is)
   where
     by : (r : Result Cert ℕ) → cert_of_records records ≡ r → Accepted best total ≡ verdict_on_read p share r
         → (c : Cert) × Spells records c × IsValidInShare p share c × (best ≡ c.best) × (total ≡ c.total)
@@ -211,12 +213,17 @@ share_accepts p share records best total is = by (cert_of_records records) refl 
 
 -- the verdict of a share on a valid certificate
 pub valid_verdict : (p : Problem) → IsProblem p → (share : Part) (records : List Fields) (c : Cert) → Spells records c → IsValid p c → IsVerdictOf p share records (Accepted c.best c.total)
-valid_verdict p laws share records c s valid = sym (ap (verdict_on_read p share) (cert_read records c s) ∙ ap (verdict_by c) (none_if_valid p share c (valid_in_shares p c laws valid share)))
+valid_verdict p laws share records c s valid =
+    is_verdict p share records (Accepted c.best c.total) (sym (ap (verdict_on_read p share) (cert_read records c s) ∙ ap (verdict_by c) (none_if_valid p share c (valid_in_shares p c laws valid share))))
+
+-- records have one verdict
+pub one_verdict : (p : Problem) (share : Part) (records : List Fields) (v w : Verdict) → IsVerdictOf p share records v → IsVerdictOf p share records w → v ≡ w
+one_verdict p share records v w e f = one_judged v w (sym e ∙ f)
 
 -- a valid certificate is accepted in each share
 pub accepted_in_share : (p : Problem) → IsProblem p → (share : Part) (records : List Fields) (v : Verdict) (c : Cert) → Spells records c → IsValid p c → IsVerdictOf p share records v
     → v ≡ Accepted c.best c.total
-accepted_in_share p laws share records v c s valid is = is ∙ sym (valid_verdict p laws share records c s valid)
+accepted_in_share p laws share records v c s valid is = one_verdict p share records v (Accepted c.best c.total) is (valid_verdict p laws share records c s valid)
 
 -- what all shares accept is a valid certificate
 pub shares_accept : (p : Problem) (shares : ℕ) (records : List Fields) → 1 ≤ shares
@@ -234,7 +241,3 @@ shares_accept p shares records some each =
           let same : here.0 ≡ c = one_spelled records here.0 c here.1 own.1 in
           subst (λ (k : Cert). IsValidInShare p (part n shares) k) same here.2),
     )
-
--- records have one verdict
-pub one_verdict : (p : Problem) (share : Part) (records : List Fields) (v w : Verdict) → IsVerdictOf p share records v → IsVerdictOf p share records w → v ≡ w
-one_verdict p share records v w e f = e ∙ sym f

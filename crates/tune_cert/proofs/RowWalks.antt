@@ -6,7 +6,7 @@ use Rattle.std.proofs.lemmas.Option.{slice_get_read}
 use Rattle.tune_problem.specs.Problem.{Problem}
 use Rattle.tune_problem.specs.Valid.{listed_by, listed_in}
 use Rattle.tune_problem.specs.declared.aim.Aim.{Aim}
-use Rattle.tune_problem.specs.declared.cert.Cert.{Cert}
+use Rattle.tune_problem.specs.declared.statement.Statement.{Statement}
 use Rattle.tune_problem.specs.declared.cert.Row.{Row}
 use Rattle.tune_cert.specs.Checks.{refers, same_reason, reason_at, first_wrong, first_of, at_record, listed_fights_of}
 use Rattle.tune_cert.specs.Spelling.{record_of}
@@ -58,8 +58,8 @@ fights_step rows v e row l at =
     ap (sum_by by) (range_step v e l) ∙ (sum_by-cons by v rest ∙ ap (λ n. n + sum_by by rest) here)
 
 -- nothing is to be checked of a row that refers to no other setting
-pub no_reference : (p : Problem) (c : Cert) (aim : Option Aim) (v : ℕ) (row : Row) → refers row ≡ false → None ≡ same_reason p c aim v row
-no_reference p c aim v row e = rw e refl
+pub no_reference : (p : Problem) (s : Statement) (aim : Option Aim) (v : ℕ) (row : Row) → refers row ≡ false → None ≡ same_reason p s aim v row
+no_reference p s aim v row e = rw e refl
 
 -- what was played so far, and what may still be played
 pub played_within : (old all now rest listed more new : ℕ) → old + all < 2 ^ 64 → now + rest ≤ old + all → rest ≡ listed + more → (now + listed < 2 ^ 64 → new ≤ now + listed) → new + more ≤ old + all

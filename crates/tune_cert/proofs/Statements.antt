@@ -12,6 +12,7 @@ use Rattle.tune_problem.specs.declared.cert.Row.{Row}
 use Rattle.tune_problem.specs.declared.statement.Answer.{Answer}
 use Rattle.tune_problem.specs.declared.statement.Answer.TheVariants.{Best as TheBest, NoneFrom}
 use Rattle.tune_problem.specs.declared.statement.Statement.{Statement}
+use Rattle.tune_problem.specs.declared.watcher.Best.{Best}
 use Rattle.tune_cert.specs.CertText.{row_fields, rows_fields, answer_fields, statement_fields, cert_fields, stated}
 use Rattle.tune_cert.specs.Spelling.{IsRow, IsAnswer, IsCert, IsStatement, Spells, HasForm, IsMalformed, IsFirstMalformed, count_of, answer_of, row_of, record_of, rows_from, statement_of, cert_by, cert_of_records}
 use Rattle.tune_cert.proofs.Forms.{count_spelled, count_read, best_spelled, answer_spelled, only_best, best_read, none_read, row_spelled, row_read}
@@ -145,10 +146,17 @@ cert_read records c s = rw (s.text, statement_read false (stated c) s.cert tt) r
 abbrev with_answer : Statement → Answer → Statement
 with_answer s a = record { version = s.version; count = s.count; answer = a; rows = s.rows }
 
-by_answer : (s : Statement) (a : Answer) (c : Cert) → s.answer ≡ a → cert_by s a ≡ Ok c → s ≡ stated c
+pub by_answer : (s : Statement) (a : Answer) (c : Cert) → s.answer ≡ a → cert_by s a ≡ Ok c → s ≡ stated c
 by_answer s (TheBest best) c is e =
     subst (λ (d : Cert). s ≡ stated d) (same_Ok _ c e) (ap (λ (x : Answer). with_answer s x) is)
 by_answer s (NoneFrom floor) c is e = absurd (cc)
+
+-- what is read without floors names a best setting
+pub names_best : (records : List Fields) (s : Statement) → statement_of false records ≡ Ok s → (best : Best) × (s.answer ≡ TheBest best)
+names_best records s e =
+    let p = parts false records s e in
+    let b = best_spelled p.second s.answer (only_best p.second s.answer p.answer) in
+    (record { vector = b.0; total = b.1 }, b.4)
 
 -- records spell at most one certificate
 pub one_spelled : (records : List Fields) (c d : Cert) → Spells records c → Spells records d → c ≡ d
@@ -309,9 +317,8 @@ cert_malformed records n e = elim (stopped (statement_of false records) (λ (s :
   | inl at ↦ statement_malformed records n at
   | inr on ↦
       let none = no_best_answer on.0 on.0.answer n on.2 in
-      let p = parts false records on.0 on.1 in
-      let b = best_spelled p.second on.0.answer (only_best p.second on.0.answer p.answer) in
-      absurd (let is = none.1 in let best = b.4 in cc (is, best))
+      let named = names_best records on.0 on.1 in
+      absurd (let is = none.1 in let best = named.1 in cc (is, best))
 ]
 
 -- there is one first malformed record

@@ -12,20 +12,21 @@ use Rattle.tune_problem.specs.Optimum.{beats, all_fights}
 use Rattle.tune_problem.specs.Valid.{listed_total, IsVersionOf, IsOwnVersion, IsCapRow, IsRightRow, IsValid}
 use Rattle.tune_problem.specs.declared.aim.Aim.{Aim}
 use Rattle.tune_problem.specs.declared.cert.Cert.{Cert}
+use Rattle.tune_problem.specs.declared.statement.Statement.{Statement}
 use Rattle.tune_problem.specs.declared.cert.Row.{Row}
 use Rattle.tune_problem.specs.declared.cert.Row.TheVariants.{Refused, Same, Cap}
 use Rattle.tune_problem.specs.declared.part.Part.{Part}
 use Rattle.tune_problem.proofs.CapRows.{whole as whole_row}
 use Rattle.tune_problem.proofs.Certificates.{some_is, same_number}
 use Rattle.tune_problem.proofs.WholeOfParts.{in_a_part}
-use Rattle.tune_cert.specs.Checks.{alone_reason, same_reason, row_reason, reason_at, rows_failure, share_settings, failure_by, first_failure, first_wrong, first_of, is_version_of, has_row_count, is_best_row}
+use Rattle.tune_cert.specs.Checks.{alone_reason, same_reason, row_reason, reason_at, rows_failure, share_settings, failure_by, first_wrong, first_of, is_version_of, has_row_count, is_best_row}
+use Rattle.tune_cert.specs.CertText.{stated}
 use Rattle.tune_cert.specs.Shares.{IsRightInShare, IsValidInShare}
-use Rattle.tune_cert.specs.Verdict.{verdict_by, verdict_on, HasRowCount, IsBestRow}
+use Rattle.tune_cert.specs.Verdict.{IsBestRow}
 use Rattle.tune_cert.specs.declared.verdict.Reason.{Reason}
-use Rattle.tune_cert.specs.declared.verdict.Verdict.TheVariants.{Accepted}
 use Rattle.tune_problem.proofs.ListedRanks.{listed_is_cap}
 use Rattle.tune_cert.proofs.RowChecks.{cap_row_rises, cap_row_points, points_fights, all_indices, indices_all, all_listed}
-use Rattle.tune_cert.proofs.RightRows.{right_if_none, none_if_right, no_aim}
+use Rattle.tune_cert.proofs.RightRows.{IsRightFor, not_false, right_if_none, none_if_right, no_aim}
 use Rattle.tune_cert.proofs.FirstWrong.{none_each, each_none, two_walks_none, reason_here, here_reason, chain, chain_none, all_each, each_all}
 use Rattle.std.proofs.Common.{inl, inr}
 
@@ -48,11 +49,15 @@ right_version p version h = elim (same_number version 1) [
   | inr other ↦ or_left _ _ (ap not (ne_eqb version 1 other))
 ]
 
-pub count_right : (p : Problem) (c : Cert) → has_row_count p c ≡ true → HasRowCount p c
-count_right p c e = let parts = and_parts _ _ e in (eqb-true c.count p.count parts.0, eqb-true (length c.rows) p.count parts.1)
+-- there is a row for each setting, and this count is claimed
+abbrev pub HasCount : Problem → Statement → Type 0
+HasCount p s = (s.count ≡ p.count) × (length s.rows ≡ p.count)
 
-pub right_count : (p : Problem) (c : Cert) → HasRowCount p c → has_row_count p c ≡ true
-right_count p c h = and_from _ _ (eq-eqb c.count p.count h.0) (eq-eqb (length c.rows) p.count h.1)
+pub count_right : (p : Problem) (s : Statement) → has_row_count p s ≡ true → HasCount p s
+count_right p s e = let parts = and_parts _ _ e in (eqb-true s.count p.count parts.0, eqb-true (length s.rows) p.count parts.1)
+
+pub right_count : (p : Problem) (s : Statement) → HasCount p s → has_row_count p s ≡ true
+right_count p s h = and_from _ _ (eq-eqb s.count p.count h.0) (eq-eqb (length s.rows) p.count h.1)
 
 best_row_at : (p : Problem) (c : Cert) (o : Option Row) → slice_get c.rows c.best ≡ o → is_best_row p c.total o ≡ true → IsBestRow p c
 best_row_at p c None at e = absurd (cc)
@@ -69,72 +74,89 @@ pub right_best : (p : Problem) (c : Cert) → IsBestRow p c → is_best_row p c.
 right_best p c h =
     ap (is_best_row p c.total) h.here ∙ and_from _ _ (indices_all p h.row h.every) (eq-eqb (listed_total p h.row) c.total h.sums)
 
+-- ---- a row that is right in a share
+
+module _ (p : Problem) (c : Cert) where
+  pub right_in_share : (v : ℕ) (row : Row) → IsRightFor p (stated c) v row → IsRightInShare p c v row
+  right_in_share v Refused h = h
+  right_in_share v (Cap row) (w, is, is_row, low) = (w, is, is_row, λ other. not_false _ (low (ne_eqb v c.best other)))
+  right_in_share v (Same u) (w, row, other, l, own, theirs, at, (up, there, low)) = (w, row, other, l, own, theirs, at, (up, there, not_false _ low))
+
+  pub in_share_right : (v : ℕ) (row : Row) → IsRightInShare p c v row → IsRightFor p (stated c) v row
+  in_share_right v Refused h = h
+  in_share_right v (Cap row) (w, is, is_row, low) = (w, is, is_row, λ other. ap not (low (λ same. let named = eq-eqb v c.best same in let both : true ≡ false = sym named ∙ other in cc)))
+  in_share_right v (Same u) (w, row, other, l, own, theirs, at, (up, there, low)) = (w, row, other, l, own, theirs, at, (up, there, ap not low))
+
 -- ---- a row by its two checks
 
-split_row : (p : Problem) (c : Cert) (aim : Option Aim) (v : ℕ) (row : Row) → alone_reason p c aim v row ≡ None → same_reason p c aim v row ≡ None → row_reason p c aim v row ≡ None
-split_row p c aim v Refused a s = a
-split_row p c aim v (Same u) a s = s
-split_row p c aim v (Cap row) a s = a
+split_row : (p : Problem) (s : Statement) (aim : Option Aim) (v : ℕ) (row : Row) → alone_reason p s aim v row ≡ None → same_reason p s aim v row ≡ None → row_reason p s aim v row ≡ None
+split_row p s aim v Refused alone same = alone
+split_row p s aim v (Same u) alone same = same
+split_row p s aim v (Cap row) alone same = alone
 
-alone_none : (p : Problem) (c : Cert) (aim : Option Aim) (v : ℕ) (row : Row) → row_reason p c aim v row ≡ None → alone_reason p c aim v row ≡ None
-alone_none p c aim v Refused e = e
-alone_none p c aim v (Same u) e = refl
-alone_none p c aim v (Cap row) e = e
+alone_none : (p : Problem) (s : Statement) (aim : Option Aim) (v : ℕ) (row : Row) → row_reason p s aim v row ≡ None → alone_reason p s aim v row ≡ None
+alone_none p s aim v Refused e = e
+alone_none p s aim v (Same u) e = refl
+alone_none p s aim v (Cap row) e = e
 
-same_none : (p : Problem) (c : Cert) (aim : Option Aim) (v : ℕ) (row : Row) → row_reason p c aim v row ≡ None → same_reason p c aim v row ≡ None
-same_none p c aim v Refused e = refl
-same_none p c aim v (Same u) e = e
-same_none p c aim v (Cap row) e = refl
+same_none : (p : Problem) (s : Statement) (aim : Option Aim) (v : ℕ) (row : Row) → row_reason p s aim v row ≡ None → same_reason p s aim v row ≡ None
+same_none p s aim v Refused e = refl
+same_none p s aim v (Same u) e = e
+same_none p s aim v (Cap row) e = refl
 
 -- ---- what a share accepts is valid in it
 
 -- the first failure by the four checks
-pub chain_by : (p : Problem) (share : Part) (c : Cert) (answered : Bool) (aim : Option Aim) (a b d : Bool) (o : Option (ℕ × Reason)) → is_version_of p c.version ≡ a → has_row_count p c ≡ b
-    → answered ≡ d → rows_failure p c aim (share_settings share p.count) ≡ o → failure_by p share answered aim c ≡ chain a b d o
+pub chain_by : (p : Problem) (share : Part) (s : Statement) (answered : Bool) (aim : Option Aim) (a b d : Bool) (o : Option (ℕ × Reason)) → is_version_of p s.version ≡ a → has_row_count p s ≡ b
+    → answered ≡ d → rows_failure p s aim (share_settings share p.count) ≡ o → failure_by p share answered aim s ≡ chain a b d o
 unfolding failure_by
-chain_by p share c answered aim a b d o e f g h =
-    let rows = rows_failure p c aim (share_settings share p.count) in
-    ap (λ x. chain x (has_row_count p c) answered rows) e ∙ (ap (λ x. chain a x answered rows) f ∙ (ap (λ x. chain a b x rows) g ∙ ap (chain a b d) h))
+chain_by p share s answered aim a b d o e f g h =
+    let rows = rows_failure p s aim (share_settings share p.count) in
+    ap (λ x. chain x (has_row_count p s) answered rows) e ∙ (ap (λ x. chain a x answered rows) f ∙ (ap (λ x. chain a b x rows) g ∙ ap (chain a b d) h))
 
 -- nothing is wrong with the rows of a share exactly if nothing is with each
-module _ (p : Problem) (share : Part) (c : Cert) (aim : Option Aim) where
+module _ (p : Problem) (share : Part) (s : Statement) (aim : Option Aim) where
   abbrev pub RowsRight : Type 0
-  RowsRight = (v : ℕ) (row : Row) → part_first share p.count ≤ v → v < part_end share p.count → slice_get c.rows v ≡ Some row → row_reason p c aim v row ≡ None
+  RowsRight = (v : ℕ) (row : Row) → part_first share p.count ≤ v → v < part_end share p.count → slice_get s.rows v ≡ Some row → row_reason p s aim v row ≡ None
 
-  pub rows_each : rows_failure p c aim (share_settings share p.count) ≡ None → RowsRight
+  pub rows_each : rows_failure p s aim (share_settings share p.count) ≡ None → RowsRight
   rows_each e v row low high at =
       let inside : v < part_first share p.count + (part_end share p.count - part_first share p.count) = omega (arith, low, high) in
       let parts = two_walks_none _ _ e in
-      let alone = none_each (reason_at (alone_reason p c aim) c.rows) (part_end share p.count - part_first share p.count) (part_first share p.count) parts.0 v low inside in
-      let same = none_each (reason_at (same_reason p c aim) c.rows) (part_end share p.count - part_first share p.count) (part_first share p.count) parts.1 v low inside in
-      split_row p c aim v row (reason_here (alone_reason p c aim) c.rows v row None at alone) (reason_here (same_reason p c aim) c.rows v row None at same)
+      let alone = none_each (reason_at (alone_reason p s aim) s.rows) (part_end share p.count - part_first share p.count) (part_first share p.count) parts.0 v low inside in
+      let same = none_each (reason_at (same_reason p s aim) s.rows) (part_end share p.count - part_first share p.count) (part_first share p.count) parts.1 v low inside in
+      split_row p s aim v row (reason_here (alone_reason p s aim) s.rows v row None at alone) (reason_here (same_reason p s aim) s.rows v row None at same)
 
-  pub each_rows : RowsRight → rows_failure p c aim (share_settings share p.count) ≡ None
+  pub each_rows : RowsRight → rows_failure p s aim (share_settings share p.count) ≡ None
   each_rows right =
       let first = part_first share p.count in
-      let each : (v : ℕ) (row : Row) → first ≤ v → v < first + (part_end share p.count - first) → slice_get c.rows v ≡ Some row → row_reason p c aim v row ≡ None =
+      let each : (v : ℕ) (row : Row) → first ≤ v → v < first + (part_end share p.count - first) → slice_get s.rows v ≡ Some row → row_reason p s aim v row ≡ None =
       λ v row low high at. right v row low (omega (arith, low, high)) at in
-      let alone = each_none (reason_at (alone_reason p c aim) c.rows) (part_end share p.count - first) first
-      (λ v low high. here_reason (alone_reason p c aim) c.rows v None (λ row at. alone_none p c aim v row (each v row low high at)) refl) in
-      let same = each_none (reason_at (same_reason p c aim) c.rows) (part_end share p.count - first) first
-      (λ v low high. here_reason (same_reason p c aim) c.rows v None (λ row at. same_none p c aim v row (each v row low high at)) refl) in
-      ap (λ o. first_of (o ∷ first_wrong (reason_at (same_reason p c aim) c.rows) (share_settings share p.count) ∷ [])) alone ∙ ap (λ o. first_of (None ∷ o ∷ [])) same
+      let alone = each_none (reason_at (alone_reason p s aim) s.rows) (part_end share p.count - first) first
+      (λ v low high. here_reason (alone_reason p s aim) s.rows v None (λ row at. alone_none p s aim v row (each v row low high at)) refl) in
+      let same = each_none (reason_at (same_reason p s aim) s.rows) (part_end share p.count - first) first
+      (λ v low high. here_reason (same_reason p s aim) s.rows v None (λ row at. same_none p s aim v row (each v row low high at)) refl) in
+      ap (λ o. first_of (o ∷ first_wrong (reason_at (same_reason p s aim) s.rows) (share_settings share p.count) ∷ [])) alone ∙ ap (λ o. first_of (None ∷ o ∷ [])) same
 
   -- nothing is wrong exactly if each of the four checks finds nothing
-  pub four_checks : (answered : Bool) → failure_by p share answered aim c ≡ None → IsVersionOf p c.version × HasRowCount p c × (answered ≡ true) × RowsRight
+  pub four_checks : (answered : Bool) → failure_by p share answered aim s ≡ None → IsVersionOf p s.version × HasCount p s × (answered ≡ true) × RowsRight
   unfolding failure_by
   four_checks answered e =
       let checks = chain_none _ _ _ _ e in
-      (version_right p c.version checks.0, count_right p c checks.1, checks.2, rows_each checks.3)
+      (version_right p s.version checks.0, count_right p s checks.1, checks.2, rows_each checks.3)
 
-  pub checks_four : (answered : Bool) → IsVersionOf p c.version → HasRowCount p c → answered ≡ true → RowsRight → failure_by p share answered aim c ≡ None
+  pub checks_four : (answered : Bool) → IsVersionOf p s.version → HasCount p s → answered ≡ true → RowsRight → failure_by p share answered aim s ≡ None
   checks_four answered version count answer right =
-      chain_by p share c answered aim true true true None (right_version p c.version version) (right_count p c count) answer (each_rows right)
+      chain_by p share s answered aim true true true None (right_version p s.version version) (right_count p s count) answer (each_rows right)
+
+-- the first failure of a certificate without a demand
+abbrev pub first_failure : Problem → Part → Cert → Option (ℕ × Reason)
+first_failure p share c = failure_by p share (is_best_row p c.total (slice_get c.rows c.best)) None (stated c)
 
 module _ (p : Problem) (share : Part) (c : Cert) where
   pub valid_if_none : first_failure p share c ≡ None → IsValidInShare p share c
   valid_if_none e =
-      let checks = four_checks p share c None (is_best_row p c.total (slice_get c.rows c.best)) e in
+      let checks = four_checks p share (stated c) None (is_best_row p c.total (slice_get c.rows c.best)) e in
       let best = best_right p c checks.2 in
       record {
         version_is = checks.0;
@@ -144,14 +166,14 @@ module _ (p : Problem) (share : Part) (c : Cert) where
         best_at = best.here;
         every = best.every;
         sums = best.sums;
-        right = λ v row low high at. right_if_none p c None checks.1.1 v row (checks.3 v row low high at);
+        right = λ v row low high at. right_in_share p c v row (right_if_none p (stated c) None checks.1.1 v row (checks.3 v row low high at));
       }
 
   pub none_if_valid : IsValidInShare p share c → first_failure p share c ≡ None
   none_if_valid valid =
-      checks_four p share c None (is_best_row p c.total (slice_get c.rows c.best)) valid.version_is (valid.count_is, valid.rows_are)
+      checks_four p share (stated c) None (is_best_row p c.total (slice_get c.rows c.best)) valid.version_is (valid.count_is, valid.rows_are)
       (right_best p c (record { row = valid.best_row; here = valid.best_at; every = valid.every; sums = valid.sums }))
-      (λ v row low high at. none_if_right p c None v row (valid.right v row low high at) (no_aim p c.rows v row))
+      (λ v row low high at. none_if_right p (stated c) None v row (in_share_right p c v row (valid.right v row low high at)) (no_aim p c.rows v row))
 
 -- ---- all shares together
 
@@ -234,17 +256,7 @@ module _ (p : Problem) (c : Cert) where
   pub valid_if_whole : IsValidInShare p whole c → IsValid p c
   valid_if_whole valid = valid_of_shares 1 (omega arith) (λ n low high. let one : n ≡ 1 = omega (arith, low, high) in subst (λ (k : ℕ). IsValidInShare p (part k 1) c) (sym one) valid)
 
--- ---- what a share says
-
-none_if_accepted : (c : Cert) (o : Option (ℕ × Reason)) → verdict_by c o ≡ Accepted c.best c.total → o ≡ None
-none_if_accepted c None e = refl
-none_if_accepted c (Some x) e = absurd (cc)
-
-pub accepts_valid : (p : Problem) (share : Part) (c : Cert) → verdict_on p share c ≡ Accepted c.best c.total → IsValidInShare p share c
-accepts_valid p share c e = valid_if_none p share c (none_if_accepted c (first_failure p share c) e)
-
-pub valid_accepts : (p : Problem) (share : Part) (c : Cert) → IsValidInShare p share c → verdict_on p share c ≡ Accepted c.best c.total
-valid_accepts p share c valid = ap (verdict_by c) (none_if_valid p share c valid)
+-- ---- the version
 
 -- whether the version is one for the schedule, by the version that a search would write
 pub own_version : (p : Problem) (own : ℕ) → IsOwnVersion p own → (own == 1) ≡ list_all (λ k. p.weight k == 1) (all_fights p)

@@ -12,10 +12,12 @@ use Rattle.tune_problem.specs.Valid.{listed_total, listed_by}
 use Rattle.tune_problem.specs.Ranking.{contends}
 use Rattle.tune_problem.specs.Exact.{lists_all, listed_cap, listed_ranking}
 use Rattle.tune_problem.specs.declared.aim.Aim.{Aim}
-use Rattle.tune_problem.specs.declared.cert.Cert.{Cert}
 use Rattle.tune_problem.specs.declared.cert.Row.{Row}
 use Rattle.tune_problem.specs.declared.cert.Row.TheVariants.{Refused, Same, Cap}
 use Rattle.tune_problem.specs.declared.part.Part.{Part}
+use Rattle.tune_problem.specs.declared.statement.Answer.{Answer}
+use Rattle.tune_problem.specs.declared.statement.Answer.TheVariants.{Best as TheBest, NoneFrom}
+use Rattle.tune_problem.specs.declared.statement.Statement.{Statement}
 use Rattle.tune_cert.specs.Spelling.{record_of}
 use Rattle.tune_cert.specs.declared.verdict.Reason.{Reason}
 use Rattle.tune_cert.specs.declared.verdict.Reason.TheVariants.{RowCount, BestRow, WrongPoints, RepeatedFight, CapTooHigh, NotSame, NotRefused, Version}
@@ -57,9 +59,16 @@ abbrev pub has_points : Problem → Option WarriorView → List (ℕ × ℕ) →
 has_points p None listed = false
 has_points p (Some w) listed = have_points p w listed
 
--- The cap of a listing, as one of setting v, does not beat the best setting.
-abbrev pub is_no_better : Problem → Cert → (v : ℕ) → (listed : List (ℕ × ℕ)) → Bool
-is_no_better p c v listed = not (beats (listed_cap p listed) v c.total c.best)
+-- Setting v is the best one, by this answer.
+abbrev pub names : Answer → (v : ℕ) → Bool
+names (TheBest best) v = v == best.vector
+names (NoneFrom floor) v = false
+
+-- A cap of setting v does not beat the best setting, or is below the floor that no setting is said
+-- to reach.
+abbrev pub stays_below : Answer → (cap v : ℕ) → Bool
+stays_below (TheBest best) cap v = not (beats cap v best.total best.vector)
+stays_below (NoneFrom floor) cap v = nat_lt cap floor
 
 -- A listing, as one of setting v, has every fight, or its cap does not contend with the ranking
 -- that the rows list. Without an aim every listing is exact.
@@ -79,15 +88,15 @@ share_warrior None other = false
 share_warrior (Some w) None = false
 share_warrior (Some w) (Some x) = (w.start == x.start) && same_code w.code x.code
 
--- What is wrong with rows of certificate c, against problem p. With an aim they have to be exact.
-module _ (p : Problem) (c : Cert) (aim : Option Aim) where
+-- What is wrong with rows of statement s, against problem p. With an aim they have to be exact.
+module _ (p : Problem) (s : Statement) (aim : Option Aim) where
   -- What is wrong with the cap row of setting v.
   unfoldable pub cap_reason : (v : ℕ) → (listed : List (ℕ × ℕ)) → Option Reason
   cap_reason v listed =
       first_of (
       unless (rises 0 listed) RepeatedFight
       ∷ unless (has_points p (p.warrior v) listed) WrongPoints
-      ∷ unless (((v == c.best) || is_no_better p c v listed) && is_exact p aim c.rows v listed) CapTooHigh
+      ∷ unless ((names s.answer v || stays_below s.answer (listed_cap p listed) v) && is_exact p aim s.rows v listed) CapTooHigh
       ∷ []
       )
 
@@ -97,7 +106,7 @@ module _ (p : Problem) (c : Cert) (aim : Option Aim) where
   listed_reason v u listed =
       first_of (
       unless (not (u == v) && (share_warrior (p.warrior v) (p.warrior u) && (rises 0 listed && are_fights p listed))) NotSame
-      ∷ unless (is_no_better p c v listed && is_exact p aim c.rows v listed) CapTooHigh
+      ∷ unless (stays_below s.answer (listed_cap p listed) v && is_exact p aim s.rows v listed) CapTooHigh
       ∷ []
       )
 
@@ -111,7 +120,7 @@ module _ (p : Problem) (c : Cert) (aim : Option Aim) where
   -- What is wrong with the row of setting v: the first reason that applies.
   abbrev pub row_reason : (v : ℕ) → Row → Option Reason
   row_reason v Refused = unless (is_none (p.warrior v)) NotRefused
-  row_reason v (Same u) = reference_reason v u (slice_get c.rows u)
+  row_reason v (Same u) = reference_reason v u (slice_get s.rows u)
   row_reason v (Cap listed) = cap_reason v listed
 
   -- What is wrong with the row of v if it refers to no other setting; None if it refers to one.
@@ -145,16 +154,16 @@ abbrev pub first_wrong : (reason : ℕ → Option Reason) → (settings : List �
 first_wrong reason [] = None
 first_wrong reason (v ∷ settings) = first_of (at_record (record_of v) (reason v) ∷ first_wrong reason settings ∷ [])
 
--- The first wrong row of certificate c among some settings, against problem p. With an aim the rows
+-- The first wrong row of statement s among some settings, against problem p. With an aim the rows
 -- have to be exact.
-module _ (p : Problem) (c : Cert) (aim : Option Aim) where
+module _ (p : Problem) (s : Statement) (aim : Option Aim) where
   -- The first wrong row that refers to no other setting.
   abbrev pub wrong_alone : (settings : List ℕ) → Option (ℕ × Reason)
-  wrong_alone settings = first_wrong (reason_at (alone_reason p c aim) c.rows) settings
+  wrong_alone settings = first_wrong (reason_at (alone_reason p s aim) s.rows) settings
 
   -- The first wrong row that refers to another setting.
   abbrev pub wrong_same : (settings : List ℕ) → Option (ℕ × Reason)
-  wrong_same settings = first_wrong (reason_at (same_reason p c aim) c.rows) settings
+  wrong_same settings = first_wrong (reason_at (same_reason p s aim) s.rows) settings
 
   -- The first wrong row: the refused and the cap rows are checked first, in order, and then those
   -- that refer to other settings.
@@ -169,15 +178,15 @@ listed_fights_of rows settings = sum_by (λ v. listed_by (slice_get rows v)) set
 abbrev pub PlaysAtMost : (old new : ArenaView) → (listed : ℕ) → Type 0
 PlaysAtMost old new listed = old.fights + listed < 2 ^ 64 → new.fights ≤ old.fights + listed
 
--- ---- the certificate
+-- ---- the statement
 
 -- Version 1 is for schedules in which every fight counts once.
 abbrev pub is_version_of : Problem → (version : ℕ) → Bool
 is_version_of p version = not (version == 1) || list_all (λ k. p.weight k == 1) (all_fights p)
 
--- The certificate claims the number of settings, and has as many rows.
-abbrev pub has_row_count : Problem → Cert → Bool
-has_row_count p c = (c.count == p.count) && (length c.rows == p.count)
+-- The number of settings is claimed, and there are as many rows.
+abbrev pub has_row_count : Problem → Statement → Bool
+has_row_count p s = (s.count == p.count) && (length s.rows == p.count)
 
 -- The row of the best setting lists every fight in order, and its scores add up to the total.
 abbrev pub is_best_row : Problem → (total : ℕ) → Option Row → Bool
@@ -186,18 +195,14 @@ is_best_row p total (Some Refused) = false
 is_best_row p total (Some (Same u)) = false
 is_best_row p total (Some (Cap listed)) = lists_all p.fights 0 listed && (listed_total p listed == total)
 
--- What is wrong with a certificate, and at which record, as far as a check of a share sees.
--- `answered` says whether the record of the answer is right. With an aim the rows have to be exact.
-unfoldable pub failure_by : Problem → (share : Part) → (answered : Bool) → Option Aim → Cert → Option (ℕ × Reason)
-failure_by p share answered aim c =
+-- What is wrong with a statement, and at which record, as far as a check of a share sees. `answered`
+-- says whether the record of the answer is right. With an aim the rows have to be exact.
+unfoldable pub failure_by : Problem → (share : Part) → (answered : Bool) → Option Aim → Statement → Option (ℕ × Reason)
+failure_by p share answered aim s =
     first_of (
-    at_record 0 (unless (is_version_of p c.version) Version)
-    ∷ at_record 0 (unless (has_row_count p c) RowCount)
+    at_record 0 (unless (is_version_of p s.version) Version)
+    ∷ at_record 0 (unless (has_row_count p s) RowCount)
     ∷ at_record 1 (unless answered BestRow)
-    ∷ rows_failure p c aim (share_settings share p.count)
+    ∷ rows_failure p s aim (share_settings share p.count)
     ∷ []
     )
-
--- `failure_by` without an aim, for a certificate that names a best setting.
-abbrev pub first_failure : Problem → Part → Cert → Option (ℕ × Reason)
-first_failure p share c = failure_by p share (is_best_row p c.total (slice_get c.rows c.best)) None c

@@ -1,6 +1,7 @@
--- Checks with a demand: certificates with either answer, and those that show the first of the
--- ranking.
-use Rattle.std.specs.Prelude.{◌≡◌, ℕ, ◌<◌, ◌≤◌, ◌^◌, Bool, false, ◌==◌, List, [], length, slice_get, Option, Some, None, option_map, Result, Ok, Err}
+-- What a check of a share says of a certificate, by its demand: certificates with either answer, and
+-- those that show the first of the ranking. In names `by` means from a failure, `on` from a
+-- statement, `of` from records.
+use Rattle.std.specs.Prelude.{◌≡◌, ℕ, ◌<◌, ◌^◌, Bool, false, ◌==◌, List, [], length, slice_get, Option, Some, None, option_map, Result, Ok, Err}
 use Rattle.std.specs.List.{AllByRecursion}
 use Rattle.std.specs.Option.{unwrap_or, is_some}
 use Rattle.tables.specs.Records.{Fields}
@@ -9,7 +10,6 @@ use Rattle.tune_problem.specs.Valid.{IsValid}
 use Rattle.tune_problem.specs.Below.{IsValidBelow, cert_with}
 use Rattle.tune_problem.specs.Exact.{listed_ranking, IsExact}
 use Rattle.tune_problem.specs.declared.aim.Aim.{Aim}
-use Rattle.tune_problem.specs.declared.cert.Cert.{Cert}
 use Rattle.tune_problem.specs.declared.cert.Row.{Row}
 use Rattle.tune_problem.specs.declared.part.Part.{Part}
 use Rattle.tune_problem.specs.declared.statement.Answer.{Answer}
@@ -40,17 +40,6 @@ aim_for demand (NoneFrom floor) = None
 
 -- ---- checks
 
--- The best setting that the rows are checked against. If no setting is said to reach the floor, it
--- is the one after the last, with the floor as its total: a cap beats that exactly if it reaches
--- the floor.
-abbrev pub best_against : Problem → Answer → Best
-best_against p (TheBest best) = best
-best_against p (NoneFrom floor) = record { vector = p.count; total = floor }
-
--- The certificate that a statement is checked as.
-abbrev pub as_cert : Problem → Statement → Cert
-as_cert p s = cert_with s.version s.count s.rows (best_against p s.answer)
-
 -- A floor is asked for, and it is `floor`.
 abbrev pub is_floor : (floor : ℕ) → (asked : Option ℕ) → Bool
 is_floor floor None = false
@@ -64,7 +53,7 @@ is_answered p demand rows (NoneFrom floor) = is_floor floor demand.floor
 
 -- What is wrong with a statement, and at which record, as far as a check of a share sees.
 abbrev pub failure_of : Problem → Demand → Part → Statement → Option (ℕ × Reason)
-failure_of p demand share s = failure_by p share (is_answered p demand s.rows s.answer) (aim_for demand s.answer) (as_cert p s)
+failure_of p demand share s = failure_by p share (is_answered p demand s.rows s.answer) (aim_for demand s.answer) s
 
 -- ---- judgements
 
@@ -110,7 +99,7 @@ abbrev pub IsOfSettings : (count : ℕ) → Judgement → Type 0
 IsOfSettings count (Accepted answer ranking) = AreSettings count ranking
 IsOfSettings count (Rejected index reason) = Unit {0}
 
--- A verdict as a judgement.
+-- A verdict as a judgement, which has no ranking.
 abbrev pub judged : Verdict → Judgement
 judged (AcceptedCert best total) = Accepted (TheBest (record { vector = best; total = total })) []
 judged (RejectedCert index reason) = Rejected index reason

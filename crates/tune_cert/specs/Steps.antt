@@ -8,7 +8,7 @@ use Rattle.std.specs.List.{slice_split, sum_by}
 use Rattle.rc_instr.specs.Warrior.{WarriorView}
 use Rattle.tune_problem.specs.Problem.{Problem, problem_of}
 use Rattle.tune_problem.specs.declared.aim.Aim.{Aim}
-use Rattle.tune_problem.specs.declared.cert.Cert.{Cert}
+use Rattle.tune_problem.specs.declared.statement.Statement.{Statement}
 use Rattle.tune_cert.specs.Checks.{share_settings}
 use Rattle.tune_cert.specs.Shares.{share_part}
 use Rattle.tune_cert.specs.declared.claim.Claim.{Claim}
@@ -23,9 +23,9 @@ AreParts byte text first others =
     let parts = slice_split (λ (b : ℕ). b == byte) in
     MatchOption others (parts text ≡ first ∷ []) (λ rest. parts text ≡ first ∷ parts rest.now)
 
--- Applies a rule of `Checks` to the inputs, the certificate and the aim of a claim.
-abbrev pub for_claim : {A : Type 0} → (rule : Problem → Cert → Option Aim → A) → Claim → A
-for_claim rule claim = rule (problem_of claim.inputs.now) claim.cert.now claim.aim
+-- Applies a rule of `Checks` to the inputs, the statement and the aim of a claim.
+abbrev pub for_claim : {A : Type 0} → (rule : Problem → Statement → Option Aim → A) → Claim → A
+for_claim rule claim = rule (problem_of claim.inputs.now) claim.statement.now claim.aim
 
 -- The settings of a share, out of those of a claim.
 abbrev pub claim_settings : Share → Claim → List ℕ

@@ -1,6 +1,5 @@
--- The verdict on bytes, by the records that they spell, and what a verdict on all rows promises.
--- In names `by` means from a failure, `on` from a certificate, `of` from records.
-use Rattle.std.specs.Prelude.{◌≡◌, ◌⊎◌, ℕ, ◌<◌, List, length, slice_get, Option, Some, None, Result, Ok, Err}
+-- The verdict on records, and what a verdict on all rows promises.
+use Rattle.std.specs.Prelude.{◌≡◌, ◌⊎◌, ℕ, ◌<◌, List, length, slice_get, Some, None}
 use Rattle.tables.specs.Records.{Fields}
 use Rattle.tune_problem.specs.Problem.{Problem}
 use Rattle.tune_problem.specs.Optimum.{all_fights, IsBest}
@@ -9,34 +8,18 @@ use Rattle.tune_problem.specs.declared.cert.Cert.{Cert}
 use Rattle.tune_problem.specs.declared.cert.Row.{Row}
 use Rattle.tune_problem.specs.declared.cert.Row.TheVariants.{Refused, Same, Cap}
 use Rattle.tune_problem.specs.declared.part.Part.{Part}
-use Rattle.tune_cert.specs.Spelling.{Spells, IsMalformed, IsFirstMalformed, record_of, cert_of_records}
-use Rattle.tune_cert.specs.Checks.{row_reason, first_failure}
+use Rattle.tune_cert.specs.CertText.{stated}
+use Rattle.tune_cert.specs.Spelling.{Spells, IsMalformed, IsFirstMalformed, record_of}
+use Rattle.tune_cert.specs.Checks.{row_reason}
+use Rattle.tune_cert.specs.Judgement.{no_demand, judgement_of, judged}
 use Rattle.tune_cert.specs.declared.verdict.Reason.{Reason}
 use Rattle.tune_cert.specs.declared.verdict.Reason.TheVariants.{Malformed, RowCount, BestRow, Version}
 use Rattle.tune_cert.specs.declared.verdict.Verdict.{Verdict}
 use Rattle.tune_cert.specs.declared.verdict.Verdict.TheVariants.{Accepted, Rejected}
 
--- The verdict by the first failure of a certificate.
-abbrev pub verdict_by : Cert → Option (ℕ × Reason) → Verdict
-verdict_by c None = Accepted c.best c.total
-verdict_by c (Some failure) = Rejected failure.0 failure.1
-
--- The verdict of a share on a certificate.
-abbrev pub verdict_on : Problem → Part → Cert → Verdict
-verdict_on p share c = verdict_by c (first_failure p share c)
-
--- The verdict of a share on what is read: on a certificate, or else Malformed at this record.
-abbrev pub verdict_on_read : Problem → Part → Result Cert ℕ → Verdict
-verdict_on_read p share (Ok c) = verdict_on p share c
-verdict_on_read p share (Err index) = Rejected index Malformed
-
--- The verdict of a share on records: on the certificate that they spell, or else Malformed at the
--- first malformed one.
-abbrev pub verdict_of : Problem → Part → List Fields → Verdict
-verdict_of p share records = verdict_on_read p share (cert_of_records records)
-
+-- The verdict of a share on records is the judgement without a demand.
 abbrev pub IsVerdictOf : Problem → Part → List Fields → Verdict → Type 0
-IsVerdictOf p share records verdict = verdict ≡ verdict_of p share records
+IsVerdictOf p share records verdict = judgement_of p no_demand share records ≡ judged verdict
 
 -- ---- what a verdict on all rows promises
 
@@ -57,7 +40,7 @@ pub record IsWrongRow (p : Problem) (c : Cert) (index : ℕ) (reason : Reason) :
   pub index_is : index ≡ record_of vector
   pub row : Row
   pub here : slice_get c.rows vector ≡ Some row
-  pub wrong : row_reason p c None vector row ≡ Some reason
+  pub wrong : row_reason p (stated c) None vector row ≡ Some reason
 
 -- What each reason says of the certificate, at the record that a rejection names.
 abbrev pub IsRejected : Problem → Cert → (index : ℕ) → Reason → Type 0
@@ -93,7 +76,7 @@ pub record IsFirstRow (p : Problem) (c : Cert) (index : ℕ) : Type 0 where
   pub index_is : index ≡ record_of vector
   pub row : Row
   pub here : slice_get c.rows vector ≡ Some row
-  pub before : (u : ℕ) (r : Row) → slice_get c.rows u ≡ Some r → IsCheckedBefore u r vector row → row_reason p c None u r ≡ None
+  pub before : (u : ℕ) (r : Row) → slice_get c.rows u ≡ Some r → IsCheckedBefore u r vector row → row_reason p (stated c) None u r ≡ None
 
 -- Everything that is checked before the reason is right. A certificate has no malformed record.
 abbrev pub IsFirstOfCert : Problem → Cert → (index : ℕ) → Reason → Type 0

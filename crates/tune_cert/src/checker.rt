@@ -4,21 +4,22 @@ ghost use Rattle.tables.specs.Records.{records_of};
 ghost use Rattle.tune_problem.specs.Parts.{whole};
 ghost use Rattle.tune_problem.specs.Problem.{problem_of};
 ghost use Rattle.tune_cert.specs.Checks.{is_version_of, has_row_count};
-ghost use Rattle.tune_cert.specs.Verdict.{verdict_on, IsVerdictOf};
-ghost use Rattle.tune_cert.specs.Judgement.{is_answered, as_cert, judgement_on, judgement_of, IsOfSettings};
+ghost use Rattle.tune_cert.specs.Verdict.{IsVerdictOf};
+ghost use Rattle.tune_cert.specs.Judgement.{is_answered, judgement_on, judgement_of, judged, IsOfSettings};
+ghost use Rattle.tune_cert.specs.declared.verdict.Verdict.{Verdict as VerdictView};
 ghost use Rattle.tune_cert.specs.Shares.{share_part};
 
 use crate::claim::Claim;
 use crate::demand::Demand;
 use crate::fault::{CheckFault, ReadFault};
 use crate::ranking::ranking_for;
-use crate::read::{read_cert, read_statement};
+use crate::read::read_statement;
 use crate::row_checks::is_best_row;
 use crate::share::Share;
 use crate::share_rows::check_claim;
 use crate::verdict::{Judgement, Reason, Verdict};
 use std::alloc::Global;
-use tune_problem::{Answer, Best, Cert, Inputs, Silent, Statement, Watcher, cert_version};
+use tune_problem::{Answer, Inputs, Silent, Statement, Watcher, cert_version};
 
 /// Checks the bytes of a certificate against the inputs of a tuning.
 ///
@@ -46,38 +47,13 @@ pub fn check(alloc: Global, inputs: &Inputs, bytes: &[u8]) -> Result<Verdict, Ch
     // accepted certificate names the optimum and its total, and a valid one is accepted.
     ensures verdict { IfOk result (IsVerdictOf (problem_of inputs.now) whole (records_of bytes.now)) }
 {
-    check_share(alloc, inputs, Share::whole(), bytes, &mut Silent)
+    let demand = Demand::none();
+    let judgement = check_for(alloc, inputs, demand, Share::whole(), bytes, &mut Silent)?;
+    Ok(verdict_of(&judgement))
 }
 
-/// Checks as `check` does, but only the rows of the share's settings. Tells `watcher` how far it is
-/// after each fight and each row that is right.
-///
-/// The row to which another one refers may be of another share, and is taken as listed: its fights
-/// must exist and rise, and its cap by the listed points must not beat the best. A certificate is
-/// valid exactly if all shares accept it, and each then names the same setting and total. Reads the
-/// whole certificate.
-///
-/// # Errors
-///
-/// `OutOfMemory` if an allocation failed.
-pub fn check_share<T: Watcher>(
-    alloc: Global,
-    inputs: &Inputs,
-    share: Share,
-    bytes: &[u8],
-    watcher: &mut T,
-) -> Result<Verdict, CheckFault>
-    // The verdict is that of the share on the certificate that the bytes spell, or Malformed.
-    ensures verdict { IfOk result (IsVerdictOf (problem_of inputs.now) (share_part share) (records_of bytes.now)) }
-{
-    match read_cert(alloc, bytes) {
-        Ok(cert) => check_cert(alloc, inputs, share, cert, watcher),
-        Err(ReadFault::Malformed { row }) => Ok(malformed(row)),
-        Err(ReadFault::OutOfMemory) => Err(CheckFault::OutOfMemory),
-    }
-}
-
-/// Checks a certificate as `check_share` does, and whether it meets a demand.
+/// Checks the rows of the share's settings as `check` does, and whether the certificate meets a
+/// demand. Tells `watcher` how far it is after each fight and each row that is right.
 ///
 /// With `floor` a certificate may also say that no setting reaches a floor. This floor must be the
 /// one that is asked for (else `BestRow`), and no cap may reach it (else `CapTooHigh`). All other
@@ -88,10 +64,15 @@ pub fn check_share<T: Watcher>(
 /// are ranked by their listed totals. The cap of any other setting that assembles must not contend
 /// with the first `keep` of these (else `CapTooHigh`, as the last reason of its row). So a
 /// certificate with a best setting that `check` rejects is rejected at the same record, or at one
-/// that is checked before it. All shares accept a certificate exactly if the whole does, each with
-/// the same answer and ranking.
+/// that is checked before it.
 ///
-/// Without a demand this is `check_share`. Takes no more memory than `check_share` and the ranking.
+/// The row to which another one refers may be of another share, and is taken as listed: its fights
+/// must exist and rise, and its cap by the listed points must not beat the best. All shares accept
+/// a certificate exactly if the whole does, each with the same answer and ranking. Reads the whole
+/// certificate.
+///
+/// `check` is this check of all rows without a demand. Takes no more memory than `check` and the
+/// ranking.
 ///
 /// # Errors
 ///
@@ -115,51 +96,25 @@ pub fn check_for<T: Watcher>(
     }
 }
 
-// Checks a certificate whose records have the right form: as a statement, without a demand.
-fn check_cert<T: Watcher>(
-    alloc: Global,
-    inputs: &Inputs,
-    share: Share,
-    cert: Cert,
-    watcher: &mut T,
-) -> Result<Verdict, CheckFault>
-    ensures { IfOk result (λ v. v ≡ verdict_on (problem_of inputs.now) (share_part share) cert) }
+// Returns the verdict that a judgement without a demand is: that names no floor.
+fn verdict_of(judgement: &Judgement) -> Verdict
+    ensures { (v : VerdictView) → judgement.now ≡ judged v → result ≡ v }
 {
-    let Cert {
-        version,
-        count,
-        best,
-        total,
-        rows,
-    } = cert;
-    let answer = Answer::Best(Best {
-        vector: best,
-        total,
-    });
-    let statement = Statement {
-        version,
-        count,
-        answer,
-        rows,
-    };
-    let demand = Demand {
-        keep: None,
-        floor: None,
-    };
-    if let Judgement::Rejected { row, reason } = check_statement(
-        alloc, inputs, demand, share, statement, watcher,
-    )? {
-        return Ok(Verdict::Rejected { row, reason });
-    }
-    Ok(Verdict::Accepted { best, total })
-}
-
-fn malformed(index: u64) -> Verdict
-    ensures { result ≡ Verdict.Rejected index Reason.Malformed }
-{
-    Verdict::Rejected {
-        row: index,
-        reason: Reason::Malformed,
+    match judgement {
+        Judgement::Accepted { answer, .. } => match answer {
+            Answer::Best(best) => Verdict::Accepted {
+                best: best.vector,
+                total: best.total,
+            },
+            Answer::NoneFrom(_) => Verdict::Rejected {
+                row: 1,
+                reason: Reason::BestRow,
+            },
+        },
+        Judgement::Rejected { row, reason } => Verdict::Rejected {
+            row: *row,
+            reason: *reason,
+        },
     }
 }
 
@@ -177,21 +132,19 @@ fn check_statement<T: Watcher>(
 {
     let answer = statement.answer;
     let aim = demand.aim_for(answer);
-    let answered = is_answered(inputs, demand, &statement);
-    let cert = as_cert(inputs, statement);
-    if !is_version_of(inputs, &cert) {
+    if !is_version_of(inputs, &statement) {
         return Ok(rejected(0, Reason::Version));
     }
-    if !has_row_count(inputs, &cert) {
+    if !has_row_count(inputs, &statement) {
         return Ok(rejected(0, Reason::RowCount));
     }
-    if !answered {
+    if !is_answered(inputs, demand, &statement) {
         return Ok(rejected(1, Reason::BestRow));
     }
-    let ranking = ranking_for(alloc, inputs, &cert.rows, aim)?;
+    let ranking = ranking_for(alloc, inputs, &statement.rows, aim)?;
     let claim = Claim {
         inputs,
-        cert: &cert,
+        statement: &statement,
         aim,
         ranking: &ranking,
     };
@@ -215,51 +168,23 @@ fn is_answered(inputs: &Inputs, demand: Demand, statement: &Statement) -> bool
     }
 }
 
-// Returns the certificate that a statement is checked as. If no setting is said to reach a floor,
-// its best setting is the one after the last, with the floor as its total: a cap beats that exactly
-// if it reaches the floor.
-fn as_cert(inputs: &Inputs, statement: Statement) -> Cert
-    ensures { result ≡ as_cert (problem_of inputs.now) statement }
-{
-    let Statement {
-        version,
-        count,
-        answer,
-        rows,
-    } = statement;
-    let best = match answer {
-        Answer::Best(best) => best,
-        Answer::NoneFrom(floor) => Best {
-            vector: inputs.count(),
-            total: floor,
-        },
-    };
-    Cert {
-        version,
-        count,
-        best: best.vector,
-        total: best.total,
-        rows,
-    }
-}
-
 // Checks whether the version is one for the schedule: version 1 is for schedules in which every
 // fight counts once.
-fn is_version_of(inputs: &Inputs, cert: &Cert) -> bool
-    ensures { result ≡ is_version_of (problem_of inputs.now) cert.now.version }
+fn is_version_of(inputs: &Inputs, statement: &Statement) -> bool
+    ensures { result ≡ is_version_of (problem_of inputs.now) statement.now.version }
 {
-    if cert.version == 1 {
+    if statement.version == 1 {
         return cert_version(inputs) == 1;
     }
     true
 }
 
-// Checks whether there is a row for each setting, and the certificate claims this count.
-fn has_row_count(inputs: &Inputs, cert: &Cert) -> bool
-    ensures { result ≡ has_row_count (problem_of inputs.now) cert.now }
+// Checks whether there is a row for each setting, and this count is claimed.
+fn has_row_count(inputs: &Inputs, statement: &Statement) -> bool
+    ensures { result ≡ has_row_count (problem_of inputs.now) statement.now }
 {
     let count = inputs.count();
-    cert.count == count && cert.rows.as_slice().len() == count as usize
+    statement.count == count && statement.rows.as_slice().len() == count as usize
 }
 
 fn rejected(index: u64, reason: Reason) -> Judgement

@@ -1,6 +1,6 @@
 //! The demand of a check.
 ghost use Rattle.std.specs.Prelude.{◌≡◌, ◌<◌, ◌^◌, IfSome};
-ghost use Rattle.tune_cert.specs.Judgement.{aim_for};
+ghost use Rattle.tune_cert.specs.Judgement.{no_demand, aim_for};
 
 use tune_problem::{Aim, Answer};
 
@@ -18,6 +18,16 @@ pub struct Demand {
 }
 
 impl Demand {
+    /// Returns the demand of `check`: the optimum alone.
+    pub fn none() -> Demand
+        ensures { result ≡ no_demand }
+    {
+        Demand {
+            keep: None,
+            floor: None,
+        }
+    }
+
     // Returns the aim for which the rows have to be exact, if a ranking is asked for and `answer`
     // names a best setting.
     pub(crate) fn aim_for(self, answer: Answer) -> Option<Aim>

@@ -10,8 +10,8 @@ ghost use Rattle.tune_problem.specs.declared.statement.Statement.{Statement};
 ghost use Rattle.tune_cert.specs.CertText.{cert_text, statement_text, statement_fields, stated};
 ghost use Rattle.tune_cert.specs.Spelling.{IsCert, IsStatement, IsFirstMalformed, Spells, statement_of, cert_of_records};
 ghost use Rattle.tune_cert.specs.Shares.{InEachShare, IsValidInShare};
-ghost use Rattle.tune_cert.specs.Verdict.{verdict_on, IsVerdictOf, IsRightVerdict};
-ghost use Rattle.tune_cert.specs.Judgement.{judgement_on, judged, no_demand, MeetsDemand, ShareAccepts};
+ghost use Rattle.tune_cert.specs.Verdict.{IsVerdictOf, IsRightVerdict};
+ghost use Rattle.tune_cert.specs.Judgement.{no_demand, MeetsDemand, ShareAccepts};
 
 use crate::demand::Demand;
 use crate::verdict::Verdict;
@@ -51,11 +51,11 @@ pub fn the_verdict_is_right()
     ensures right { (p : Problem) (records : List Fields) (v : Verdict) → IsProblem p → IsVerdictOf p whole records v → IsRightVerdict p records v }
 {}
 
-/// States that a share accepts a certificate exactly if it is valid in the share, and then names
-/// its best setting and total; and that a certificate is valid exactly if it is valid in each
-/// share, into however many shares its rows are split.
+/// States that without a demand a share accepts a certificate exactly if it is valid in the share,
+/// and then names its best setting and total; and that a certificate is valid exactly if it is
+/// valid in each share, into however many shares its rows are split.
 pub fn accepted_in_every_share_is_valid()
-    ensures accepted { (p : Problem) (share : Part) (c : Cert) → (verdict_on p share c ≡ Verdict.Accepted c.best c.total) ↔ IsValidInShare p share c }
+    ensures accepted { (p : Problem) (share : Part) (c : Cert) → ShareAccepts p no_demand share (stated c) ↔ IsValidInShare p share c }
     ensures shares { (p : Problem) (shares : ℕ) (c : Cert) → IsProblem p → 1 ≤ shares → InEachShare shares (λ share. IsValidInShare p share c) ↔ IsValid p c }
 {}
 
@@ -72,9 +72,4 @@ pub fn a_demand_is_met()
 pub fn accepted_in_every_share_meets_the_demand()
     ensures { (p : Problem) (shares : ℕ) (demand : Demand) (s : Statement) → 1 ≤ shares
         → InEachShare shares (λ share. ShareAccepts p demand share s) ↔ ShareAccepts p demand whole s }
-{}
-
-/// States that the judgement of a share on a certificate without a demand is its verdict.
-pub fn a_check_without_a_demand_is_a_check()
-    ensures { (p : Problem) (share : Part) (c : Cert) → judgement_on p no_demand share (stated c) ≡ judged (verdict_on p share c) }
 {}

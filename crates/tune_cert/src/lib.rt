@@ -20,7 +20,7 @@ mod verdict;
 mod warriors;
 mod write;
 
-pub use checker::{check, check_for, check_share};
+pub use checker::{check, check_for};
 pub use demand::Demand;
 pub use fault::{CertFault, CheckFault, ReadFault};
 pub use read::{read_cert, read_statement};

@@ -2,12 +2,11 @@
 //! `listings`.
 ghost use Rattle.std.specs.Prelude.{◌≡◌, ◌<◌, ◌==◌, ◌||◌, not, IfOk, IfSome, IfNone, None, Some, Option, length, ℕ, List, slice_get};
 ghost use Rattle.mars_core.specs.Arena.{IsBlank};
-ghost use Rattle.tune_problem.specs.Optimum.{beats};
 ghost use Rattle.tune_problem.specs.Problem.{problem_of};
 ghost use Rattle.tune_problem.specs.Valid.{listed_in};
 ghost use Rattle.tune_problem.specs.Exact.{listed_cap};
 ghost use Rattle.tune_problem.specs.declared.cert.Row.TheVariants.{Refused, Cap};
-ghost use Rattle.tune_cert.specs.Checks.{PlaysAtMost, is_exact, is_best_row, cap_reason, alone_reason, same_reason, reference_reason};
+ghost use Rattle.tune_cert.specs.Checks.{PlaysAtMost, names, stays_below, is_exact, is_best_row, cap_reason, alone_reason, same_reason, reference_reason};
 ghost use Rattle.tune_cert.specs.Steps.{AreAssembled, for_claim};
 
 use crate::claim::Claim;
@@ -19,7 +18,7 @@ use mars_core::{Arena, PackedCells};
 use rc_instr::Warrior;
 use std::alloc::Global;
 use tune_problem::{
-    Best, Inputs, Row, Rows, Watcher, beats, contends, fight_count, setting_warrior,
+    Answer, Best, Inputs, Row, Rows, Watcher, beats, contends, fight_count, setting_warrior,
 };
 
 // Returns what is wrong with a refused or a cap row, and passes over a row that refers to another
@@ -75,7 +74,7 @@ fn check_cap<T: Watcher>(
         return Ok(Some(Reason::WrongPoints));
     }
     let cap = listed_cap(claim.inputs, listed);
-    if !is_best_or_no_better(claim, vector, cap) {
+    if !is_best_or_below(claim.statement.answer, vector, cap) {
         return Ok(Some(Reason::CapTooHigh));
     }
     if !is_exact(claim, vector, listed, cap) {
@@ -116,10 +115,10 @@ fn check_reference(
 ) -> Result<Option<Reason>, CheckFault>
     requires inside { vector < (problem_of claim.now.inputs.now).count }
     requires assembled { AreAssembled (problem_of claim.now.inputs.now) warriors.old.items }
-    ensures reason { IfOk result (λ o. o ≡ for_claim reference_reason claim.now vector other (slice_get claim.now.cert.now.rows other)) }
+    ensures reason { IfOk result (λ o. o ≡ for_claim reference_reason claim.now vector other (slice_get claim.now.statement.now.rows other)) }
     ensures assembled { AreAssembled (problem_of claim.now.inputs.now) warriors.new.items }
 {
-    let Some(listed) = cap_row(&claim.cert.rows, other) else {
+    let Some(listed) = cap_row(&claim.statement.rows, other) else {
         return Ok(Some(Reason::NotSame));
     };
     if other == vector {
@@ -136,7 +135,7 @@ fn check_reference(
         return Ok(Some(Reason::NotSame));
     }
     let cap = listed_cap(claim.inputs, listed);
-    if !is_no_better(claim, vector, cap) {
+    if !stays_below(claim.statement.answer, vector, cap) {
         return Ok(Some(Reason::CapTooHigh));
     }
     if !is_exact(claim, vector, listed, cap) {
@@ -170,23 +169,31 @@ pub(crate) fn cap_row(rows: &Rows, vector: u32) -> Option<&[(u32, u8)]>
     }
 }
 
-// Checks whether setting `vector` is the best setting of the certificate, or cap `cap` does not
-// beat the best setting.
-fn is_best_or_no_better(claim: &Claim<'_>, vector: u32, cap: u32) -> bool
-    ensures { result ≡ ((vector == claim.now.cert.now.best) || not (beats cap vector claim.now.cert.now.total claim.now.cert.now.best)) }
+// Checks whether setting `vector` is the best one by an answer, or its cap `cap` stays below.
+fn is_best_or_below(answer: Answer, vector: u32, cap: u32) -> bool
+    ensures { result ≡ (names answer vector || stays_below answer cap vector) }
 {
-    vector == claim.cert.best || is_no_better(claim, vector, cap)
+    is_named(answer, vector) || stays_below(answer, vector, cap)
 }
 
-// Checks whether cap `cap` of setting `vector` does not beat the best setting of the certificate.
-fn is_no_better(claim: &Claim<'_>, vector: u32, cap: u32) -> bool
-    ensures { result ≡ not (beats cap vector claim.now.cert.now.total claim.now.cert.now.best) }
+fn is_named(answer: Answer, vector: u32) -> bool
+    ensures { result ≡ names answer vector }
 {
-    let best = Best {
-        vector: claim.cert.best,
-        total: claim.cert.total,
-    };
-    !beats(cap, vector, best)
+    match answer {
+        Answer::Best(best) => vector == best.vector,
+        Answer::NoneFrom(_) => false,
+    }
+}
+
+// Checks whether cap `cap` of setting `vector` does not beat the best setting, or is below the
+// floor that no setting is said to reach.
+fn stays_below(answer: Answer, vector: u32, cap: u32) -> bool
+    ensures { result ≡ stays_below answer cap vector }
+{
+    match answer {
+        Answer::Best(best) => !beats(cap, vector, best),
+        Answer::NoneFrom(floor) => cap < floor,
+    }
 }
 
 // Checks whether a row, as one of setting `vector`, lists every fight, or its cap `cap` does not
@@ -194,7 +201,7 @@ fn is_no_better(claim: &Claim<'_>, vector: u32, cap: u32) -> bool
 #[tactic(auto, unfolding(crate::specs::Checks::is_exact))]
 fn is_exact(claim: &Claim<'_>, vector: u32, listed: &[(u32, u8)], cap: u32) -> bool
     requires { cap ≡ listed_cap (problem_of claim.now.inputs.now) listed.now }
-    ensures { result ≡ is_exact (problem_of claim.now.inputs.now) claim.now.aim claim.now.cert.now.rows vector listed.now }
+    ensures { result ≡ is_exact (problem_of claim.now.inputs.now) claim.now.aim claim.now.statement.now.rows vector listed.now }
 {
     let Some(aim) = claim.aim else {
         return true;

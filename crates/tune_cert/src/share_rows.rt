@@ -16,7 +16,7 @@ use crate::verdict::Reason;
 use crate::warriors::no_warriors;
 use mars_core::{Arena, PackedCells};
 use std::alloc::Global;
-use tune_problem::{Best, Row, Standing, Watcher};
+use tune_problem::{Answer, Best, Row, Standing, Watcher};
 
 // Checks the rows of a share, in an arena of their own. Returns the first wrong row.
 pub(crate) fn check_claim<T: Watcher>(
@@ -44,12 +44,12 @@ fn check_rows<T: Watcher>(
     ensures wrong { IfOk result (λ o. o ≡ for_claim rows_failure claim.now (claim_settings share claim.now)) }
 
     // At most as many fights are played as the rows of the share list.
-    ensures most { PlaysAtMost arena.old arena.new (listed_fights_of claim.now.cert.now.rows (claim_settings share claim.now)) }
+    ensures most { PlaysAtMost arena.old arena.new (listed_fights_of claim.now.statement.now.rows (claim_settings share claim.now)) }
 {
     let count = claim.inputs.count();
     let first = share.first(count);
     let end = share.end(count);
-    let mut standing = before_rows(named_best(claim), end - first);
+    let mut standing = before_rows(named_best(claim.statement.answer), end - first);
     if let Some(wrong) = check_rows_alone(
         alloc,
         arena,
@@ -67,16 +67,12 @@ fn check_rows<T: Watcher>(
     check_rows_same(alloc, claim, first, end, &mut standing, watcher)
 }
 
-// Returns the best setting that the certificate names, for the watcher. It names none if its best
-// is the setting after the last, as `as_cert` makes it.
-fn named_best(claim: &Claim<'_>) -> Option<Best> {
-    if claim.cert.best >= claim.inputs.count() {
-        return None;
+// Returns the best setting that an answer names, for the watcher.
+fn named_best(answer: Answer) -> Option<Best> {
+    match answer {
+        Answer::Best(best) => Some(best),
+        Answer::NoneFrom(_) => None,
     }
-    Some(Best {
-        vector: claim.cert.best,
-        total: claim.cert.total,
-    })
 }
 
 // Checks the refused and the cap rows from `first` to just before `end`. Returns the first wrong
@@ -95,9 +91,9 @@ fn check_rows_alone<T: Watcher>(
     ensures wrong { IfOk result (λ o. o ≡ for_claim wrong_alone claim.now (settings_between first end)) }
 
     // At most as many fights are played as these rows list.
-    ensures most { PlaysAtMost arena.old arena.new (listed_fights_of claim.now.cert.now.rows (settings_between first end)) }
+    ensures most { PlaysAtMost arena.old arena.new (listed_fights_of claim.now.statement.now.rows (settings_between first end)) }
 {
-    let rows = claim.cert.rows.as_slice();
+    let rows = claim.statement.rows.as_slice();
     for vector in first..end {
         let row = &rows[vector as usize];
         if let Some(reason) = check_alone(alloc, arena, claim, vector, row, watcher)? {
@@ -112,10 +108,10 @@ fn check_rows_alone<T: Watcher>(
 
 // Checks that no row from `first` to just before `end` refers to another setting.
 fn none_refer(claim: &Claim<'_>, first: u32, end: u32) -> bool
-    requires inside { end ≤ length claim.now.cert.now.rows }
+    requires inside { end ≤ length claim.now.statement.now.rows }
     ensures { IsTrue result → None ≡ for_claim wrong_same claim.now (settings_between first end) }
 {
-    let rows = claim.cert.rows.as_slice();
+    let rows = claim.statement.rows.as_slice();
     for vector in first..end {
         if refers(&rows[vector as usize]) {
             return false;
@@ -137,7 +133,7 @@ fn check_rows_same<T: Watcher>(
     requires inside { end ≤ (problem_of claim.now.inputs.now).count }
     ensures wrong { IfOk result (λ o. o ≡ for_claim wrong_same claim.now (settings_between first end)) }
 {
-    let rows = claim.cert.rows.as_slice();
+    let rows = claim.statement.rows.as_slice();
     let mut warriors = no_warriors(alloc, claim.inputs.count())?;
     for vector in first..end {
         let row = &rows[vector as usize];

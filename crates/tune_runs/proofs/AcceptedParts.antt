@@ -1,9 +1,8 @@
 -- Accepted certificates of parts name the optimum of the whole.
-use Rattle.std.proofs.Common.{◌≡◌, ℕ, ◌≤◌, List, [], ◌++◌, Option, Some, None, true, refl, sym, ap, subst, arith, inl, inr, Ok, Err}
-use Rattle.std.specs.Prelude.{Bool, codes, Result}
+use Rattle.std.proofs.Common.{◌≡◌, ℕ, ◌≤◌, List, [], Option, Some, None, true, refl, ap, subst, arith, inl, inr, Ok, Err}
+use Rattle.std.specs.Prelude.{Result}
 use Rattle.std.specs.Option.{is_some}
 use Rattle.std.proofs.lemmas.Bool.{true≢false}
-use Rattle.rc_instr.specs.Results.{and_then}
 use Rattle.tables.specs.Records.{records_of}
 use Rattle.tune_template.specs.Instances.{setting_count}
 use Rattle.tune_problem.specs.Parts.{whole}
@@ -21,7 +20,7 @@ use Rattle.tune_problem.proofs.BelowFloors.{all_below}
 use Rattle.tune_problem.proofs.Certificates.{valid_is_optimum, valid_total}
 use Rattle.tune_problem.proofs.WholeOfParts.{whole_best, whole_below, none_below, below_none}
 use Rattle.tune_cert.specs.Spelling.{statement_of}
-use Rattle.tune_cert.specs.Judgement.{failure_of, judgement_by, judgement_on_read, judgement_of, MeetsBy}
+use Rattle.tune_cert.specs.Judgement.{failure_of, judged, judgement_by, judgement_on_read, judgement_of, MeetsBy}
 use Rattle.tune_cert.specs.declared.demand.Demand.{Demand}
 use Rattle.tune_cert.specs.declared.verdict.Reason.{Reason}
 use Rattle.tune_cert.specs.declared.verdict.Judgement.{Judgement}
@@ -30,18 +29,17 @@ use Rattle.tune_cert.specs.declared.verdict.Verdict.{Verdict}
 use Rattle.tune_cert.specs.declared.verdict.Verdict.TheVariants.{Accepted as AcceptedCert, Rejected as RejectedCert}
 use Rattle.tune_cert.proofs.Demands.{met_if_accepted}
 use Rattle.tune_runs.specs.Report.{rank_lines, named_ranking}
-use Rattle.tune_runs.specs.TuneRun.{Texts, of_part, meaning_of, Means, HasNoCandidate}
-use Rattle.tune_runs.specs.CheckRun.{accepts, verdict_line, answer_text, judgement_lines, accepts_for, check_for_output, HasRightVerdict, Accepts, IsAccepted, IsShown}
+use Rattle.tune_runs.specs.TuneRun.{Texts, of_part, Means, HasNoCandidate}
+use Rattle.tune_runs.specs.CheckRun.{accepts, verdict_line, judgement_lines, HasRightVerdict, Accepts, IsAccepted, IsShown}
 use Rattle.tune_runs.specs.Agreement.{Checks, ChecksFor, NamesAnswer, AreShown, IsBestShown, IsBestOfAll, AreShownBelow, AreAllBelow}
 use Rattle.tune_runs.specs.Runs.{Writer, Gets}
-use Rattle.tune_runs.specs.declared.fault.RunFault.{RunFault}
 use Rattle.tune_runs.proofs.Meaning.{one_meaning, made_of, means}
-use Rattle.tune_runs.proofs.Verdicts.{right_line}
+use Rattle.tune_runs.proofs.Verdicts.{right_line, said_of}
 
 -- ---- what a check with a demand accepts
 
 -- an accepting judgement is on a statement with this answer
-accepted_answer : (answer other : Answer) (ranking more : List Best) (o : Option (ℕ × Reason)) → judgement_by answer ranking o ≡ Accepted other more
+pub accepted_answer : (answer other : Answer) (ranking more : List Best) (o : Option (ℕ × Reason)) → judgement_by answer ranking o ≡ Accepted other more
     → (answer ≡ other) × (judgement_by answer ranking o ≡ Accepted answer ranking)
 accepted_answer answer other ranking more None e = (ap answer_in e, refl)
   where
@@ -144,28 +142,17 @@ whole_without t parts some none =
 -- the line of a verdict that accepts
 pub accepted_line : (t : Texts) (bytes : List ℕ) (out : Writer) → Checks t bytes true out → (best total : ℕ) × Accepts t bytes best total × Gets out (verdict_line None (AcceptedCert best total))
 accepted_line t bytes out check = let r = right_line t bytes true out check in by_verdict r.verdict r.right r.says r.line where
-  by_verdict : (v : Verdict) → HasRightVerdict t bytes v → true ≡ accepts v → Gets out (verdict_line None v) → (best total : ℕ) × Accepts t bytes best total × Gets out (verdict_line None (AcceptedCert best total))
+  by_verdict : (v : Verdict) → HasRightVerdict t bytes v → true ≡ accepts (judged v) → Gets out (verdict_line None v) → (best total : ℕ) × Accepts t bytes best total × Gets out (verdict_line None (AcceptedCert best total))
   by_verdict (AcceptedCert best total) right says line = (best, total, right, line)
   by_verdict (RejectedCert row reason) right says line = absurd (true≢false says)
 
 -- the line of a judgement that accepts
 pub accepted_text : (t : Texts) (demand : Demand) (bytes : List ℕ) (out : Writer) → ChecksFor t demand bytes true out → NamesAnswer t demand bytes out
-unfolding check_for_output judgement_lines
-accepted_text t demand bytes out (text, e, wrote) = by_meaning (meaning_of t) refl e
+unfolding judgement_lines
+accepted_text t demand bytes out check = let c = said_of t demand None bytes true out check in by_judgement c.inputs c.means c.judgement c.is c.says c.lines
   where
-    by_judgement : (i : InputsView) → meaning_of t ≡ Ok i → (j : Judgement) → judgement_of (problem_of i) demand whole (records_of bytes) ≡ j
-        → ◌≡◌ {A = Bool × List ℕ} (accepts_for j, judgement_lines i demand None j) (true, text) → NamesAnswer t demand bytes out
-    by_judgement i m (Rejected number reason) is q = absurd (true≢false (sym (ap (λ (x : Bool × List ℕ). x.0) q)))
-    by_judgement i m (Accepted answer ranking) is q =
-        let rest = rank_lines 1 (named_ranking i demand.keep ranking) in
-        let line : codes "accepted" ++ answer_text answer ++ rest ≡ text = ap (λ (x : Bool × List ℕ). x.1) q in
-        record { answer = answer; accepts = (i, ranking, m, is); rest = rest; lines = subst (λ line. Gets out line) (sym line) wrote }
-
-    by_meaning : (r : Result InputsView RunFault) → meaning_of t ≡ r
-        → and_then {B = Bool × List ℕ} (λ i. Ok (accepts_for (judgement_of (problem_of i) demand whole (records_of bytes)), judgement_lines i demand None (judgement_of (problem_of i) demand whole (records_of bytes)))) r ≡ Ok (true, text)
-        → NamesAnswer t demand bytes out
-    by_meaning (Ok i) m q =
-        let said = judgement_of (problem_of i) demand whole (records_of bytes) in
-        let both : ◌≡◌ {A = Bool × List ℕ} (accepts_for said, judgement_lines i demand None said) (true, text) = cc in
-        by_judgement i m said refl both
-    by_meaning (Err f) m q = absurd (cc)
+    by_judgement : (i : InputsView) → Means t i → (j : Judgement) → judgement_of (problem_of i) demand whole (records_of bytes) ≡ j → true ≡ accepts j
+        → Gets out (judgement_lines i demand None j) → NamesAnswer t demand bytes out
+    by_judgement i m (Rejected number reason) is says lines = absurd (true≢false says)
+    by_judgement i m (Accepted answer ranking) is says lines =
+        record { answer = answer; accepts = (i, ranking, m, is); rest = rank_lines 1 (named_ranking i demand.keep ranking); lines = lines }

@@ -1,5 +1,5 @@
 -- A check accepts what a tuning wrote that was asked for the same, and says what it found.
-use Rattle.std.proofs.Common.{◌≡◌, ℕ, ◌<◌, ◌≤◌, arith, Bool, true, List, [], ◌∷◌, ◌++◌, map, length, Option, Some, None, Result, Ok, refl, sym, ◌∙◌, ap, subst}
+use Rattle.std.proofs.Common.{◌≡◌, ℕ, ◌<◌, ◌≤◌, arith, Bool, true, List, [], ◌∷◌, ◌++◌, map, length, Option, Some, None, Ok, refl, sym, ◌∙◌, ap, subst}
 use Rattle.std.specs.Prelude.{nat_lt, if◌then◌else◌}
 use Rattle.std.specs.Option.{is_some, option_map, unwrap_or}
 use Rattle.std.proofs.lemmas.Bool.Decides.{nat_tests}
@@ -27,25 +27,24 @@ use Rattle.tune_cert.specs.CertText.{statement_text, statement_with}
 use Rattle.tune_cert.specs.Spelling.{IsStatement, statement_of}
 use Rattle.tune_cert.specs.Judgement.{IsExactFor, MeetsBy, MeetsDemand, accepted_with, aim_for, judgement_of, judgement_on_read, ranking_for}
 use Rattle.tune_cert.specs.declared.demand.Demand.{Demand}
-use Rattle.tune_cert.specs.declared.verdict.Judgement.{Judgement}
 use Rattle.tune_cert.specs.declared.verdict.Judgement.TheVariants.{Accepted}
-use Rattle.tune_cert.proofs.Demands.{accepted_if_met, shares_of_whole}
+use Rattle.tune_cert.proofs.Demands.{accepted_if_met, share_of_whole}
 use Rattle.tune_cert.proofs.Statements.{statement_read}
 use Rattle.tune_cert.proofs.WrittenBack.{written, written_statement}
-use Rattle.tune_search.specs.Findings.{IsBestFrom, IsCertified, IsSearchFrom}
+use Rattle.tune_search.specs.Findings.{IsBestFrom, IsCertified, IsSearchFor}
 use Rattle.tune_search.specs.declared.findings.Findings.{Findings}
 use Rattle.tune_search.specs.declared.method.Method.{Method}
 use Rattle.tune_search.proofs.ExactRows.{is_exact, lists_ranking}
 use Rattle.tune_problem.proofs.WholeOfParts.{none_below}
 use Rattle.tune_runs.specs.Report.{named_setting, rank_lines}
 use Rattle.tune_runs.specs.TuneRun.{Texts, Means, answer_of}
-use Rattle.tune_runs.specs.CheckRun.{accepted_words, accepts_for, answer_text, check_for_output, judgement_lines, share_meant}
+use Rattle.tune_runs.specs.CheckRun.{accepted_words, accepts, answer_text, judgement_lines, share_meant}
 use Rattle.tune_runs.specs.Agreement.{filled}
 use Rattle.tune_runs.specs.Runs.{Writer, Gets}
 use Rattle.tune_runs.specs.AimedRuns.{AgreeAsked, Asked, ChecksAsked, IsAsked, TunesAsked, accepted_lines, aim_of}
-use Rattle.tune_runs.specs.declared.fault.RunFault.{RunFault}
 use Rattle.tune_runs.proofs.BestTunings.{no_candidates}
-use Rattle.tune_runs.proofs.Meaning.{made_of}
+use Rattle.tune_runs.proofs.Meaning.{made_of, one_meaning}
+use Rattle.tune_runs.proofs.Verdicts.{said_of}
 use Rattle.tune_runs.proofs.Writable.{most_points, writable_from}
 
 -- ---- the start setting is one of the settings
@@ -69,7 +68,7 @@ no_first [] e = refl
 no_first (x ∷ xs) e = absurd (cc)
 
 module _ (p : Problem) (laws : IsProblem p) (start : p.start < p.count) (demand : Demand) (is_aim : IsAim (aim_of demand))
-    (method : Method) (f : Findings) (s : IsSearchFrom p (aim_of demand) method f) (some : 0 < f.candidates) where
+    (method : Method) (f : Findings) (s : IsSearchFor p (aim_of demand) method f) (some : 0 < f.candidates) where
   abbrev aim : Aim
   aim = aim_of demand
 
@@ -113,12 +112,12 @@ module _ (p : Problem) (laws : IsProblem p) (start : p.start < p.count) (demand 
   read_by None none h = ap (λ (q : Option ℕ). statement_of (is_some q) (records_of (statement_text (said None)))) (floor_asked none) ∙ written_statement (said None) h
   read_by (Some best) is h = cert_read best h
 
-  judged : IsStatement (said (first_of f.ranking)) → (share : Part) → 1 ≤ share.number → share.number ≤ share.parts → (bytes : List ℕ) → bytes ≡ statement_text (said (first_of f.ranking))
+  judged : IsStatement (said (first_of f.ranking)) → (share : Part) (bytes : List ℕ) → bytes ≡ statement_text (said (first_of f.ranking))
       → judgement_of p demand share (records_of bytes) ≡ accepted_with p demand (said (first_of f.ranking))
-  judged h share low high bytes e =
+  judged h share bytes e =
       ap (λ (b : List ℕ). judgement_of p demand share (records_of b)) e
       ∙ ap (judgement_on_read p demand share) (read_by (first_of f.ranking) refl h)
-      ∙ shares_of_whole p demand (said (first_of f.ranking)) share.parts (omega (arith, low, high)) (accepted_if_met p laws demand (said (first_of f.ranking)) met) share.number low high
+      ∙ share_of_whole p demand (said (first_of f.ranking)) (accepted_if_met p laws demand (said (first_of f.ranking)) met) share
 
   -- ---- the ranking is that of the report
 
@@ -154,38 +153,29 @@ module _ (p : Problem) (laws : IsProblem p) (start : p.start < p.count) (demand 
 
 -- ---- both runs
 
--- the output of a check
-answered : (t : Texts) (demand : Demand) (share : Option Part) (bytes : List ℕ) (i : InputsView) (j : Judgement) → Means t i → judgement_of (problem_of i) demand (share_meant share) (records_of bytes) ≡ j
-    → check_for_output t demand share bytes ≡ Ok (accepts_for j, judgement_lines i demand share j)
-unfolding check_for_output
-answered t demand share bytes i j m e = rw (m, e) refl
-
--- there is one output
-one_output : (r : Result (Bool × List ℕ) RunFault) (a b : Bool) (x y : List ℕ) → r ≡ Ok (a, x) → r ≡ Ok (b, y) → (a ≡ b) × (x ≡ y)
-one_output r a b x y e f =
-    let pair : (a, x) ≡ (b, y) = cc in
-    (ap (λ (q : Bool × List ℕ). q.0) pair, ap (λ (q : Bool × List ℕ). q.1) pair)
-
 pub agree : (a : Asked) (bytes : List ℕ) (accepted : Bool) (report out : Writer) → IsAsked a → TunesAsked a report (filled bytes) → ChecksAsked a bytes accepted out
     → (accepted ≡ true) × AgreeAsked a report out
 agree a bytes accepted report out asked tunes checks =
     let (i, f, (m, s, some), wrote_cert, wrote_report) = tunes in
-    let (text, is, wrote) = checks in
+    let c = said_of a.texts a.demand a.share bytes accepted out checks in
     let p = problem_of i in
     let laws = inputs_problem i in
     let start = start_inside a.texts i m in
     let of_schedule = listed _ _ _ i.schedule (made_of a.texts i m).schedule in
     let most : greatest_of p ≤ MOST_TOTAL = subst (λ (n : ℕ). n ≤ MOST_TOTAL) (greatest_is i) (most_points _ _ _ i.schedule (made_of a.texts i m).schedule) in
     let fits = writable_from p laws of_schedule.1 most (aim_of a.demand) asked.floor a.method f s in
-    let accepts = judged p laws start a.demand asked.aim a.method f s some fits (share_meant a.share) asked.some asked.within bytes wrote_cert in
-    let same = one_output _ accepted true text _ is (answered a.texts a.demand a.share bytes i _ m accepts) in
-    let lines = same_lines p laws start a.demand asked.aim a.method f s some i a.share in (
-      same.0,
+    let inputs : c.inputs ≡ i = one_meaning a.texts c.inputs i c.means m in
+    let here : judgement_of p a.demand (share_meant a.share) (records_of bytes) ≡ c.judgement =
+    subst (λ (x : InputsView). judgement_of (problem_of x) a.demand (share_meant a.share) (records_of bytes) ≡ c.judgement) inputs c.is in
+    let same = sym here ∙ judged p laws start a.demand asked.aim a.method f s some fits (share_meant a.share) bytes wrote_cert in
+    let lines = ap (λ (x : InputsView). judgement_lines x a.demand a.share c.judgement) inputs
+    ∙ (ap (judgement_lines i a.demand a.share) same ∙ same_lines p laws start a.demand asked.aim a.method f s some i a.share) in (
+      c.says ∙ ap accepts same,
       record {
         inputs = i;
         found = f;
         tuning = (m, s, some);
         reported = wrote_report;
-        lines = subst (λ (x : List ℕ). Gets out x) (same.1 ∙ lines) wrote;
+        lines = subst (λ (x : List ℕ). Gets out x) lines c.lines;
       },
     )

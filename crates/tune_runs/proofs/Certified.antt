@@ -17,10 +17,12 @@ use Rattle.tune_cert.proofs.WrittenBack.{written as written_back}
 use Rattle.tune_search.specs.Found.{IsSearch}
 use Rattle.tune_search.specs.declared.method.Method.{Method}
 use Rattle.tune_runs.specs.TuneRun.{Texts, WritesTuning}
+use Rattle.tune_cert.specs.Judgement.{judged}
 use Rattle.tune_cert.specs.Verdict.{IsVerdict, IsRightVerdict}
 use Rattle.tune_runs.specs.CheckRun.{accepts, verdict_line}
 use Rattle.tune_runs.specs.Agreement.{MayFind, written, Checks, Agree}
 use Rattle.tune_runs.specs.Runs.{Writer, Gets}
+use Rattle.tune_runs.proofs.BestTunings.{tuned}
 use Rattle.tune_runs.proofs.Meaning.{one_meaning, made_of}
 use Rattle.tune_runs.proofs.Verdicts.{right_line}
 use Rattle.tune_runs.proofs.Writable.{most_points, writable}
@@ -36,7 +38,7 @@ pub accepted : (t : Texts) (method : Method) (i : InputsView) (f : Found) (v : V
 accepted t method i f v h right = right.accepted (cert_of f) (spelled t method i f h) h.search.valid
 
 -- a verdict that accepts names the optimum
-named : (p : Problem) → IsProblem p → (method : Method) (f : Found) (records : List Fields) (v : Verdict) → IsSearch p method f → accepts v ≡ true → IsVerdict p records v →
+named : (p : Problem) → IsProblem p → (method : Method) (f : Found) (records : List Fields) (v : Verdict) → IsSearch p method f → accepts (judged v) ≡ true → IsVerdict p records v →
     v ≡ Accepted f.best f.total
 named p laws method f records (Accepted best total) s e (c, spells, valid, best_is, total_is) =
     let same : c.best ≡ f.best = optimum_one p c.best f.best (valid_is_optimum p laws c valid) s.optimum in
@@ -54,12 +56,13 @@ line_names t method bytes i f out h check =
     subst (λ (x : Verdict). Gets out (verdict_line None x)) name r.line
 
 pub certified : (t : Texts) (method : Method) (bytes : List ℕ) (report cert out : Writer) → WritesTuning t method report cert → Checks t bytes true out → Agree t method report cert out
-certified t method bytes report cert out (i, f, values, tuning, wrote_cert, wrote_report) check = record {
-  inputs = i;
-  found = f;
-  values = values;
-  tuning = tuning;
-  certified = wrote_cert;
-  reported = wrote_report;
-  accepted = line_names t method bytes i f out (record { means = tuning.0; search = tuning.1 }) check;
-}
+certified t method bytes report cert out tunes check =
+    let h = tuned t method report cert tunes in
+    record {
+      inputs = h.inputs;
+      found = h.found;
+      tuning = h.tuning;
+      certified = h.certified;
+      reported = h.reported;
+      accepted = line_names t method bytes h.inputs h.found out h.tuning check;
+    }

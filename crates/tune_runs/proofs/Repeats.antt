@@ -1,47 +1,34 @@
--- Two tunings of the same texts, and the check of what a tuning wrote.
-use Rattle.std.proofs.Common.{◌≡◌, ℕ, Bool, List, None, true, sym, ◌∙◌, ap, subst}
-use Rattle.tables.specs.Records.{records_of}
+-- Two tunings of the same texts.
+use Rattle.std.proofs.Common.{◌≡◌, ℕ, List, sym, ◌∙◌, ap, subst}
 use Rattle.tune_problem.specs.Inputs.{InputsView}
 use Rattle.tune_problem.specs.Problem.{problem_of}
-use Rattle.tune_problem.specs.Valid.{cert_of}
-use Rattle.tune_cert.specs.CertText.{cert_text}
-use Rattle.tune_cert.specs.Verdict.{IsRightVerdict}
-use Rattle.tune_cert.specs.declared.verdict.Verdict.{Verdict}
-use Rattle.tune_cert.specs.declared.verdict.Verdict.TheVariants.{Accepted}
-use Rattle.tune_search.specs.Found.{IsSearch}
+use Rattle.tune_problem.specs.Ranking.{IsAim, first_of}
+use Rattle.tune_problem.specs.declared.aim.Aim.{Aim}
+use Rattle.tune_cert.specs.CertText.{statement_text, statement_with}
+use Rattle.tune_search.specs.Findings.{IsSearchFor}
+use Rattle.tune_search.specs.declared.findings.Findings.{Findings}
 use Rattle.tune_search.specs.declared.method.Method.{Method}
 use Rattle.tune_search.proofs.OneAnswer.{answer_one}
-use Rattle.tune_runs.specs.TuneRun.{Texts, WritesTuning}
-use Rattle.tune_runs.specs.CheckRun.{accepts, verdict_line}
-use Rattle.tune_runs.specs.Agreement.{TuningBytes, GivesBytes, written, ChecksCert, Agree}
-use Rattle.tune_runs.specs.Runs.{Writer, Gets}
+use Rattle.tune_runs.specs.Report.{report_for, report_text}
+use Rattle.tune_runs.specs.TuneRun.{Texts, answer_of}
+use Rattle.tune_runs.specs.Agreement.{TuningBytes, GivesBytes}
 use Rattle.tune_runs.proofs.Meaning.{one_meaning}
-use Rattle.tune_runs.proofs.Certified.{accepted}
-use Rattle.tune_runs.proofs.Verdicts.{right_line}
 
-pub same_bytes : (t : Texts) (method : Method) (one other : TuningBytes) → GivesBytes t method one → GivesBytes t method other → one ≡ other
-same_bytes t method one other (i, f, values, a, wrote_cert, wrote_report) (j, g, others, b, wrote_cert_too, wrote_report_too) =
-    let inputs : i ≡ j = one_meaning t i j a.0 b.0 in
-    let again : IsSearch (problem_of i) method g = subst (λ (x : InputsView). IsSearch (problem_of x) method g) (sym inputs) b.1 in
-    let found : f ≡ g = answer_one (problem_of i) method f g a.1 again in
-    let named = a.2 in
-    let named_too = b.2 in
-    let same : values ≡ others = cc in
-    let reports : one.report ≡ other.report = cc in
-    let certs : one.cert ≡ other.cert = cc in
-    λ k. record { report = reports k; cert = certs k }
+module _ (aim : Aim) where
+  abbrev cert_text : Findings → List ℕ
+  cert_text f = statement_text (statement_with f.version (answer_of aim.floor (first_of f.ranking)) f.rows)
 
-pub checked : (t : Texts) (method : Method) (says : Bool) (report cert out : Writer) → WritesTuning t method report cert → ChecksCert t cert says out
-    → (says ≡ true) × Agree t method report cert out
-checked t method says report cert out (i, f, values, tuning, wrote_cert, wrote_report) check =
-    let own : check.bytes ≡ cert_text (cert_of f) = subst (λ (w : Writer). Gets w (cert_text (cert_of f))) check.held wrote_cert in
-    let r = right_line t check.bytes says out check.checked in
-    let (j, means, right) = r.right in
-    let same : j ≡ i = one_meaning t j i means tuning.0 in
-    let here : IsRightVerdict (problem_of i) (records_of check.bytes) r.verdict = subst (λ (x : InputsView). IsRightVerdict (problem_of x) (records_of check.bytes) r.verdict) same right in
-    let spelled : IsRightVerdict (problem_of i) (written f) r.verdict = subst (λ (x : List ℕ). IsRightVerdict (problem_of i) (records_of x) r.verdict) own here in
-    let name : r.verdict ≡ Accepted f.best f.total = accepted t method i f r.verdict (record { means = tuning.0; search = tuning.1 }) spelled in
-    let line : Gets out (verdict_line None (Accepted f.best f.total)) = subst (λ (x : Verdict). Gets out (verdict_line None x)) name r.line in (
-      r.says ∙ ap accepts name,
-      record { inputs = i; found = f; values = values; tuning = tuning; certified = wrote_cert; reported = wrote_report; accepted = line },
-    )
+  pub same_bytes : (t : Texts) (method : Method) (one other : TuningBytes) → IsAim aim → GivesBytes t aim method one → GivesBytes t aim method other → one ≡ other
+  same_bytes t method one other is_aim (i, f, (means, s, some), wrote_cert, wrote_report) (j, g, (means_too, r, more), wrote_cert_too, wrote_report_too) =
+      let inputs : i ≡ j = one_meaning t i j means means_too in
+      let again : IsSearchFor (problem_of i) aim method g = subst (λ (x : InputsView). IsSearchFor (problem_of x) aim method g) (sym inputs) r in
+      let found : f ≡ g = answer_one (problem_of i) aim method f g s again is_aim in
+      let cert : one.cert ≡ cert_text f = wrote_cert in
+      let cert_too : other.cert ≡ cert_text g = wrote_cert_too in
+      let report : one.report ≡ report_text (report_for i aim f) = wrote_report in
+      let report_too : other.report ≡ report_text (report_for j aim g) = wrote_report_too in
+      let certs = cert ∙ (ap cert_text found ∙ sym cert_too) in
+      let reports =
+      report
+      ∙ (ap (λ (x : InputsView). report_text (report_for x aim f)) inputs ∙ (ap (λ (x : Findings). report_text (report_for j aim x)) found ∙ sym report_too)) in
+      λ k. record { report = reports k; cert = certs k }

@@ -1,6 +1,6 @@
 -- The faults that the texts of a tuning may have.
 use Rattle.std.proofs.Common.{◌≡◌, ◌⊎◌, ◌+◌, ℕ, Bool, true, false, List, [], ◌∷◌, length, inl, inr, refl, ap, subst, Result, Ok, Err}
-use Rattle.std.specs.Prelude.{None, nat_le}
+use Rattle.std.specs.Prelude.{Option, nat_le}
 use Rattle.rc_instr.specs.Results.{with_fault, and_then, check}
 use Rattle.rc_instr.specs.Rules.{RulesView}
 use Rattle.rc_asm.specs.Assembly.{outcome_of}
@@ -14,10 +14,11 @@ use Rattle.tune_template.specs.declared.fault.TemplateKind.{TemplateKind}
 use Rattle.tune_template.specs.declared.fault.TemplateKind.TheVariants as template
 use Rattle.tune_template.specs.Instances.{TemplateView, setting_count, template_of}
 use Rattle.tune_problem.specs.Limits.{MOST_OPPONENTS}
-use Rattle.tune_problem.specs.Parts.{whole}
+use Rattle.tune_problem.specs.declared.part.Part.{Part}
+use Rattle.tune_cert.specs.declared.demand.Demand.{Demand}
 use Rattle.tune_runs.specs.Runs.{opponent_fault, template_fault, schedule_fault}
 use Rattle.tune_runs.specs.TuneRun.{Texts, opponents_from, is_part, is_text_fault, meaning_of}
-use Rattle.tune_runs.specs.CheckRun.{check_output, verdict_given}
+use Rattle.tune_runs.specs.CheckRun.{check_output}
 use Rattle.tune_runs.specs.declared.fault.RunFault.{RunFault}
 use Rattle.tune_runs.specs.declared.fault.RunFault.TheVariants.{TooManyOpponents, Part as BadPart}
 
@@ -111,9 +112,6 @@ text_fault t e h = elim (went_wrong (check (nat_le (length t.opponents) MOST_OPP
 ]
 
 -- a check has no fault but that of its texts
-pub of_texts : (t : Texts) (cert : List ℕ) (e : RunFault) → check_output t None cert ≡ Err e → meaning_of t ≡ Err e
-unfolding check_output verdict_given
-of_texts t cert e h = elim (went_wrong (verdict_given t whole cert) _ e h) [
-  | inl given ↦ elim (went_wrong (meaning_of t) _ e given) [ inl meant ↦ meant | inr none ↦ absurd (let q = none.2 in cc) ]
-  | inr none ↦ absurd (let q = none.2 in cc)
-]
+pub of_texts : (t : Texts) (demand : Demand) (share : Option Part) (cert : List ℕ) (e : RunFault) → check_output t demand share cert ≡ Err e → meaning_of t ≡ Err e
+unfolding check_output
+of_texts t demand share cert e h = elim (went_wrong (meaning_of t) _ e h) [ inl meant ↦ meant | inr none ↦ absurd (let q = none.2 in cc) ]

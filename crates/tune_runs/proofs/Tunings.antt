@@ -8,6 +8,7 @@ use Rattle.tune_template.specs.Instances.{TemplateView, setting_count, template_
 use Rattle.tune_template.proofs.RangeLaws.{some_setting}
 use Rattle.tune_problem.specs.Parts.{whole, IsPart}
 use Rattle.tune_problem.specs.declared.part.Part.{Part}
+use Rattle.tune_cert.specs.declared.demand.Demand.{Demand}
 use Rattle.tune_runs.specs.Runs.{IsOutOfMemory}
 use Rattle.tune_runs.specs.TuneRun.{Texts, is_part, meaning_of, HasNoCandidate}
 use Rattle.tune_runs.specs.CheckRun.{check_output}
@@ -52,7 +53,7 @@ pub tuning_parted : {X : Type 0} (r : Result X RunFault) (t : Texts) → t.part 
 tuning_parted (Ok x) t is h = tt
 tuning_parted (Err e) t is h = not_part e t is h
 
-pub check_parted : {X : Type 0} (r : Result X RunFault) (t : Texts) (cert : List ℕ) (old new : OutletView) → t.part ≡ whole
-    → IfErr r (λ e. e ≢ Write → (new ≡ old) × ((¬ IsOutOfMemory e) → check_output t None cert ≡ Err e)) → IfErr r (λ e. e ≢ BadPart)
-check_parted (Ok x) t cert old new is h = tt
-check_parted (Err e) t cert old new is h = not_part e t is (λ other known. inl (of_texts t cert e ((h other).1 known)))
+pub check_parted : {X : Type 0} (r : Result X RunFault) (t : Texts) (demand : Demand) (cert : List ℕ) (old new : OutletView) → t.part ≡ whole
+    → IfErr r (λ e. e ≢ Write → (new ≡ old) × ((¬ IsOutOfMemory e) → check_output t demand None cert ≡ Err e)) → IfErr r (λ e. e ≢ BadPart)
+check_parted (Ok x) t demand cert old new is h = tt
+check_parted (Err e) t demand cert old new is h = not_part e t is (λ other known. inl (of_texts t demand None cert e ((h other).1 known)))

@@ -16,7 +16,7 @@ use Rattle.tune_problem.specs.Problem.{Problem, IsProblem}
 use Rattle.tune_problem.specs.Optimum.{total_of, greatest_of}
 use Rattle.tune_problem.specs.Valid.{IsCapRow, IsRightRow, IsOwnVersion, cert_of}
 use Rattle.tune_problem.specs.Below.{IsRowBelow, cert_with}
-use Rattle.tune_problem.specs.Ranking.{first_of}
+use Rattle.tune_problem.specs.Ranking.{best_alone, first_of}
 use Rattle.tune_cert.specs.CertText.{statement_with}
 use Rattle.tune_cert.specs.Spelling.{IsVersion, IsItem, IsRow, IsCert, IsStatement, FitsU32}
 use Rattle.tune_problem.specs.declared.aim.Aim.{Aim}
@@ -27,8 +27,9 @@ use Rattle.tune_problem.specs.declared.cert.Row.TheVariants.{Refused, Same, Cap}
 use Rattle.tune_problem.specs.declared.statement.Statement.{Statement}
 use Rattle.tune_problem.specs.declared.watcher.Best.{Best}
 use Rattle.tune_problem.proofs.CapRows.{total_few}
-use Rattle.tune_search.specs.Found.{IsSearch}
-use Rattle.tune_search.specs.Findings.{IsBestFrom, IsCertified, IsSearchFrom}
+use Rattle.tune_search.specs.Found.{IsSearch, as_findings}
+use Rattle.tune_search.proofs.OneAnswer.{as_search}
+use Rattle.tune_search.specs.Findings.{IsBestFrom, IsCertified, IsSearchFor}
 use Rattle.tune_search.specs.declared.findings.Findings.{Findings}
 use Rattle.tune_search.specs.declared.method.Method.{Method}
 use Rattle.tune_runs.specs.TuneRun.{answer_of}
@@ -68,25 +69,8 @@ module _ (p : Problem) (laws : IsProblem p) (few : p.fights ≤ MOST_FIGHTS) (mo
     row_below floor rows v (Same u) h = omega (arith, h.3, small)
     row_below floor rows v (Cap row) h = items_of h.0 0 row h.2
 
-  module _ (method : Method) (f : Found) (s : IsSearch p method f) where
-    all_rows : length f.rows ≡ p.count
-    all_rows = s.valid.rows_are
-
-    pub writable : IsCert (cert_of f)
-    writable =
-        let few_rows : length f.rows ≤ MOST_SETTINGS = s.work.few in
-        let inside : f.best < p.count = s.valid.best_inside in
-        let total : total_of p s.total_is.0 ≡ f.total = s.total_is.2 in
-        record {
-          version = is_version p f.version s.work.version;
-          count = omega arith;
-          answer = (omega (arith, all_rows), omega (arith, most, total_few p laws s.total_is.0));
-          rows = rows_of f.rows (λ v row at. row_of (omega (arith, all_rows)) (cert_of f) v row (s.valid.right v row at));
-          few = omega arith;
-        }
-
-  -- with an aim, whose floor can be written down
-  module _ (aim : Aim) (fits : FitsU32 aim.floor) (method : Method) (f : Findings) (s : IsSearchFrom p aim method f) where
+  -- the floor can be written down
+  module _ (aim : Aim) (fits : FitsU32 aim.floor) (method : Method) (f : Findings) (s : IsSearchFor p aim method f) where
     abbrev said : Option Best → Statement
     said best = statement_with f.version (answer_of aim.floor best) f.rows
 
@@ -113,3 +97,6 @@ module _ (p : Problem) (laws : IsProblem p) (few : p.fights ≤ MOST_FIGHTS) (mo
 
     pub writable_from : IsStatement (said (first_of f.ranking))
     writable_from = by_best (first_of f.ranking) s.certified s.best
+
+  pub writable : (method : Method) (f : Found) → IsSearch p method f → IsCert (cert_of f)
+  writable method f s = writable_from best_alone (omega arith) method (as_findings f) (as_search p method f s)

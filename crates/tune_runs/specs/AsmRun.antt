@@ -5,7 +5,7 @@ use Rattle.rc_instr.specs.Rules.{RulesView}
 use Rattle.rc_instr.specs.Warrior.{WarriorView}
 use Rattle.rc_instr.specs.LoadText.{load_text}
 use Rattle.rc_asm.specs.Assembly.{outcome_of}
-use Rattle.tune_runs.specs.Runs.{asm_fault, Writes, Writer}
+use Rattle.tune_runs.specs.Runs.{asm_fault}
 use Rattle.tune_runs.specs.declared.fault.RunFault.{RunFault}
 
 -- The warrior to which a text without open constants assembles.
@@ -17,7 +17,3 @@ unfoldable pub asm_output : List ℕ → RulesView → Result (Unit {0} × List 
 asm_output source rules = do
   w ← warrior_of source rules
   Ok (tt, load_text rules.core w)
-
--- The load file was written.
-abbrev pub WritesAsm : List ℕ → RulesView → Writer → Type 0
-WritesAsm source rules out = Writes (asm_output source rules) tt out

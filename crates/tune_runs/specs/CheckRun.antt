@@ -1,4 +1,4 @@
--- What the runs of checks write, or why they refuse.
+-- What a run of a check writes, or why it refuses.
 use Rattle.std.specs.Prelude.{◌≡◌, ◌⊎◌, ℕ, Bool, true, false, List, ◌++◌, codes, Option, Some, None, Result, Ok}
 use Rattle.std.specs.Fmt.{decimal}
 use Rattle.tables.specs.Records.{records_of}
@@ -13,13 +13,13 @@ use Rattle.rc_instr.specs.Results.{◌>>=◌}
 use Rattle.tune_cert.specs.Judgement.{judgement_of}
 use Rattle.tune_cert.specs.declared.demand.Demand.{Demand}
 use Rattle.tune_cert.specs.declared.verdict.Judgement.{Judgement}
-use Rattle.tune_cert.specs.declared.verdict.Judgement.TheVariants.{Accepted as AcceptedFor, Rejected as RejectedFor}
+use Rattle.tune_cert.specs.declared.verdict.Judgement.TheVariants.{Accepted, Rejected}
 use Rattle.tune_runs.specs.Report.{rank_lines, named_ranking}
-use Rattle.tune_cert.specs.Verdict.{verdict_of, IsRightVerdict}
+use Rattle.tune_cert.specs.Verdict.{IsRightVerdict}
 use Rattle.tune_cert.specs.declared.verdict.Reason.{Reason}
 use Rattle.tune_cert.specs.declared.verdict.Reason.TheVariants.{Malformed, RowCount, BestRow, WrongPoints, RepeatedFight, CapTooHigh, NotSame, NotRefused, Version}
 use Rattle.tune_cert.specs.declared.verdict.Verdict.{Verdict}
-use Rattle.tune_cert.specs.declared.verdict.Verdict.TheVariants.{Accepted, Rejected}
+use Rattle.tune_cert.specs.declared.verdict.Verdict.TheVariants.{Accepted as AcceptedCert, Rejected as RejectedCert}
 use Rattle.tune_runs.specs.TuneRun.{Texts, meaning_of, Means, HasNoCandidate}
 use Rattle.tune_runs.specs.Runs.{Writes, Writer}
 use Rattle.tune_runs.specs.declared.fault.RunFault.{RunFault}
@@ -52,22 +52,10 @@ best_text best total = codes " best " ++ decimal best ++ codes " total " ++ deci
 abbrev pub rejected_line : (row : ℕ) → Reason → List ℕ
 rejected_line row reason = codes "rejected row " ++ decimal row ++ codes " " ++ reason_text reason ++ codes "\n"
 
--- The line of a verdict on all rows, or on a share: `accepted_words` and `best_text`, or
--- `rejected_line`.
-abbrev pub verdict_line : Option Part → Verdict → List ℕ
-verdict_line share (Accepted best total) = accepted_words share ++ best_text best total
-verdict_line share (Rejected row reason) = rejected_line row reason
-
-abbrev pub accepts : Verdict → Bool
-accepts (Accepted best total) = true
-accepts (Rejected row reason) = false
-
 -- The share that is meant: all rows, if none is given.
 abbrev pub share_meant : Option Part → Part
 share_meant None = whole
 share_meant (Some share) = share
-
--- ---- checks with a demand
 
 -- ` none below F`, to the end of the line.
 unfoldable pub none_text : ℕ → List ℕ
@@ -81,45 +69,34 @@ answer_text (NoneFrom floor) = none_text floor
 -- The lines of a judgement on all rows, or on a share: `accepted ..` and a line for each setting of
 -- the ranking, or `rejected row R REASON`.
 unfoldable pub judgement_lines : InputsView → Demand → Option Part → Judgement → List ℕ
-judgement_lines i demand share (AcceptedFor answer ranking) = accepted_words share ++ answer_text answer ++ rank_lines 1 (named_ranking i demand.keep ranking)
-judgement_lines i demand share (RejectedFor row reason) = rejected_line row reason
+judgement_lines i demand share (Accepted answer ranking) = accepted_words share ++ answer_text answer ++ rank_lines 1 (named_ranking i demand.keep ranking)
+judgement_lines i demand share (Rejected row reason) = rejected_line row reason
 
-abbrev pub accepts_for : Judgement → Bool
-accepts_for (AcceptedFor answer ranking) = true
-accepts_for (RejectedFor row reason) = false
+abbrev pub accepts : Judgement → Bool
+accepts (Accepted answer ranking) = true
+accepts (Rejected row reason) = false
 
--- The output of `check_for_run`: whether the bytes are accepted, and the lines of the judgement; or
--- the first fault of the texts.
-unfoldable pub check_for_output : Texts → Demand → Option Part → List ℕ → Result (Bool × List ℕ) RunFault
-check_for_output t demand share cert = do
+-- The output of a check: whether the bytes are accepted, and the lines of the judgement; or the
+-- first fault of the texts.
+unfoldable pub check_output : Texts → Demand → Option Part → List ℕ → Result (Bool × List ℕ) RunFault
+check_output t demand share cert = do
   i ← meaning_of t
   Ok (said i (judgement_of (problem_of i) demand (share_meant share) (records_of cert)))
   where
     said : InputsView → Judgement → Bool × List ℕ
-    said i judgement = (accepts_for judgement, judgement_lines i demand share judgement)
+    said i judgement = (accepts judgement, judgement_lines i demand share judgement)
 
 -- The lines were written, and `accepted` says whether the bytes are accepted.
-abbrev pub WritesCheckFor : Texts → Demand → Option Part → List ℕ → Bool → Writer → Type 0
-WritesCheckFor t demand share cert accepted out = Writes (check_for_output t demand share cert) accepted out
+abbrev pub WritesCheck : Texts → Demand → Option Part → List ℕ → Bool → Writer → Type 0
+WritesCheck t demand share cert accepted out = Writes (check_output t demand share cert) accepted out
 
--- ---- checks for the optimum
+-- ---- what is accepted
 
--- The verdict of a share on the bytes, or the first fault of the texts.
-unfoldable pub verdict_given : Texts → Part → List ℕ → Result Verdict RunFault
-verdict_given t share cert = do
-  i ← meaning_of t
-  Ok (verdict_of (problem_of i) share (records_of cert))
-
--- The output of `check_run`, or of `check_share_run` for a share: whether the bytes are accepted,
--- and the line of the verdict; or the first fault of the texts.
-unfoldable pub check_output : Texts → Option Part → List ℕ → Result (Bool × List ℕ) RunFault
-check_output t share cert = do
-  verdict ← verdict_given t (share_meant share) cert
-  Ok (accepts verdict, verdict_line share verdict)
-
--- The line was written, and `accepted` says whether the bytes are accepted.
-abbrev pub WritesCheck : Texts → Option Part → List ℕ → Bool → Writer → Type 0
-WritesCheck t share cert accepted out = Writes (check_output t share cert) accepted out
+-- The line of a verdict on all rows, or on a share: `accepted_words` and `best_text`, or
+-- `rejected_line`. It is the one line of the judgement that is this verdict.
+abbrev pub verdict_line : Option Part → Verdict → List ℕ
+verdict_line share (AcceptedCert best total) = accepted_words share ++ best_text best total
+verdict_line share (RejectedCert row reason) = rejected_line row reason
 
 -- The right verdict on the bytes, for the inputs in the texts.
 abbrev pub HasRightVerdict : Texts → List ℕ → Verdict → Type 0
@@ -127,12 +104,12 @@ HasRightVerdict t cert verdict = (i : InputsView) × Means t i × IsRightVerdict
 
 -- The right verdict on the bytes accepts them, with this best setting and total.
 abbrev pub Accepts : Texts → List ℕ → ℕ → ℕ → Type 0
-Accepts t cert best total = HasRightVerdict t cert (Accepted best total)
+Accepts t cert best total = HasRightVerdict t cert (AcceptedCert best total)
 
 -- A check with this demand accepts these bytes, with this answer.
 abbrev pub AcceptsFor : Texts → Demand → List ℕ → Answer → Type 0
 AcceptsFor t demand cert answer =
-    (i : InputsView) × (ranking : List Best) × Means t i × (judgement_of (problem_of i) demand whole (records_of cert) ≡ AcceptedFor answer ranking)
+    (i : InputsView) × (ranking : List Best) × Means t i × (judgement_of (problem_of i) demand whole (records_of cert) ≡ Accepted answer ranking)
 
 -- There is a demand with which a check accepts these bytes, with this answer.
 abbrev pub IsAccepted : Texts → List ℕ → Answer → Type 0

@@ -9,7 +9,6 @@ use Rattle.tune_problem.specs.Problem.{problem_of}
 use Rattle.tune_problem.specs.Optimum.{greatest_of, candidates_of}
 use Rattle.tune_problem.specs.Ranking.{first_of}
 use Rattle.tune_problem.specs.declared.aim.Aim.{Aim}
-use Rattle.tune_problem.specs.declared.cert.Found.{Found}
 use Rattle.tune_problem.specs.declared.watcher.Best.{Best}
 use Rattle.tune_search.specs.declared.findings.Findings.{Findings}
 
@@ -90,19 +89,6 @@ report_text r =
     ++ of_line (codes "fights ") r.fights r.all_fights
     ++ rank_lines 1 r.ranking
 
--- The report of a search for the best setting alone, which gives the constants these values.
-abbrev pub report_of_best : InputsView → Found → List ℤ → Report
-report_of_best i f values = record {
-  vectors = (problem_of i).count;
-  candidates = candidates_of (problem_of i);
-  best = Some (record { best = record { vector = f.best; total = f.total }; constants = constants_of i.template.ranges.names values });
-  floor = 0;
-  most = greatest_of (problem_of i);
-  fights = f.fights;
-  all_fights = candidates_of (problem_of i) * length i.schedule;
-  ranking = [];
-}
-
 -- The constants with these values, or none if there are no values.
 abbrev pub constants_with : InputsView → Option (List ℤ) → Table
 constants_with i None = []
@@ -121,9 +107,9 @@ abbrev pub named_ranking : InputsView → Option ℕ → List Best → List Name
 named_ranking i None ranking = []
 named_ranking i (Some keep) ranking = if nat_lt 1 keep then map (named_setting i) ranking else []
 
--- The report of what a search with an aim found.
-abbrev pub report_from : InputsView → Aim → Findings → Report
-report_from i aim f = record {
+-- The report of what a search for an aim found.
+abbrev pub report_for : InputsView → Aim → Findings → Report
+report_for i aim f = record {
   vectors = (problem_of i).count;
   candidates = candidates_of (problem_of i);
   best = option_map (named_setting i) (first_of f.ranking);

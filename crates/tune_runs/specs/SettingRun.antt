@@ -7,7 +7,7 @@ use Rattle.rc_instr.specs.LoadText.{load_text}
 use Rattle.tune_template.specs.declared.span.Span.{Span}
 use Rattle.tune_template.specs.Vectors.{start_index}
 use Rattle.tune_template.specs.Instances.{setting_count, template_of, instance_of}
-use Rattle.tune_runs.specs.Runs.{asm_fault, template_fault, Writes, Writer}
+use Rattle.tune_runs.specs.Runs.{asm_fault, template_fault}
 use Rattle.tune_runs.specs.declared.given.WhichSetting.{WhichSetting}
 use Rattle.tune_runs.specs.declared.given.WhichSetting.TheVariants.{Start, Index}
 use Rattle.tune_runs.specs.declared.fault.RunFault.{RunFault}
@@ -35,7 +35,3 @@ abbrev pub setting_output : List ℕ → WhichSetting → RulesView → Result (
 setting_output source which rules = do
   w ← setting_warrior source which rules
   Ok (tt, load_text rules.core w)
-
--- The load file was written.
-abbrev pub WritesSetting : List ℕ → WhichSetting → RulesView → Writer → Type 0
-WritesSetting source which rules out = Writes (setting_output source which rules) tt out

@@ -1,5 +1,5 @@
 -- What the texts of a tuning mean, what its run writes, and why it refuses.
-use Rattle.std.specs.Prelude.{◌≡◌, ◌≢◌, ◌↔◌, ◌⊎◌, ℕ, ◌+◌, ◌<◌, ℤ, Bool, ◌&&◌, nat_le, List, [], ◌∷◌, length, slice_get, Option, Some, None, true, false, Result, Ok, Err, IfErr, OnOk, IsOk, IsErrOf, IsTrue}
+use Rattle.std.specs.Prelude.{◌≡◌, ◌≢◌, ◌↔◌, ◌⊎◌, ℕ, ◌+◌, ◌<◌, Bool, ◌&&◌, nat_le, List, [], ◌∷◌, length, Option, Some, None, true, false, Result, Ok, Err, IfErr, OnOk, IsOk, IsErrOf, IsTrue}
 use Rattle.rc_instr.specs.Results.{with_fault, ◌>>=◌, check}
 use Rattle.rc_instr.specs.Rules.{RulesView}
 use Rattle.rc_instr.specs.Warrior.{WarriorView}
@@ -10,23 +10,21 @@ use Rattle.tune_template.specs.Instances.{setting_count, template_of}
 use Rattle.tune_problem.specs.Limits.{MOST_OPPONENTS}
 use Rattle.tune_problem.specs.declared.part.Part.{Part}
 use Rattle.tune_problem.specs.Parts.{part, whole}
-use Rattle.tune_problem.specs.Inputs.{InputsView, settings_of}
+use Rattle.tune_problem.specs.Inputs.{InputsView}
 use Rattle.tune_problem.specs.Problem.{problem_of}
-use Rattle.tune_cert.specs.CertText.{cert_text, statement_text, statement_with}
-use Rattle.tune_problem.specs.Valid.{cert_of}
-use Rattle.tune_problem.specs.declared.cert.Found.{Found}
-use Rattle.tune_problem.specs.Ranking.{first_of}
+use Rattle.tune_cert.specs.CertText.{statement_text, statement_with}
+use Rattle.tune_problem.specs.Ranking.{best_alone, first_of}
 use Rattle.tune_problem.specs.declared.aim.Aim.{Aim}
 use Rattle.tune_problem.specs.declared.statement.Answer.{Answer}
 use Rattle.tune_problem.specs.declared.statement.Answer.TheVariants.{Best as TheBest, NoneFrom}
 use Rattle.tune_problem.specs.declared.watcher.Best.{Best}
-use Rattle.tune_search.specs.Findings.{IsSearchFrom}
-use Rattle.tune_search.specs.Found.{IsSearch, NoneAssembles}
+use Rattle.tune_search.specs.Findings.{IsSearchFor}
+use Rattle.tune_search.specs.Found.{NoneAssembles}
 use Rattle.tune_search.specs.declared.findings.Findings.{Findings}
 use Rattle.tune_search.specs.declared.method.Method.{Method}
 use Rattle.tune_search.specs.declared.fault.SearchFault.{SearchFault}
 use Rattle.tune_search.specs.declared.fault.SearchFault.TheVariants.{NoCandidate as NoneFound, OutOfMemory as SearchMemory}
-use Rattle.tune_runs.specs.Report.{report_text, report_of_best, report_from}
+use Rattle.tune_runs.specs.Report.{report_text, report_for}
 use Rattle.tune_runs.specs.Runs.{opponent_fault, template_fault, schedule_fault, IsOutOfMemory, Writer, writer, Gets}
 use Rattle.tune_runs.specs.declared.fault.RunFault.{RunFault}
 use Rattle.tune_runs.specs.declared.fault.RunFault.TheVariants.{TooManyOpponents, Template, Opponent, Schedule, NoCandidate, Write, OutOfMemory, Part as BadPart}
@@ -95,27 +93,10 @@ abbrev pub fault_of : SearchFault → RunFault
 fault_of NoneFound = NoCandidate
 fault_of SearchMemory = OutOfMemory
 
--- What a tuning finds: the inputs that the texts mean, what a search by this method finds for these
--- inputs, and the values that its best setting gives the constants.
-abbrev pub IsTuning : Texts → Method → InputsView → Found → List ℤ → Type 0
-IsTuning t method i f values =
-    Means t i × IsSearch (problem_of i) method f × (slice_get (settings_of i) f.best ≡ Some values)
-
--- The certificate and the report of what the tuning finds were written.
-abbrev pub WritesTuning : Texts → Method → (report cert : Writer) → Type 0
-WritesTuning t method report cert =
-    (i : InputsView) × (f : Found) × (values : List ℤ) × IsTuning t method i f values
-    × Gets cert (cert_text (cert_of f)) × Gets report (report_text (report_of_best i f values))
-
--- The report of what the tuning finds was written, and its certificate to some writer.
-abbrev pub WritesOptimum : Texts → Method → (report : Writer) → Type 0
-WritesOptimum t method report =
-    (old : Option (List ℕ)) × (new : Option (List ℕ)) × WritesTuning t method report (record { old = old; new = new })
-
--- What a tuning with an aim finds: the inputs that the texts mean, some of whose settings assemble,
--- and what a search by this method finds for them.
-abbrev pub IsTuningFrom : Texts → Aim → Method → InputsView → Findings → Type 0
-IsTuningFrom t aim method i f = Means t i × IsSearchFrom (problem_of i) aim method f × (0 < f.candidates)
+-- What a tuning finds: the inputs that the texts mean, some of whose settings assemble, and what a
+-- search for this aim by this method finds for them.
+abbrev pub IsTuning : Texts → Aim → Method → InputsView → Findings → Type 0
+IsTuning t aim method i f = Means t i × IsSearchFor (problem_of i) aim method f × (0 < f.candidates)
 
 -- What the certificate of a tuning with this floor says: which setting is the best, or that none
 -- reaches the floor.
@@ -123,12 +104,21 @@ abbrev pub answer_of : (floor : ℕ) → Option Best → Answer
 answer_of floor None = NoneFrom floor
 answer_of floor (Some best) = TheBest best
 
--- The certificate and the report of what such a tuning finds were written.
-abbrev pub WritesTuningFrom : Texts → Aim → Method → (report cert : Writer) → Type 0
-WritesTuningFrom t aim method report cert =
-    (i : InputsView) × (f : Findings) × IsTuningFrom t aim method i f
+-- The certificate and the report of what a tuning finds were written.
+abbrev pub WritesTuningFor : Texts → Aim → Method → (report cert : Writer) → Type 0
+WritesTuningFor t aim method report cert =
+    (i : InputsView) × (f : Findings) × IsTuning t aim method i f
     × Gets cert (statement_text (statement_with f.version (answer_of aim.floor (first_of f.ranking)) f.rows))
-    × Gets report (report_text (report_from i aim f))
+    × Gets report (report_text (report_for i aim f))
+
+-- The certificate and the report of the best setting, whatever its total, were written.
+abbrev pub WritesTuning : Texts → Method → (report cert : Writer) → Type 0
+WritesTuning t method report cert = WritesTuningFor t best_alone method report cert
+
+-- The report of the best setting was written, and its certificate to some writer.
+abbrev pub WritesOptimum : Texts → Method → (report : Writer) → Type 0
+WritesOptimum t method report =
+    (old : Option (List ℕ)) × (new : Option (List ℕ)) × WritesTuning t method report (record { old = old; new = new })
 
 -- How a run of a tuning ends. `Wrote` says what the writers of the report and of the certificate
 -- get from a run that succeeds.

@@ -1,23 +1,25 @@
 //! Laws of tunings and their certificates. A law is a function with an empty body: its contract is
 //! what is proved.
-ghost use Rattle.std.specs.Prelude.{◌≡◌, ◌≤◌, ◌⊎◌, ℕ, Bool, List, None, true, Err, IsTrue};
+ghost use Rattle.std.specs.Prelude.{◌≡◌, ◌≤◌, ◌⊎◌, ℕ, Bool, List, Some, None, true, Err, IsTrue};
 ghost use Rattle.tune_problem.specs.Inputs.{InputsView};
 ghost use Rattle.tune_problem.specs.Parts.{ForEach};
 ghost use Rattle.tune_problem.specs.Problem.{problem_of};
-ghost use Rattle.tune_problem.specs.Ranking.{best_alone};
+ghost use Rattle.tune_problem.specs.Ranking.{IsAim};
 ghost use Rattle.tune_problem.specs.Valid.{cert_of};
 ghost use Rattle.tune_problem.specs.declared.part.Part.{Part};
 ghost use Rattle.tune_problem.specs.declared.watcher.Best.{Best};
+ghost use Rattle.tune_cert.specs.Judgement.{no_demand};
 ghost use Rattle.tune_cert.specs.Spelling.{Spells};
 ghost use Rattle.tune_cert.specs.Verdict.{IsRightVerdict};
-ghost use Rattle.tune_runs.specs.TuneRun.{Texts, of_part, meaning_of, is_text_fault, Means, HasNoCandidate, WritesTuning, WritesTuningFrom};
+ghost use Rattle.tune_runs.specs.TuneRun.{Texts, of_part, meaning_of, is_text_fault, Means, HasNoCandidate, WritesTuning};
 ghost use Rattle.tune_runs.specs.Runs.{Writer, Gets};
-ghost use Rattle.tune_runs.specs.CheckRun.{Accepts, verdict_line};
-ghost use Rattle.tune_runs.specs.Agreement.{filled, TuningBytes, GivesBytes, MayFind, written, Checks, ChecksCert, IsRightLine, Agree, ChecksFor, NamesAnswer, IsBestShown, IsBestOfAll, AreShownBelow, AreAllBelow, ChecksShare, AllAccept, AllName, AcceptsAsWhole};
+ghost use Rattle.tune_runs.specs.CheckRun.{Accepts, AcceptsFor, WritesCheck, verdict_line};
+ghost use Rattle.tune_runs.specs.Agreement.{filled, TuningBytes, GivesBytes, MayFind, written, Checks, IsRightLine, Agree, ChecksFor, NamesAnswer, IsBestShown, IsBestOfAll, AreShownBelow, AreAllBelow, AllAccept, AllName, AcceptsAsWhole};
 ghost use Rattle.tune_runs.specs.AimedRuns.{Asked, IsAsked, TunesAsked, ChecksAsked, AgreeAsked};
 
 use crate::fault::RunFault;
-use tune_cert::{Demand, Found, Verdict};
+use tune_cert::{Answer, Demand, Found, Verdict};
+use tune_problem::Aim;
 use tune_search::Method;
 
 /// States that the texts of a tuning have at most one meaning, and which faults they may have:
@@ -35,16 +37,11 @@ pub fn a_written_certificate_is_accepted()
         → IsRightVerdict (problem_of i) (written f) v → v ≡ Verdict.Accepted f.best f.total }
 {}
 
-/// States that a tuning can be repeated: from empty writers the same texts and the same method give
-/// the same bytes of the report and of the certificate.
+/// States that a tuning can be repeated: from empty writers the same texts, the same aim and the
+/// same method give the same bytes of the report and of the certificate.
 pub fn equal_tunings_write_equal_bytes()
-    ensures { (t : Texts) (method : Method) (one other : TuningBytes) → GivesBytes t method one → GivesBytes t method other → one ≡ other }
-{}
-
-/// States that a tuning that keeps one setting and has the floor 0 writes what `WritesTuning` says:
-/// the certificate and the report of the optimum.
-pub fn a_tuning_without_a_floor_is_a_tuning()
-    ensures { (t : Texts) (method : Method) (report cert : Writer) → WritesTuningFrom t best_alone method report cert → WritesTuning t method report cert }
+    ensures { (t : Texts) (aim : Aim) (method : Method) (one other : TuningBytes) → IsAim aim
+        → GivesBytes t aim method one → GivesBytes t aim method other → one ≡ other }
 {}
 
 /// States that the line of a check is that of the right verdict on the bytes, whoever made them:
@@ -54,18 +51,11 @@ pub fn a_check_writes_the_right_verdict()
     ensures { (t : Texts) (bytes : List ℕ) (accepted : Bool) (out : Writer) → Checks t bytes accepted out → IsRightLine t bytes accepted out }
 {}
 
-/// States that a check of the texts of a tuning accepts the bytes of its certificate, and names the
-/// best setting and the total of its report.
-pub fn a_tuning_is_accepted_by_its_check()
-    ensures { (t : Texts) (method : Method) (accepted : Bool) (report cert out : Writer)
-        → WritesTuning t method report cert → ChecksCert t cert accepted out → IsTrue accepted × Agree t method report cert out }
-{}
-
 /// States that a check accepts the bytes that a tuning wrote with the same `keep` and the same
 /// `floor`, each given to both or to neither. Its lines name the best setting and the total of the
 /// report, or the floor that no setting reaches, and the ranking, if the report has one. So does a
 /// check of any share of the rows.
-pub fn a_tuning_with_an_aim_is_accepted_by_its_check()
+pub fn a_tuning_is_accepted_by_its_check()
     ensures { (a : Asked) (bytes : List ℕ) (accepted : Bool) (report out : Writer) → IsAsked a
         → TunesAsked a report (filled bytes) → ChecksAsked a bytes accepted out → (accepted ≡ true) × AgreeAsked a report out }
 {}
@@ -97,13 +87,18 @@ pub fn accepted_parts_name_the_optimum()
     ensures none { (t : Texts) (parts : ℕ) → 1 ≤ parts → ForEach parts (λ n. HasNoCandidate (of_part t n parts)) → HasNoCandidate (of_part t 1 1) }
 {}
 
-/// States that a check can be shared: if each of `shares` shares of the same bytes, checked for the
-/// same texts, wrote a line of acceptance, then a check of all rows accepts these bytes, and each
-/// line names its best setting and total: the optimum. The other way round, bytes that a check of
-/// all rows accepts are accepted by each share, with the same setting and total.
+/// States that a check can be shared, whatever the demand: if each of `shares` shares of the same
+/// bytes, checked for the same texts, wrote lines of acceptance, then a check of all rows accepts
+/// these bytes, and each first line names its answer. The other way round, bytes that a check of
+/// all rows accepts are accepted by each share, with the same answer. Without a demand the answer
+/// is a best setting with its total: the optimum.
 pub fn accepted_shares_name_the_optimum()
-    ensures optimum { (t : Texts) (shares : ℕ) (bytes : List ℕ) (out : ℕ → Writer) → AllAccept t shares bytes out
-        → (best total : ℕ) × Accepts t bytes best total × AllName shares best total out }
-    ensures each { (t : Texts) (share : Part) (bytes : List ℕ) (accepted : Bool) (out : Writer)
-        → ChecksShare t share bytes accepted out → AcceptsAsWhole t share bytes accepted out }
+    ensures answer { (t : Texts) (demand : Demand) (shares : ℕ) (bytes : List ℕ) (out : ℕ → Writer) → AllAccept t demand shares bytes out
+        → (answer : Answer) × AcceptsFor t demand bytes answer × AllName shares answer out }
+    ensures each { (t : Texts) (demand : Demand) (share : Part) (bytes : List ℕ) (accepted : Bool) (out : Writer)
+        → WritesCheck t demand (Some share) bytes accepted out → AcceptsAsWhole t demand share bytes accepted out }
+
+    // An answer that is accepted without a demand is a best setting, by the right verdict.
+    ensures optimum { (t : Texts) (bytes : List ℕ) (answer : Answer) → AcceptsFor t no_demand bytes answer
+        → (best : Best) × (answer ≡ Answer.Best best) × Accepts t bytes best.vector best.total }
 {}

@@ -11,19 +11,9 @@
 //! | `asm_run`, `setting_run` | a load file: of a Redcode text, or of one setting of a template |
 //! | `settings_run` | the number of a template's settings, and its constants |
 //!
-//! For the best setting alone there are two runs of a tuning and three of a check. One more of each
-//! has a ranking or a floor as well: a tuning has an `Aim`, a check a `Demand`. In names `by` says
-//! that a run takes a method, `from` an aim, `for` a demand. `tune_run` and `check_run` have no
-//! watcher, and `tune_run` no method: it drops settings, and takes only the capacity. With part 1
-//! of 1 the other runs of a tuning, and `check_for_run`, are of all settings too.
-//!
-//! | Run of | The best setting alone | With a ranking or a floor |
-//! |---|---|---|
-//! | a tuning of all settings | `tune_run` | `tune_from_run` |
-//! | a tuning of a part, by a method | `tune_by_run` | `tune_from_run` |
-//! | a check of a tuning of all settings | `check_run` | `check_for_run` |
-//! | a check of a tuning of a part | `check_part_run` | `check_for_run` |
-//! | a check of a share of the rows | `check_share_run` | `check_for_run`, with a share |
+//! A tuning and a check have two runs each. `tune_run` and `check_run` are for the best setting of a
+//! template alone. `tune_for_run` also takes a part, an `Aim`, a `Method` and a watcher, and
+//! `check_for_run` a part, a `Demand`, a share of the rows and a watcher.
 #![tactic(auto)]
 
 mod asm;
@@ -43,7 +33,7 @@ mod settings_text;
 mod tune;
 
 pub use asm::{asm_run, warrior_of};
-pub use check::{check_for_run, check_part_run, check_run, check_share_run};
+pub use check::{check_for_run, check_run};
 pub use duel::duel_run;
 pub use fault::RunFault;
 pub use fight::fight_run;
@@ -51,7 +41,7 @@ pub use given::{DuelTexts, RawRules, TuneTexts, WhichSetting, rules_of};
 pub use inputs::{inputs_of, template_of};
 pub use setting::setting_run;
 pub use settings::settings_run;
-pub use tune::{tune_by_run, tune_from_run, tune_run};
+pub use tune::{tune_for_run, tune_run};
 pub use tune_cert::{Demand, Share};
 pub use tune_problem::{Aim, Best, Inputs, Part, Silent, Standing, Watcher};
 pub use tune_search::Method;

@@ -7,14 +7,14 @@ ghost use Rattle.tune_cert.specs.Shares.{share_part};
 ghost use Rattle.tune_runs.specs.ResultLine.{points_text, result_line};
 ghost use Rattle.mars_core.specs.declared.arena.Outcome.{Outcome};
 ghost use Rattle.tune_cert.specs.declared.verdict.Reason.{Reason};
-ghost use Rattle.tune_runs.specs.CheckRun.{reason_text, best_text, rejected_line, verdict_line, share_words, accepted_words, none_text, answer_text, judgement_lines};
+ghost use Rattle.tune_runs.specs.CheckRun.{reason_text, best_text, rejected_line, share_words, accepted_words, none_text, answer_text, judgement_lines};
 
 use crate::report::add_ranking;
 use itoa::Buffer;
 use mars_core::Outcome;
 use rc_instr::OutOfMemory;
 use std::alloc::Global;
-use tune_cert::{Answer, Demand, Judgement, Reason, Share, Verdict};
+use tune_cert::{Answer, Demand, Judgement, Reason, Share};
 use tune_problem::Inputs;
 
 // Makes the line of an outcome, as in `tie 1 turns 40`.
@@ -28,20 +28,6 @@ pub(crate) fn result_line(alloc: Global, outcome: Outcome) -> Result<Vec<u8>, Ou
     line.extend_from_slice(Buffer::new().format(outcome.turns).as_bytes())?;
     line.extend_from_slice(b"\n")?;
     Ok(line)
-}
-
-// Makes the line of a verdict on all rows, or on a share.
-pub(crate) fn verdict_line(
-    alloc: Global,
-    share: Option<Share>,
-    verdict: Verdict,
-) -> Result<Vec<u8>, OutOfMemory>
-    ensures { IfOk result (λ line. line.items ≡ verdict_line (option_map share_part share) verdict) }
-{
-    match verdict {
-        Verdict::Accepted { best, total } => accepted_line(alloc, share, best, total),
-        Verdict::Rejected { row, reason } => rejected_line(alloc, row, reason),
-    }
 }
 
 // Makes the lines of a judgement on all rows, or on a share.
@@ -146,21 +132,6 @@ fn add_best(line: &mut Vec<u8>, best: u32, total: u32) -> Result<(), OutOfMemory
     line.extend_from_slice(Buffer::new().format(total).as_bytes())?;
     line.extend_from_slice(b"\n")?;
     Ok(())
-}
-
-// Makes the line `accepted best W total T`, or `accepted share I/K best W total T`.
-fn accepted_line(
-    alloc: Global,
-    share: Option<Share>,
-    best: u32,
-    total: u32,
-) -> Result<Vec<u8>, OutOfMemory>
-    ensures { IfOk result (λ line. line.items ≡ accepted_words (option_map share_part share) ++ best_text best total) }
-{
-    let mut line = Vec::new(alloc);
-    add_accepted(&mut line, share)?;
-    add_best(&mut line, best, total)?;
-    Ok(line)
 }
 
 // Makes the line `rejected row R REASON`.

@@ -6,7 +6,7 @@ ghost use Rattle.tune_template.specs.Instances.{constants_of};
 ghost use Rattle.tune_problem.specs.Problem.{problem_of};
 ghost use Rattle.tune_problem.specs.Optimum.{candidates_of, greatest_of};
 ghost use Rattle.tune_cert.specs.Judgement.{AreSettings};
-ghost use Rattle.tune_runs.specs.Report.{number_line, of_line, constant_text, constants_text, constants_or_none, constants_line, best_lines, none_lines, rank_line, rank_lines, named_setting, named_ranking, report_text, report_from, IsSettingOf};
+ghost use Rattle.tune_runs.specs.Report.{number_line, of_line, constant_text, constants_text, constants_or_none, constants_line, best_lines, none_lines, rank_line, rank_lines, named_setting, named_ranking, report_text, report_for, IsSettingOf};
 
 use itoa::Buffer;
 use rc_instr::OutOfMemory;
@@ -25,7 +25,7 @@ pub(crate) fn report_of(
 ) -> Result<Vec<u8>, OutOfMemory>
     requires settings { AreSettings (problem_of inputs.now).count found.now.ranking }
     requires candidates { found.now.candidates ≡ candidates_of (problem_of inputs.now) }
-    ensures { IfOk result (λ text. text.items ≡ report_text (report_from inputs.now aim found.now)) }
+    ensures { IfOk result (λ text. text.items ≡ report_text (report_for inputs.now aim found.now)) }
 {
     let fights = inputs.schedule().fights().len() as u64;
     let mut text = Vec::new(alloc);

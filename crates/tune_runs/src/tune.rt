@@ -8,8 +8,8 @@ ghost use Rattle.tune_cert.specs.Spelling.{IsVersion};
 ghost use Rattle.tune_search.specs.Limits.{MOST_CAPACITY};
 ghost use Rattle.tune_search.specs.Method.{HasCapacity};
 ghost use Rattle.tune_search.specs.Found.{NoneAssembles};
-ghost use Rattle.tune_search.specs.Findings.{IsSearchFrom};
-ghost use Rattle.tune_runs.specs.TuneRun.{answer_of, IsTuneRun, WritesTuning, WritesTuningFrom};
+ghost use Rattle.tune_search.specs.Findings.{IsSearchFor};
+ghost use Rattle.tune_runs.specs.TuneRun.{answer_of, IsTuneRun, WritesTuning, WritesTuningFor};
 ghost use Rattle.tune_runs.specs.Given.{all_given, texts_given};
 
 use crate::fault::RunFault;
@@ -21,7 +21,7 @@ use std::alloc::Global;
 use std::io::Write;
 use tune_cert::{CertFault, Silent, Watcher, write_answer};
 use tune_problem::{Aim, Answer, Best, Inputs, Part};
-use tune_search::{Findings, Method, search_from};
+use tune_search::{Findings, Method, search_for};
 
 /// Finds the optimum of a template, and writes its certificate, then the report.
 ///
@@ -53,8 +53,8 @@ pub fn tune_run<W: Write, V: Write>(
     requires capacity { (1 ≤ capacity) × (capacity ≤ MOST_CAPACITY) }
     requires outlets { (report.old.failed ≡ false) × (cert.old.failed ≡ false) }
 
-    // Both texts are of one `Found` for which `IsSearch` holds: a valid certificate was written,
-    // and the report of its best setting, the optimum. Only texts without a meaning or a candidate
+    // Both texts are of one finding of a search for the best setting alone: a valid certificate was
+    // written, and the report of its best setting, the optimum. Only texts without a meaning or a candidate
     // are refused, and then nothing was written.
     ensures run { let t = all_given template.now opponents.now schedule.now rules.now in
         IsTuneRun t (WritesTuning t (Method.Dropping capacity)) result report.old report.new cert.old cert.new }
@@ -62,7 +62,7 @@ pub fn tune_run<W: Write, V: Write>(
     // Every template has a part 1 of 1.
     ensures whole { IfErr result (λ e. e ≢ RunFault.Part) }
 {
-    tune_by_run(
+    tune_for_run(
         alloc,
         &TuneTexts {
             template,
@@ -71,6 +71,7 @@ pub fn tune_run<W: Write, V: Write>(
             rules,
             part: Part::whole(),
         },
+        Aim { keep: 1, floor: 0 },
         Method::Dropping { capacity },
         &mut Silent,
         report,
@@ -78,57 +79,25 @@ pub fn tune_run<W: Write, V: Write>(
     )
 }
 
-/// Does for one part of a template's settings what `tune_run` does for all of them, by `method`,
-/// and tells `watcher` how far the search is. The certificate and the report count settings from 0
-/// within the part.
+/// Does for one part of a template's settings what `tune_run` does for all of them, with an aim and
+/// by a method: ranks the settings that total `floor` or more, and keeps the first `keep` of them,
+/// 1 to 1000. Tells `watcher` how far the search is.
 ///
-/// By either method the best setting and its total are the same. The capacity, if `method` has one,
-/// is 1 to 65536. Neither outlet may have failed.
+/// The certificate and the report count settings from 0 within the part. If `keep` is above 1, the
+/// report has a line for each kept setting after its six lines: `rank I setting W total T
+/// NAME=value ..`. If no setting totals `floor` F or more, the certificate has the record
+/// `none,-,F` in place of the best setting, and the report the lines `best -`, `constants -` and
+/// `total below F of M`, where M is the greatest total possible.
+///
+/// By either method the settings and their totals are the same. The capacity, if `method` has one,
+/// is 1 to 65536. Neither outlet may have failed. `tune_run` is this run for part 1 of 1 with keep 1
+/// and the floor 0.
 ///
 /// # Errors
 ///
 /// Those of `tune_run`; and `Part`, after `Schedule`, if there is no such part: nothing is written
-/// then.
-#[tactic(auto, using(crate::proofs::BestTunings::is_tuning))]
-pub fn tune_by_run<T: Watcher, W: Write, V: Write>(
-    alloc: Global,
-    given: &TuneTexts<'_>,
-    method: Method,
-    watcher: &mut T,
-    report: &mut Outlet<W>,
-    cert: &mut Outlet<V>,
-) -> Result<(), RunFault>
-    requires capacity { HasCapacity method }
-    requires outlets { (report.old.failed ≡ false) × (cert.old.failed ≡ false) }
-
-    // Both texts are of one `Found` for which `IsSearch` holds, as those of `tune_run`.
-    ensures run { let t = texts_given given.now in
-        IsTuneRun t (WritesTuning t method) result report.old report.new cert.old cert.new }
-{
-    tune_from_run(
-        alloc,
-        given,
-        Aim { keep: 1, floor: 0 },
-        method,
-        watcher,
-        report,
-        cert,
-    )
-}
-
-/// Does what `tune_by_run` does, but with an aim: ranks the settings that total `floor` or more,
-/// and keeps the first `keep` of them, 1 to 1000.
-///
-/// If `keep` is above 1, the report has a line for each kept setting after its six lines: `rank I
-/// setting W total T NAME=value ..`. If no setting totals `floor` F or more, the certificate has
-/// the record `none,-,F` in place of the best setting, and the report the lines `best -`,
-/// `constants -` and `total below F of M`, where M is the greatest total possible. With `keep` 1
-/// and `floor` 0 this is `tune_by_run`.
-///
-/// # Errors
-///
-/// Those of `tune_by_run`. That no setting reaches the floor is not a fault.
-pub fn tune_from_run<T: Watcher, W: Write, V: Write>(
+/// then. That no setting reaches the floor is not a fault.
+pub fn tune_for_run<T: Watcher, W: Write, V: Write>(
     alloc: Global,
     given: &TuneTexts<'_>,
     aim: Aim,
@@ -141,10 +110,10 @@ pub fn tune_from_run<T: Watcher, W: Write, V: Write>(
     requires capacity { HasCapacity method }
     requires outlets { (report.old.failed ≡ false) × (cert.old.failed ≡ false) }
 
-    // Both texts are of one `Findings` for which `IsSearchFrom` holds: a valid certificate was
+    // Both texts are of one `Findings` for which `IsSearchFor` holds: a valid certificate was
     // written, of the best setting or that none reaches the floor, and the report of the ranking.
     ensures run { let t = texts_given given.now in
-        IsTuneRun t (WritesTuningFrom t aim method) result report.old report.new cert.old cert.new }
+        IsTuneRun t (WritesTuningFor t aim method) result report.old report.new cert.old cert.new }
 {
     let inputs = inputs_of(alloc, given)?;
     let found = find(alloc, &inputs, aim, method, watcher)?;
@@ -162,11 +131,11 @@ fn find<T: Watcher>(
 ) -> Result<Findings, RunFault>
     requires aim { IsAim aim }
     requires capacity { HasCapacity method }
-    ensures found { IfOk result (λ f. IsSearchFrom (problem_of inputs.now) aim method f × (0 < f.candidates)) }
+    ensures found { IfOk result (λ f. IsSearchFor (problem_of inputs.now) aim method f × (0 < f.candidates)) }
     ensures none { IfErr result (λ e. (e ≡ RunFault.OutOfMemory) ⊎ ((e ≡ RunFault.NoCandidate) × NoneAssembles (problem_of inputs.now))) }
 {
     watcher.begin(inputs);
-    let searched = search_from(alloc, inputs, aim, method, watcher);
+    let searched = search_for(alloc, inputs, aim, method, watcher);
     watcher.end();
     Ok(searched?)
 }

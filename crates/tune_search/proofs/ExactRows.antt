@@ -18,7 +18,7 @@ use Rattle.tune_problem.proofs.Certificates.{some_is}
 use Rattle.tune_problem.proofs.ListedRanks.{listed_is_cap, up_to}
 use Rattle.tune_search.specs.Visits.{IsFought, visits_before, ranking_after}
 use Rattle.tune_search.specs.Sharing.{HasRowOf}
-use Rattle.tune_search.specs.Findings.{IsCertified, IsFull, IsSearchFrom}
+use Rattle.tune_search.specs.Findings.{IsCertified, IsFull, IsSearchFor}
 use Rattle.tune_search.specs.declared.findings.Findings.{Findings}
 use Rattle.tune_search.specs.declared.method.Method.{Method}
 use Rattle.tune_search.proofs.FoughtCaps.{fought_row, later_cases, own_cases}
@@ -57,7 +57,7 @@ has_row rows v fights e = by_row (slice_get rows v) refl
     by_row None at = let nothing : None ≡ Some fights = sym (ap (option_and_then (listed_for rows)) at) ∙ e in absurd (cc)
     by_row (Some row) at = slice_get_within rows v row at
 
-module _ (p : Problem) (laws : IsProblem p) (aim : Aim) (is_aim : IsAim aim) (start : p.start < p.count) (method : Method) (f : Findings) (s : IsSearchFrom p aim method f) where
+module _ (p : Problem) (laws : IsProblem p) (aim : Aim) (is_aim : IsAim aim) (start : p.start < p.count) (method : Method) (f : Findings) (s : IsSearchFor p aim method f) where
   rows_are : length f.rows ≡ p.count
   rows_are = by_best (first_of f.ranking) s.certified
     where

@@ -20,7 +20,7 @@ use Rattle.tune_search.specs.Ranking.{IsRankingBy}
 use Rattle.tune_search.specs.Sharing.{HasRowOf, IsExplained, IsVisited}
 use Rattle.tune_search.specs.Found.{IsSearch, IsWorkOf, is_cap, is_copied}
 use Rattle.tune_problem.specs.Below.{IsRowBelow, cert_with}
-use Rattle.tune_search.specs.Findings.{IsBestFrom, IsCertified, IsSearchFrom, found_of}
+use Rattle.tune_search.specs.Findings.{IsBestFrom, IsCertified, IsSearchFor, found_of}
 use Rattle.tune_search.specs.declared.findings.Findings.{Findings}
 use Rattle.tune_search.specs.State.{HasCopied, IsUnderWay, IsWhole, Progress, is_filled}
 use Rattle.tune_problem.specs.declared.watcher.Best.{Best}
@@ -305,9 +305,11 @@ module _ (p : Problem) (laws : IsProblem p) (start : p.start < p.count) (rules :
       let refused : p.warrior v ≡ None = none_is (p.warrior v) (ap (λ u. is_some (p.warrior u)) (sym at) ∙ none_passes (λ u. is_some (p.warrior u)) 0 p.count v none l) in
       absurd (cc)
 
+  abbrev found_with : (version : ℕ) → Findings
+  found_with version = record { version = version; ranking = g.ranking; rows = g.rows; fights = g.fights; candidates = g.candidates; copied = g.copied }
+
   -- the rows and the counts are those of the method
-  worked : (version : ℕ) → IsOwnVersion p version → p.count ≤ MOST_SETTINGS →
-      IsWorkOf p aim method (record { version = version; rows = g.rows; copied = g.copied; fights = g.fights; candidates = g.candidates })
+  worked : (version : ℕ) → IsOwnVersion p version → p.count ≤ MOST_SETTINGS → IsWorkOf p aim method (found_with version)
   worked version own few =
       let all : length g.rows ≡ p.count = s.rows_are in
       record {
@@ -326,8 +328,7 @@ module _ (p : Problem) (laws : IsProblem p) (start : p.start < p.count) (rules :
       }
 
   -- what was found is what a search promises
-  pub finds : (version : ℕ) → IsOwnVersion p version → p.count ≤ MOST_SETTINGS →
-      IsSearchFrom p aim method (record { version = version; ranking = g.ranking; rows = g.rows; fights = g.fights; candidates = g.candidates; copied = g.copied })
+  pub finds : (version : ℕ) → IsOwnVersion p version → p.count ≤ MOST_SETTINGS → IsSearchFor p aim method (found_with version)
   finds version own few =
       let right_ranking : IsRankingBy p aim p.count g.ranking = is_ranking p laws start aim is_aim g.rows g.ranking s.ranking_is in
       record {
@@ -340,12 +341,21 @@ module _ (p : Problem) (laws : IsProblem p) (start : p.start < p.count) (rules :
       }
 
 -- without a floor
-pub as_found : (p : Problem) (method : Method) (f : Findings) (best : Best) → first_of f.ranking ≡ Some best → IsSearchFrom p best_alone method f → IsSearch p method (found_of f best)
+pub as_found : (p : Problem) (method : Method) (f : Findings) (best : Best) → first_of f.ranking ≡ Some best → IsSearchFor p best_alone method f → IsSearch p method (found_of f best)
 as_found p method f best is s =
     let found : IsBestFrom p 0 (Some best) = subst (IsBestFrom p 0) is s.best in
     record {
       optimum = found.0.0;
       total_is = found.0.1;
       valid = subst (IsCertified p 0 f.version f.rows) is s.certified;
-      work = s.work;
+      work = record {
+        version = s.work.version;
+        count = s.work.count;
+        few = s.work.few;
+        refused = s.work.refused;
+        fought = s.work.fought;
+        shared = s.work.shared;
+        copied = s.work.copied;
+        fights = s.work.fights;
+      };
     }

@@ -18,12 +18,12 @@ pub mod FoughtVisits
 pub mod Unique
 pub mod Finish
 pub mod Apart
+pub mod OneRanking
 pub mod OneAnswer
 pub mod Counted
 pub mod Floors
 pub mod Rankings
 pub mod FoughtCaps
 pub mod PlayingAll
-pub mod OneRanking
 pub mod ShownRanks
 pub mod ExactRows

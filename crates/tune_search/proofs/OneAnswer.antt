@@ -1,4 +1,4 @@
--- The inputs and the capacity determine what a search finds.
+-- The inputs, the aim and the method determine what a search finds.
 use Rattle.std.proofs.Common.{◌≡◌, ℕ, suc, ◌+◌, ◌<◌, ◌≤◌, arith, Bool, true, false, List, [], ◌∷◌, ◌++◌, Option, Some, None, length, take, refl, sym, ◌∙◌, ap, ◌⊎◌, inl, inr, subst}
 use Rattle.std.specs.List.{slice_get, AllByRecursion}
 use Rattle.std.specs.List.Sorted.{IsPermutation}
@@ -8,18 +8,28 @@ use Rattle.rc_instr.specs.Warrior.{WarriorView}
 use Rattle.tune_problem.specs.Problem.{Problem}
 use Rattle.tune_problem.specs.Valid.{IsCapRow, IsOwnVersion, listed_fights}
 use Rattle.tune_problem.specs.declared.cert.Found.{Found}
+use Rattle.tune_problem.specs.declared.cert.Row.{Row}
 use Rattle.tune_problem.specs.declared.cert.Row.TheVariants.{Cap}
-use Rattle.tune_problem.proofs.Certificates.{optimum_one, some_is, total_one}
+use Rattle.tune_problem.specs.Optimum.{total_of}
+use Rattle.std.specs.Option.{option_map}
+use Rattle.std.specs.Prelude.{nat_le}
+use Rattle.std.proofs.lemmas.Bool.{and_right}
+use Rattle.tune_problem.proofs.Certificates.{not_beats, optimum_one, some_is, total_one}
 use Rattle.tune_search.specs.Plays.{played}
 use Rattle.tune_search.specs.Order.{aim_at, enough, fight_order}
 use Rattle.tune_search.specs.Visits.{visits_before, ranking_before, IsFought}
 use Rattle.tune_search.specs.Recent.{OneHas, NoneHas}
 use Rattle.tune_search.specs.Method.{capacity_of}
 use Rattle.tune_search.specs.Sharing.{HasRowOf, Shares, copies}
-use Rattle.tune_search.specs.Found.{IsSearch, copied_fights}
+use Rattle.tune_search.specs.Found.{IsSearch, as_findings, copied_fights}
+use Rattle.tune_search.specs.Findings.{IsCertified, IsSearchFor, found_of}
+use Rattle.tune_search.specs.declared.findings.Findings.{Findings}
 use Rattle.tune_search.proofs.Unique.{apart_recent, none_of, recent_one, split_one, Apart}
 use Rattle.tune_search.specs.declared.method.Method.{Method}
-use Rattle.tune_problem.specs.Ranking.{best_alone, first_of}
+use Rattle.tune_problem.specs.Ranking.{Any, IsAim, IsRanking, best_alone, contends, first_of}
+use Rattle.tune_problem.specs.declared.aim.Aim.{Aim}
+use Rattle.tune_problem.specs.declared.watcher.Best.{Best}
+use Rattle.tune_search.proofs.OneRanking.{one_ranking}
 
 abbrev Entry : Type 0
 Entry = ℕ × ℕ
@@ -103,14 +113,25 @@ version_one p m n a b = elim a [
   | inr x ↦ elim b [ inl y ↦ absurd (x.1 y.1) | inr y ↦ x.0 ∙ sym y.0 ]
 ]
 
-module _ (p : Problem) (method : Method) (f g : Found) (s : IsSearch p method f) (t : IsSearch p method g) where
-  fought_same : (v : ℕ) (w : WarriorView) → IsFought p best_alone method f.rows v w → IsFought p best_alone method g.rows v w → slice_get f.rows v ≡ slice_get g.rows v
+-- the rows of a search, whichever answer they certify
+module _ (p : Problem) (floor version : ℕ) (rows : List Row) where
+  rows_count : (best : Option Best) → IsCertified p floor version rows best → length rows ≡ p.count
+  rows_count None h = h.rows_are
+  rows_count (Some best) h = h.rows_are
+
+  cap_row_at : (best : Option Best) → IsCertified p floor version rows best → (v : ℕ) (row : List Entry) → slice_get rows v ≡ Some (Cap row)
+      → (w : WarriorView) × (p.warrior v ≡ Some w) × IsCapRow p w 0 row
+  cap_row_at None h v row at = let x = h.right v (Cap row) at in (x.0, x.1, x.2)
+  cap_row_at (Some best) h v row at = let x = h.right v (Cap row) at in (x.0, x.1, x.2)
+
+module _ (p : Problem) (aim : Aim) (method : Method) (f g : Findings) (s : IsSearchFor p aim method f) (t : IsSearchFor p aim method g) where
+  fought_same : (v : ℕ) (w : WarriorView) → IsFought p aim method f.rows v w → IsFought p aim method g.rows v w → slice_get f.rows v ≡ slice_get g.rows v
   fought_same v w a b =
       let order = fight_order p v in
-      let fights : IsPermutation (played p w (take (enough p method (aim_at p best_alone v) w order v (ranking_before p best_alone v)) order)) a.row = a.listed.same in
+      let fights : IsPermutation (played p w (take (enough p method (aim_at p aim v) w order v (ranking_before p aim v)) order)) a.row = a.listed.same in
       let moved : IsPermutation a.row b.row = IsPermutation-trans _ _ _ (IsPermutation-sym _ _ fights) b.listed.same in
-      let x = s.valid.right v (Cap a.row) a.at in
-      let y = t.valid.right v (Cap b.row) b.at in
+      let x = cap_row_at p aim.floor f.version f.rows (first_of f.ranking) s.certified v a.row a.at in
+      let y = cap_row_at p aim.floor g.version g.rows (first_of g.ranking) t.certified v b.row b.at in
       let rises : IsCapRow p y.0 0 a.row = subst (λ (z : WarriorView). IsCapRow p z 0 a.row) (some_is _ _ (sym x.1 ∙ y.1)) x.2 in
       let one : a.row ≡ b.row = row_one p y.0 0 0 a.row b.row rises y.2 (inside_moved b.row a.row (IsPermutation-sym _ _ moved)) (inside_moved a.row b.row moved) in
       a.at ∙ ap (λ r. Some (Cap r)) one ∙ sym b.at
@@ -125,9 +146,9 @@ module _ (p : Problem) (method : Method) (f g : Found) (s : IsSearch p method f)
   row_same u v true same x y = record { row = x.1 ∙ same ∙ sym y.1; there = λ e. y.0; back = λ e. x.0 }
   row_same u v false same x y = record { row = x.1 ∙ sym y.1; there = λ e. absurd (x.0 e); back = λ e. absurd (y.0 e) }
 
-  shared_same : (u v : ℕ) (w : WarriorView) → Shares p best_alone method f.rows f.copied u v w → Shares p best_alone method g.rows g.copied u v w → Alike v
+  shared_same : (u v : ℕ) (w : WarriorView) → Shares p aim method f.rows f.copied u v w → Shares p aim method g.rows g.copied u v w → Alike v
   shared_same u v w a b =
-      row_same u v (copies p.start u v (first_of (ranking_before p best_alone v))) (fought_same u w a.fought b.fought) a.row b.row
+      row_same u v (copies p.start u v (first_of (ranking_before p aim v))) (fought_same u w a.fought b.fought) a.row b.row
 
   never_both : (w : WarriorView) (u : ℕ) (us : List ℕ) → OneHas p w u us → NoneHas p w us → ⊥
   never_both w u us h none = none_of p w u h.front h.back (subst (NoneHas p w) h.split none) h.alike
@@ -153,7 +174,7 @@ module _ (p : Problem) (method : Method) (f g : Found) (s : IsSearch p method f)
               let apart : Apart p (x.1.front ++ x.0 ∷ x.1.back) = subst (Apart p) x.1.split (apart_recent p (capacity_of method) (visits_before p.start v) a.recent a.is_recent) in
               let both : x.1.front ++ x.0 ∷ x.1.back ≡ y.1.front ++ y.0 ∷ y.1.back = sym x.1.split ∙ same ∙ y.1.split in
               let one : x.0 ≡ y.0 = (split_one p w x.0 y.0 x.1.back y.1.back x.1.front y.1.front x.1.alike y.1.alike apart both).0 in
-              shared_same y.0 v w (subst (λ (u : ℕ). Shares p best_alone method f.rows f.copied u v w) one x.2) y.2
+              shared_same y.0 v w (subst (λ (u : ℕ). Shares p aim method f.rows f.copied u v w) one x.2) y.2
         ]
       ]
 
@@ -161,7 +182,10 @@ module _ (p : Problem) (method : Method) (f g : Found) (s : IsSearch p method f)
   alike v l = alike_by v (p.warrior v) l refl
 
   rows_same : f.rows ≡ g.rows
-  rows_same = same_lists f.rows g.rows (s.valid.rows_are ∙ sym t.valid.rows_are) (λ k l. (alike k (subst (λ (n : ℕ). k < n) s.valid.rows_are l)).row)
+  rows_same =
+      let many = rows_count p aim.floor f.version f.rows (first_of f.ranking) s.certified in
+      let as_many = rows_count p aim.floor g.version g.rows (first_of g.ranking) t.certified in
+      same_lists f.rows g.rows (many ∙ sym as_many) (λ k l. (alike k (subst (λ (n : ℕ). k < n) many l)).row)
 
   copied_same : f.copied ≡ g.copied
   copied_same = same_options f.copied g.copied (λ v e. (alike v (s.work.copied v e).0).there e) (λ v e. (alike v (t.work.copied v e).0).back e)
@@ -174,13 +198,59 @@ module _ (p : Problem) (method : Method) (f g : Found) (s : IsSearch p method f)
       let other : g.fights + copied_fights g.rows g.copied ≡ listed_fights g.rows = t.work.fights in
       omega (arith, one, other, copied, listed)
 
-  pub answer_one : f ≡ g
-  answer_one =
-      let best : f.best ≡ g.best = optimum_one p f.best g.best s.optimum t.optimum in
-      let total : f.total ≡ g.total = total_one p f.best g.best f.total g.total best s.total_is t.total_is in
+  pub answer_one : IsAim aim → f ≡ g
+  answer_one is_aim =
+      let ranking : f.ranking ≡ g.ranking = one_ranking p aim is_aim Any f.ranking g.ranking s.ranking t.ranking in
       let version : f.version ≡ g.version = version_one p f.version g.version s.work.version t.work.version in
       let candidates : f.candidates ≡ g.candidates = s.work.count ∙ sym t.work.count in
-      λ i. record { version = version i; best = best i; total = total i; rows = rows_same i; fights = fights_same i; candidates = candidates i; copied = copied_same i }
+      λ i. record { version = version i; ranking = ranking i; rows = rows_same i; fights = fights_same i; candidates = candidates i; copied = copied_same i }
+
+-- ---- for the best setting alone
+
+-- the optimum alone is the first of the ranking
+alone_ranks : (p : Problem) (method : Method) (f : Found) → IsSearch p method f → IsRanking p best_alone Any (as_findings f).ranking
+alone_ranks p method f s = record {
+  few = omega arith;
+  members = (
+    record {
+      warrior = s.total_is.0;
+      inside = s.optimum.inside;
+      is_among = tt;
+      candidate = s.total_is.1;
+      scores = s.total_is.2;
+      reaches = omega arith;
+    },
+    tt,
+  );
+  order = (tt, tt);
+  others = λ v w inside among is. inr (behind v w inside is);
+}
+  where
+    behind : (v : ℕ) (w : WarriorView) → v < p.count → p.warrior v ≡ Some w → contends best_alone (total_of p w) v (as_findings f).ranking ≡ false
+    behind v w inside is =
+        let same : s.optimum.warrior ≡ s.total_is.0 = some_is _ _ (sym s.optimum.candidate ∙ s.total_is.1) in
+        let best : total_of p s.optimum.warrior ≡ f.total = ap (total_of p) same ∙ s.total_is.2 in
+        and_right (nat_le 0 (total_of p w)) _ (not_beats (total_of p w) v f.total f.best (record {
+          no_more = let le = s.optimum.greatest v w inside is in omega (arith, le, best);
+          later = λ even. s.optimum.first v w inside is (even ∙ sym best);
+        }))
+
+pub as_search : (p : Problem) (method : Method) (f : Found) → IsSearch p method f → IsSearchFor p best_alone method (as_findings f)
+as_search p method f s = record {
+  ranking = alone_ranks p method f s;
+  full = ((f.best, s.valid.best_row, s.valid.best_at, s.valid.whole, inl refl), tt);
+  best = ((s.optimum, s.total_is), omega arith);
+  certified = s.valid;
+  work = s.work;
+}
+
+-- the best setting of findings, if one is ranked
+abbrev first_found : Findings → Option Found
+first_found f = option_map (found_of f) (first_of f.ranking)
+
+pub found_one : (p : Problem) (method : Method) (f g : Found) → IsSearch p method f → IsSearch p method g → f ≡ g
+found_one p method f g s t =
+    some_is f g (ap first_found (answer_one p best_alone method (as_findings f) (as_findings g) (as_search p method f s) (as_search p method g t) (omega arith, omega arith)))
 
 -- searches by any two methods find the optimum, and there is one
 pub one_optimum : (p : Problem) (one other : Method) (f g : Found) → IsSearch p one f → IsSearch p other g

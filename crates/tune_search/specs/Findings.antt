@@ -11,7 +11,7 @@ use Rattle.tune_problem.specs.declared.watcher.Best.{Best}
 use Rattle.tune_problem.specs.Ranking.{IsRanking, Any, first_of}
 use Rattle.tune_problem.specs.Below.{AllBelow, IsValidBelow, cert_with}
 use Rattle.tune_problem.specs.declared.aim.Aim.{Aim}
-use Rattle.tune_search.specs.Found.{IsWorkOf, Work}
+use Rattle.tune_search.specs.Found.{IsWorkOf}
 use Rattle.tune_search.specs.declared.findings.Findings.{Findings}
 use Rattle.tune_search.specs.declared.method.Method.{Method}
 
@@ -48,12 +48,8 @@ abbrev pub IsFull : Problem → List Row → Best → Type 0
 IsFull p rows best = (u : ℕ) × (row : List (ℕ × ℕ)) × (slice_get rows u ≡ Some (Cap row)) × (length row ≡ p.fights)
     × ((u ≡ best.vector) ⊎ (slice_get rows best.vector ≡ Some (Same u)))
 
--- The work of a search, by its findings.
-abbrev pub work_from : Findings → Work
-work_from f = record { version = f.version; rows = f.rows; copied = f.copied; fights = f.fights; candidates = f.candidates }
-
 -- What a search by a method finds if it is asked for the first of the ranking.
-pub record IsSearchFrom (p : Problem) (aim : Aim) (method : Method) (f : Findings) : Type 0 where
+pub record IsSearchFor (p : Problem) (aim : Aim) (method : Method) (f : Findings) : Type 0 where
   -- the ranking has the first of all settings that reach the floor, as many as the aim keeps
   pub ranking : IsRanking p aim Any f.ranking
   -- each of them has a row with every fight, or one that refers to such a row
@@ -63,4 +59,4 @@ pub record IsSearchFrom (p : Problem) (aim : Aim) (method : Method) (f : Finding
   -- the rows are a valid certificate of it, or that no candidate reaches the floor
   pub certified : IsCertified p aim.floor f.version f.rows (first_of f.ranking)
   -- the rows and the counts are those of a search by the method for this aim
-  pub work : IsWorkOf p aim method (work_from f)
+  pub work : IsWorkOf p aim method f

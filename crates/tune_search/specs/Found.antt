@@ -1,5 +1,5 @@
--- What a search finds, and the work that it does for it.
-use Rattle.std.specs.Prelude.{◌≡◌, ◌≢◌, ℕ, ◌+◌, ◌<◌, ◌≤◌, Bool, true, false, not, ◌&&◌, ◌==◌, List, length, slice_get, Option, Some, None}
+-- What a search finds for the best setting alone, and the work that any search does.
+use Rattle.std.specs.Prelude.{◌≡◌, ◌≢◌, ℕ, ◌+◌, ◌<◌, ◌≤◌, Bool, true, false, not, ◌&&◌, ◌==◌, List, [], ◌∷◌, length, slice_get, Option, Some, None}
 use Rattle.std.specs.List.{count_by, range_with_len}
 use Rattle.rc_instr.specs.Warrior.{WarriorView}
 use Rattle.tune_template.specs.Limits.{MOST_SETTINGS}
@@ -13,6 +13,7 @@ use Rattle.tune_search.specs.Visits.{IsFought}
 use Rattle.tune_search.specs.Sharing.{IsVisited}
 use Rattle.tune_search.specs.declared.fault.SearchFault.{SearchFault}
 use Rattle.tune_search.specs.declared.fault.SearchFault.TheVariants.{NoCandidate}
+use Rattle.tune_search.specs.declared.findings.Findings.{Findings}
 use Rattle.tune_search.specs.declared.method.Method.{Method}
 use Rattle.tune_problem.specs.Ranking.{best_alone}
 use Rattle.tune_problem.specs.declared.aim.Aim.{Aim}
@@ -58,37 +59,34 @@ NoneAssembles p = (v : ℕ) → v < p.count → IsCandidate p v → ⊥
 abbrev pub IsRefused : Problem → SearchFault → Type 0
 IsRefused p fault = fault ≡ NoCandidate → NoneAssembles p
 
--- What a search returns beside the ranking or the best setting: the version of the certificate, a
--- row for each setting, the setting with the copied row, and the numbers of fights played and of
--- candidates.
-pub record Work : Type 0 where
-  pub version : ℕ
-  pub rows : List Row
-  pub copied : Option ℕ
-  pub fights : ℕ
-  pub candidates : ℕ
-
--- The work of a search, by what it found.
-abbrev pub work_of : Found → Work
-work_of f = record { version = f.version; rows = f.rows; copied = f.copied; fights = f.fights; candidates = f.candidates }
+-- What was found as findings, which rank the best setting alone.
+abbrev pub as_findings : Found → Findings
+as_findings f = record {
+  version = f.version;
+  ranking = record { vector = f.best; total = f.total } ∷ [];
+  rows = f.rows;
+  fights = f.fights;
+  candidates = f.candidates;
+  copied = f.copied;
+}
 
 -- The rows and the counts of a search by a method, for an aim.
-pub record IsWorkOf (p : Problem) (aim : Aim) (method : Method) (work : Work) : Type 0 where
+pub record IsWorkOf (p : Problem) (aim : Aim) (method : Method) (f : Findings) : Type 0 where
   -- the version is 1 exactly if every fight counts once
-  pub version : IsOwnVersion p work.version
-  pub count : work.candidates ≡ candidates_of p
-  pub few : length work.rows ≤ MOST_SETTINGS
+  pub version : IsOwnVersion p f.version
+  pub count : f.candidates ≡ candidates_of p
+  pub few : length f.rows ≤ MOST_SETTINGS
   -- a setting that does not assemble has the row `Refused`
-  pub refused : (v : ℕ) → v < p.count → p.warrior v ≡ None → slice_get work.rows v ≡ Some Refused
+  pub refused : (v : ℕ) → v < p.count → p.warrior v ≡ None → slice_get f.rows v ≡ Some Refused
   -- the fights of a fought setting are the first ones of its order, exactly as many as are enough
-  pub fought : (v : ℕ) (w : WarriorView) → v < p.count → p.warrior v ≡ Some w → is_fought work.rows work.copied v ≡ true → IsFought p aim method work.rows v w
+  pub fought : (v : ℕ) (w : WarriorView) → v < p.count → p.warrior v ≡ Some w → is_fought f.rows f.copied v ≡ true → IsFought p aim method f.rows v w
   -- a setting is fought exactly if none of the settings that are recent at its visit has its
   -- warrior; otherwise it shares the fights of the one that has it
-  pub shared : (v : ℕ) (w : WarriorView) → v < p.count → p.warrior v ≡ Some w → IsVisited p aim method work.rows work.copied v w
+  pub shared : (v : ℕ) (w : WarriorView) → v < p.count → p.warrior v ≡ Some w → IsVisited p aim method f.rows f.copied v w
   -- the setting with the copied row assembles; `shared` says whose row it copies
-  pub copied : (v : ℕ) → work.copied ≡ Some v → (v < p.count) × (p.warrior v ≢ None)
+  pub copied : (v : ℕ) → f.copied ≡ Some v → (v < p.count) × (p.warrior v ≢ None)
   -- every listed fight was played once, except those of the copied row
-  pub fights : work.fights + copied_fights work.rows work.copied ≡ listed_fights work.rows
+  pub fights : f.fights + copied_fights f.rows f.copied ≡ listed_fights f.rows
 
 -- What a search by a method finds if it is asked for the best setting.
 pub record IsSearch (p : Problem) (method : Method) (f : Found) : Type 0 where
@@ -97,4 +95,4 @@ pub record IsSearch (p : Problem) (method : Method) (f : Found) : Type 0 where
   pub total_is : HasTotal p f.best f.total
   pub valid : IsValid p (cert_of f)
   -- the rows and the counts are those of a search by the method for the best setting alone
-  pub work : IsWorkOf p best_alone method (work_of f)
+  pub work : IsWorkOf p best_alone method (as_findings f)

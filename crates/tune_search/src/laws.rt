@@ -1,5 +1,5 @@
 //! Laws of the search. A law is a function with an empty body: its contract is what is proved.
-ghost use Rattle.std.specs.Prelude.{◌≡◌, ◌<◌, ◌≤◌, ◌*◌, ℕ, List, Option, Some, None};
+ghost use Rattle.std.specs.Prelude.{◌≡◌, ◌<◌, ◌≤◌, ◌*◌, ℕ, List, None};
 ghost use Rattle.rc_instr.specs.Warrior.{WarriorView};
 ghost use Rattle.tune_problem.specs.Problem.{Problem, IsProblem};
 ghost use Rattle.tune_search.specs.Recent.{IsRecent};
@@ -7,16 +7,16 @@ ghost use Rattle.tune_search.specs.Method.{capacity_of};
 ghost use Rattle.tune_search.specs.Plays.{rows_of};
 ghost use Rattle.tune_search.specs.Visits.{ranking_after};
 ghost use Rattle.tune_search.specs.Ranking.{IsRankingBy};
-ghost use Rattle.tune_search.specs.Found.{IsSearch, NoneAssembles, HasFought, fought_count};
-ghost use Rattle.tune_search.specs.Findings.{IsSearchFrom, best_from, found_of};
-ghost use Rattle.tune_problem.specs.Ranking.{IsAim, best_alone, first_of};
+ghost use Rattle.tune_search.specs.Found.{IsSearch, HasFought, fought_count};
+ghost use Rattle.tune_search.specs.Findings.{IsSearchFor, best_from};
+ghost use Rattle.tune_problem.specs.Ranking.{IsAim, first_of};
 ghost use Rattle.tune_problem.specs.Exact.{IsExact, listed_ranking};
 
 use crate::findings::Findings;
 use crate::method::Method;
 // What a search with a floor certifies if no setting reaches it.
 pub use tune_problem::laws::a_certificate_below_a_floor_is_right;
-use tune_problem::{Aim, Best, Found};
+use tune_problem::{Aim, Found};
 
 /// States that after any number of visits there is at most one list of recent settings.
 pub fn visits_determine_the_recent_settings()
@@ -30,10 +30,13 @@ pub fn fought_settings_differ()
         → p.start < p.count → fought_count f ≤ capacity_of method → HasFought p f w v → HasFought p f w u → v ≡ u }
 {}
 
-/// States that the inputs and the method determine what a search finds: its rows, and so which
-/// fights are played, as well as the optimum, its total and the counts.
+/// States that the inputs, the aim and the method determine what a search finds: its rows, and so
+/// which fights are played, as well as the ranking and the counts; and for the best setting alone
+/// the optimum and its total.
 pub fn a_search_has_one_answer()
-    ensures { (p : Problem) (method : Method) (f g : Found) → IsSearch p method f → IsSearch p method g → f ≡ g }
+    ensures findings { (p : Problem) (aim : Aim) (method : Method) (f g : Findings) → IsAim aim
+        → IsSearchFor p aim method f → IsSearchFor p aim method g → f ≡ g }
+    ensures alone { (p : Problem) (method : Method) (f g : Found) → IsSearch p method f → IsSearch p method g → f ≡ g }
 {}
 
 /// States that all methods find the same setting, with the same total, and count the same number of
@@ -53,18 +56,10 @@ pub fn playing_all_lists_every_fight()
     ensures copied { (p : Problem) (f : Found) → IsSearch p Method.PlayingAll f → f.copied ≡ None }
 {}
 
-/// States that what a search finds with keep 1 and the floor 0 is what `IsSearch` says, and that no
-/// setting assembles if it finds no best one.
-pub fn a_search_without_a_floor_is_a_search()
-    ensures found { (p : Problem) (method : Method) (f : Findings) (best : Best) → IsSearchFrom p best_alone method f
-        → first_of f.ranking ≡ Some best → IsSearch p method (found_of f best) }
-    ensures none { (p : Problem) (method : Method) (f : Findings) → IsSearchFrom p best_alone method f → first_of f.ranking ≡ None → NoneAssembles p }
-{}
-
 /// States that a search with a floor finds the optimum if its total reaches the floor, and no best
 /// setting otherwise, by whatever method.
 pub fn a_floor_hides_only_what_is_below_it()
-    ensures { (p : Problem) (aim : Aim) (one other : Method) (f : Findings) (g : Found) → IsSearchFrom p aim one f → IsSearch p other g
+    ensures { (p : Problem) (aim : Aim) (one other : Method) (f : Findings) (g : Found) → IsSearchFor p aim one f → IsSearch p other g
         → first_of f.ranking ≡ best_from aim.floor g }
 {}
 
@@ -79,7 +74,7 @@ pub fn a_ranking_has_the_first_settings()
 /// The start setting must be one of the settings, as it is for all inputs.
 pub fn a_search_with_an_aim_is_exact()
     ensures exact { (p : Problem) (aim : Aim) (method : Method) (f : Findings) → IsProblem p → IsAim aim → p.start < p.count
-        → IsSearchFrom p aim method f → IsExact p aim f.rows }
+        → IsSearchFor p aim method f → IsExact p aim f.rows }
     ensures ranking { (p : Problem) (aim : Aim) (method : Method) (f : Findings) → IsProblem p → IsAim aim → p.start < p.count
-        → IsSearchFrom p aim method f → listed_ranking p aim f.rows ≡ f.ranking }
+        → IsSearchFor p aim method f → listed_ranking p aim f.rows ≡ f.ranking }
 {}

@@ -1,8 +1,8 @@
 //! The search for the optimum of a tuning, and for the first of the ranking of its settings.
 //!
-//! `search` finds the optimum by `Method::Dropping`. `search_by` also takes a method and a watcher,
-//! `search_from` an aim: how many settings are ranked, and a floor. Fields named `vector` have the
-//! index of a setting.
+//! `search` finds the optimum by `Method::Dropping`. `search_for` finds what an `Aim` asks for, the
+//! first settings of the ranking that reach a floor, by either method, and takes a watcher. Fields
+//! named `vector` have the index of a setting.
 #![tactic(auto)]
 
 mod cache;
@@ -23,4 +23,4 @@ pub use fault::SearchFault;
 pub use findings::Findings;
 pub use method::Method;
 pub use tune_problem::{Aim, Best, Found, Inputs, Ranking, Silent, Standing, Watcher};
-pub use tuning::{search, search_by, search_from};
+pub use tuning::{search, search_for};

@@ -5,7 +5,7 @@ ghost use Rattle.tune_problem.specs.Ranking.{IsAim};
 ghost use Rattle.tune_search.specs.Limits.{MOST_CAPACITY};
 ghost use Rattle.tune_search.specs.Method.{HasCapacity};
 ghost use Rattle.tune_search.specs.Found.{IsSearch, IsRefused};
-ghost use Rattle.tune_search.specs.Findings.{IsSearchFrom};
+ghost use Rattle.tune_search.specs.Findings.{IsSearchFor};
 
 use crate::fault::SearchFault;
 use crate::findings::Findings;
@@ -43,31 +43,9 @@ pub fn search(alloc: Global, inputs: &Inputs, capacity: u32) -> Result<Found, Se
     // these. `NoCandidate` says that no setting assembles.
     ensures { MatchResult result (IsSearch (problem_of inputs.now) (Method.Dropping capacity)) (IsRefused (problem_of inputs.now)) }
 {
-    search_by(alloc, inputs, Method::Dropping { capacity }, &mut Silent)
-}
-
-/// Finds the optimum by `method`, whose capacity is 1 to 65536 if it has one, and tells `watcher`
-/// after each fight and each setting how far the search is.
-///
-/// `Method::Dropping` is what `search` does. `Method::PlayingAll` visits the settings and plays
-/// their fights in the same orders, but drops and remembers none: the row of each setting that
-/// assembles is `Cap` with all fights. Both find the same setting, with the same total.
-///
-/// # Errors
-///
-/// Those of `search`.
-pub fn search_by<T: Watcher>(
-    alloc: Global,
-    inputs: &Inputs,
-    method: Method,
-    watcher: &mut T,
-) -> Result<Found, SearchFault>
-    requires capacity { HasCapacity method }
-
-    // What `search` promises, with the fights that the method asks for.
-    ensures { MatchResult result (IsSearch (problem_of inputs.now) method) (IsRefused (problem_of inputs.now)) }
-{
-    let findings = search_from(alloc, inputs, Aim { keep: 1, floor: 0 }, method, watcher)?;
+    let aim = Aim { keep: 1, floor: 0 };
+    let method = Method::Dropping { capacity };
+    let findings = search_for(alloc, inputs, aim, method, &mut Silent)?;
     match findings.into_found() {
         None => Err(SearchFault::NoCandidate),
         Some(found) => Ok(found),
@@ -75,19 +53,23 @@ pub fn search_by<T: Watcher>(
 }
 
 /// Finds the first `aim.keep` settings of the ranking by `method`, of those that total `aim.floor`
-/// or more. The ranking has the greatest total first, then the smaller index.
+/// or more, and tells `watcher` after each fight and each setting how far the search is. The
+/// ranking has the greatest total first, then the smaller index.
 ///
 /// `Method::Dropping` drops a setting once its cap is below the floor, or does not beat the
 /// `keep`-th setting of the ranking so far, if that many are ranked. The start setting plays all
 /// its fights, since the others learn their order from them. A setting that shares the fights of
 /// another is ranked with the total of the other. A floor drops settings before the ranking does,
-/// and so saves fights. `search_by` is this search with keep 1 and the floor 0, and its watcher
-/// gets the same.
+/// and so saves fights. `search` is this search with keep 1 and the floor 0.
+///
+/// `Method::PlayingAll` visits the settings and plays their fights in the same orders, but drops
+/// and remembers none: the row of each setting that assembles is `Cap` with all fights. Both find
+/// the same settings, with the same totals.
 ///
 /// # Errors
 ///
 /// Those of `search`. That no setting reaches the floor is not a fault.
-pub fn search_from<T: Watcher>(
+pub fn search_for<T: Watcher>(
     alloc: Global,
     inputs: &Inputs,
     aim: Aim,
@@ -101,7 +83,7 @@ pub fn search_from<T: Watcher>(
     // to such a row. The rows are a valid certificate of the first of it, or show that each
     // candidate totals less than the floor. The fights are those that the aim and the method ask
     // for. Some setting assembles, whether or not one reaches the floor.
-    ensures { MatchResult result (λ f. IsSearchFrom (problem_of inputs.now) aim method f × (0 < f.candidates)) (IsRefused (problem_of inputs.now)) }
+    ensures { MatchResult result (λ f. IsSearchFor (problem_of inputs.now) aim method f × (0 < f.candidates)) (IsRefused (problem_of inputs.now)) }
 {
     let mut state = State::begin(alloc, inputs, aim, method)?;
     for visits in 0..part_size(inputs) {

@@ -8,7 +8,7 @@ use std::alloc::Global;
 use std::test::Fail;
 use tune_cert::write_answer;
 use tune_problem::{Answer, Best, Silent};
-use tune_search::{Aim, Method, SearchFault, search_from};
+use tune_search::{Aim, Method, SearchFault, search_for};
 
 const DROPPING: Method = Method::Dropping { capacity: 4096 };
 
@@ -27,7 +27,7 @@ fn searched(alloc: Global, text: &[u8], aim: Aim) -> Result<Summary, Fail>
     requires aim { IsAim aim }
 {
     let inputs = inputs_of(alloc, text)?;
-    let findings = search_from(alloc, &inputs, aim, DROPPING, &mut Silent)?;
+    let findings = search_for(alloc, &inputs, aim, DROPPING, &mut Silent)?;
     let ranking = findings.ranking.as_slice().to_vec(alloc)?;
     let (candidates, fights, copied) = (findings.candidates, findings.fights, findings.copied);
     let mut out = Outlet::new(Vec::with_capacity(alloc, 256)?);
@@ -85,7 +85,7 @@ fn no_row_is_copied_below_a_floor(rt: HostRuntime) -> Result<(), Fail> {
 fn nothing_assembles_below_a_floor(rt: HostRuntime) -> Result<(), Fail> {
     let inputs = inputs_of(rt.alloc(), b";@tune K 0 1 1 0\nDAT K/0")?;
     let aim = Aim { keep: 1, floor: 5 };
-    match search_from(rt.alloc(), &inputs, aim, DROPPING, &mut Silent) {
+    match search_for(rt.alloc(), &inputs, aim, DROPPING, &mut Silent) {
         Err(fault) => assert_eq!(rt; fault, SearchFault::NoCandidate),
         Ok(_) => assert!(rt; false),
     }

@@ -3,13 +3,17 @@ use crate::certificates::cert_of;
 use crate::fixtures::{FIRST_REFUSED, FOUR_EQUAL, FOUR_EQUAL_CERT, inputs_of};
 use std::test::Fail;
 use tune_problem::{Best, Silent, beats};
-use tune_search::{Method, SearchFault, search, search_by};
+use tune_search::{Aim, Method, SearchFault, search, search_for};
 
 // Settings 1 and 2 assemble, and each plays both fights.
 #[test]
 fn a_search_may_play_everything(rt: HostRuntime) -> Result<(), Fail> {
     let inputs = inputs_of(rt.alloc(), FIRST_REFUSED)?;
-    let found = search_by(rt.alloc(), &inputs, Method::PlayingAll, &mut Silent)?;
+    let aim = Aim { keep: 1, floor: 0 };
+    let findings = search_for(rt.alloc(), &inputs, aim, Method::PlayingAll, &mut Silent)?;
+    let Some(found) = findings.into_found() else {
+        return Err(Fail::from("no setting is ranked"));
+    };
     assert_eq!(rt; (found.candidates, found.fights), (2, 4));
     let rows = b"cwcert,1,3\nbest,1,4\nrefused,0,-\ncap,1,0:3 1:1\ncap,2,0:3 1:1\n".as_slice();
     assert_eq!(rt; cert_of(rt.alloc(), &found)?.as_slice(), rows);

@@ -1,10 +1,10 @@
-//! Tests of `check_share`, on certificates of four settings with one warrior. In the valid one
+//! Tests of `check_for` of a share, on certificates of four settings with one warrior. In the valid one
 //! settings 1 and 3 refer to setting 2.
 
 use crate::fixtures::{ACCEPTED, FOUR_EQUAL, FOUR_EQUAL_CERT, FOUR_EQUAL_TOTAL_5, inputs_of};
 use std::alloc::Global;
 use std::test::Fail;
-use tune_cert::{Reason, Share, Silent, Verdict, check_share};
+use tune_cert::{Answer, Demand, Judgement, Reason, Share, Silent, Verdict, check_for};
 use tune_problem::Inputs;
 
 // A damaged certificate, and what the two shares of two say. The first takes the fights of setting
@@ -99,8 +99,16 @@ fn verdict_of(
     cert: &[u8],
 ) -> Result<Verdict, Fail> {
     let share = share_of(number, shares);
-    let verdict = check_share(alloc, inputs, share, cert, &mut Silent)?;
-    Ok(verdict)
+    match check_for(alloc, inputs, Demand::none(), share, cert, &mut Silent)? {
+        Judgement::Rejected { row, reason } => Ok(Verdict::Rejected { row, reason }),
+        Judgement::Accepted { answer, .. } => match answer {
+            Answer::Best(best) => Ok(Verdict::Accepted {
+                best: best.vector,
+                total: best.total,
+            }),
+            Answer::NoneFrom(_) => Err(Fail::from("no best setting is named")),
+        },
+    }
 }
 
 // More shares than settings leave some empty; these too see the first records and the best row.

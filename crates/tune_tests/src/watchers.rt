@@ -1,14 +1,14 @@
 //! Tests of what searches and checks tell their watchers.
 
 use crate::fixtures::{
-    ACCEPTED, FIRST_REFUSED, FIRST_REFUSED_CERT, FOUR_EQUAL, FOUR_EQUAL_CERT, THREE_UNEQUAL,
+    FIRST_REFUSED, FIRST_REFUSED_CERT, FOUR_EQUAL, FOUR_EQUAL_CERT, THREE_UNEQUAL,
     THREE_UNEQUAL_NONE_FROM_5, imp, inputs_of,
 };
 use std::process::Abort;
 use std::test::Fail;
-use tune_cert::{Best, Demand, Share, Standing, Verdict, Watcher, check_for, check_share};
+use tune_cert::{Best, Demand, Judgement, Share, Standing, Watcher, check_for};
 use tune_problem::Inputs;
-use tune_search::{Aim, Method, search_by, search_from};
+use tune_search::{Aim, Method, search_for};
 
 // A watcher that keeps the first four standings, and counts all. `heard` stays true if `hear`
 // gets 1, 2, .. and each standing has the last of these.
@@ -103,7 +103,14 @@ fn a_check_stops_at_what_is_wrong(rt: HostRuntime) -> Result<(), Fail> {
     let inputs = inputs_of(rt.alloc(), b";@tune K 0 1 1 0\nMOV 0, 1\nDAT K")?;
     for case in &WRONG {
         let mut notes = Notes::new();
-        check_share(rt.alloc(), &inputs, Share::whole(), case.cert, &mut notes)?;
+        check_for(
+            rt.alloc(),
+            &inputs,
+            Demand::none(),
+            Share::whole(),
+            case.cert,
+            &mut notes,
+        )?;
         assert_eq!(rt; notes.fights, case.fights, "{}", case.name);
     }
     Ok(())
@@ -115,14 +122,25 @@ const SECOND: Option<Best> = Some(Best {
     total: 4,
 });
 
+// The best setting alone, whatever its total.
+const BEST: Aim = Aim { keep: 1, floor: 0 };
+
+fn accepts(judgement: &Judgement) -> bool {
+    match judgement {
+        Judgement::Accepted { .. } => true,
+        Judgement::Rejected { .. } => false,
+    }
+}
+
 // Setting 1 is visited first. Setting 0 does not assemble.
 #[test]
 fn a_search_tells_how_far_it_is(rt: HostRuntime) -> Result<(), Fail> {
     let inputs = inputs_of(rt.alloc(), FIRST_REFUSED)?;
     let mut notes = Notes::new();
-    search_by(
+    search_for(
         rt.alloc(),
         &inputs,
+        BEST,
         Method::Dropping { capacity: 1 },
         &mut notes,
     )?;
@@ -140,7 +158,7 @@ fn a_search_tells_how_far_it_is(rt: HostRuntime) -> Result<(), Fail> {
 fn a_search_that_plays_all_tells_how_far_it_is(rt: HostRuntime) -> Result<(), Fail> {
     let inputs = inputs_of(rt.alloc(), FIRST_REFUSED)?;
     let mut notes = Notes::new();
-    search_by(rt.alloc(), &inputs, Method::PlayingAll, &mut notes)?;
+    search_for(rt.alloc(), &inputs, BEST, Method::PlayingAll, &mut notes)?;
     let want = [
         after(1, 3, 2, SECOND),
         after(2, 3, 2, SECOND),
@@ -156,7 +174,7 @@ fn a_search_that_plays_all_tells_how_far_it_is(rt: HostRuntime) -> Result<(), Fa
 fn a_search_for_two_settings_tells_the_first(rt: HostRuntime) -> Result<(), Fail> {
     let inputs = inputs_of(rt.alloc(), THREE_UNEQUAL)?;
     let mut notes = Notes::new();
-    search_from(
+    search_for(
         rt.alloc(),
         &inputs,
         Aim { keep: 2, floor: 0 },
@@ -182,8 +200,15 @@ fn a_check_of_a_share_tells_how_far_it_is(rt: HostRuntime) -> Result<(), Fail> {
         shares: 2,
     };
     let mut notes = Notes::new();
-    let verdict = check_share(rt.alloc(), &inputs, share, FIRST_REFUSED_CERT, &mut notes)?;
-    assert_eq!(rt; verdict, Verdict::Accepted { best: 1, total: 4 });
+    let judgement = check_for(
+        rt.alloc(),
+        &inputs,
+        Demand::none(),
+        share,
+        FIRST_REFUSED_CERT,
+        &mut notes,
+    )?;
+    assert!(rt; accepts(&judgement));
     let want = [after(1, 2, 2, SECOND), after(2, 2, 3, SECOND), None, None];
     notes.expect(&rt, want, 2)
 }
@@ -219,14 +244,15 @@ fn a_check_without_a_best_setting_tells_none(rt: HostRuntime) -> Result<(), Fail
 fn a_check_tells_how_far_it_is(rt: HostRuntime) -> Result<(), Fail> {
     let inputs = inputs_of(rt.alloc(), FOUR_EQUAL)?;
     let mut notes = Notes::new();
-    let verdict = check_share(
+    let judgement = check_for(
         rt.alloc(),
         &inputs,
+        Demand::none(),
         Share::whole(),
         FOUR_EQUAL_CERT,
         &mut notes,
     )?;
-    assert_eq!(rt; verdict, ACCEPTED);
+    assert!(rt; accepts(&judgement));
     let best = Some(imp(0));
     let want = [
         after(1, 4, 2, best),

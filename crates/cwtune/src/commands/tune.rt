@@ -2,7 +2,7 @@
 ghost use Rattle.std.specs.Prelude.{◌≡◌, ◌≢◌, ◌⊎◌, true, false, IfErr, IsErr, IsTrue, OnOk};
 ghost use Rattle.tune_runs.specs.Runs.{writer};
 ghost use Rattle.tune_runs.specs.Given.{rules_given, texts_given};
-ghost use Rattle.tune_runs.specs.TuneRun.{WritesTuningFrom};
+ghost use Rattle.tune_runs.specs.TuneRun.{WritesTuningFor};
 ghost use Rattle.tune_problem.specs.Ranking.{IsAim};
 ghost use Rattle.tune_search.specs.Method.{HasCapacity};
 ghost use Rattle.cwtune.specs.CertFile.{names_twice};
@@ -21,7 +21,7 @@ use std::io::Write;
 use std::rt::Files;
 use tune_cert::Demand;
 use tune_problem::Aim;
-use tune_runs::{Method, TuneTexts, tune_from_run};
+use tune_runs::{Method, TuneTexts, tune_for_run};
 
 // Runs the command on files. Checks the rules, reads the files, and opens CERT before their texts
 // are judged; if CERT is another word's file, nothing is written. A regular file gets its new text,
@@ -70,13 +70,13 @@ fn tune_into<F: Files, T: Witness, W: Write, V: Write, X: Write>(
     requires out { out.old.failed ≡ false }
     requires cert { cert.old.failed ≡ false }
     ensures ended { let t = texts_given texts.now in
-        IsEnded (WritesTuningFrom t aim method (writer out.old out.new) (writer cert.old cert.new)) out.old out.new result }
+        IsEnded (WritesTuningFor t aim method (writer out.old out.new) (writer cert.old cert.new)) out.old out.new result }
     ensures unwritten { IfErr result (λ e. e ≢ Ending.Failed → cert.new ≡ cert.old) }
     ensures flushed { OnOk result (cert.new.flushed ≡ true) }
     ensures before { (out.new ≡ out.old) ⊎ (cert.new.flushed ≡ true) }
 {
     host.witness.before_run(host.alloc, words, texts);
-    match tune_from_run(host.alloc, texts, aim, method, host.witness, out, cert) {
+    match tune_for_run(host.alloc, texts, aim, method, host.witness, out, cert) {
         Ok(()) => Ok(()),
         Err(fault) => Err(host.refuse_tuning(words, texts, fault)),
     }

@@ -157,10 +157,10 @@ impl Comparison<'_> {
 // Returns the line for the case that no input differs. With a demand the certificate may be right,
 // and show less than is demanded.
 fn all_the_same(demand: Demand) -> &'static str {
-    if demand.keep.is_some() || demand.floor.is_some() {
+    if demand == Demand::none() {
+        "all of these are the tuning's, so the certificate itself is wrong"
+    } else {
         "all of these are the tuning's, so its --keep or --floor was another, or the certificate \
             itself is wrong"
-    } else {
-        "all of these are the tuning's, so the certificate itself is wrong"
     }
 }

@@ -1,14 +1,17 @@
-//! `tune_by_run` by either method.
+//! `tune_for_run` by either method.
 use crate::fixtures::{both_opponents, small_rules, texts_of};
 use crate::writers::Broken;
 use rc_instr::Outlet;
 use std::test::Fail;
 use tune_cert::Silent;
 use tune_problem::Part;
-use tune_runs::{Method, RunFault, tune_by_run};
+use tune_runs::{Aim, Method, RunFault, tune_for_run};
 
 // Two settings with one warrior, an imp, of which the second is the start setting.
 const TWO_EQUAL: &[u8] = b";@tune K 0 1 1 1\nMOV 0, 1";
+
+// The best setting alone, whatever its total.
+const BEST: Aim = Aim { keep: 1, floor: 0 };
 
 // The certificate by either method.
 const CERT: &[u8] = b"cwcert,1,2\nbest,0,4\ncap,0,0:3 1:1\ncap,1,0:3 1:1\n";
@@ -34,9 +37,10 @@ fn both_methods_find_the_optimum(rt: HostRuntime) -> Result<(), Fail> {
     for &(method, told) in &METHODS {
         let mut report = Outlet::new(Vec::new(rt.alloc()));
         let mut cert = Outlet::new(Vec::new(rt.alloc()));
-        let tuned = tune_by_run(
+        let tuned = tune_for_run(
             rt.alloc(),
             &texts,
+            BEST,
             method,
             &mut Silent,
             &mut report,
@@ -56,9 +60,10 @@ fn a_write_failure_is_reported_before_the_report(rt: HostRuntime) -> Result<(), 
     let mut report = Outlet::new(Vec::new(rt.alloc()));
     let mut cert = Outlet::new(Broken);
     let texts = texts_of(TWO_EQUAL, opponents.as_slice(), &rules, Part::whole());
-    let tuned = tune_by_run(
+    let tuned = tune_for_run(
         rt.alloc(),
         &texts,
+        BEST,
         Method::PlayingAll,
         &mut Silent,
         &mut report,

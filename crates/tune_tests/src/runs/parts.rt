@@ -1,10 +1,10 @@
-//! `tune_by_run` and `check_part_run` of a part.
+//! `tune_for_run` and `check_for_run` of a part.
 use crate::fixtures::{TWO_IN_TURN, both_opponents, small_rules, texts_of};
 use rc_instr::Outlet;
 use std::test::Fail;
 use tune_cert::Silent;
 use tune_problem::Part;
-use tune_runs::{Method, check_part_run, tune_by_run};
+use tune_runs::{Aim, Demand, Method, check_for_run, tune_for_run};
 
 // The certificate of the second half of the settings, those of K 3, 4 and 5: the first and the last
 // have one warrior.
@@ -22,9 +22,10 @@ fn a_part_is_tuned(rt: HostRuntime) -> Result<(), Fail> {
     let texts = texts_of(TWO_IN_TURN, opponents.as_slice(), &rules, SECOND_HALF);
     let mut report = Outlet::new(Vec::new(rt.alloc()));
     let mut cert = Outlet::new(Vec::new(rt.alloc()));
-    let tuned = tune_by_run(
+    let tuned = tune_for_run(
         rt.alloc(),
         &texts,
+        Aim { keep: 1, floor: 0 },
         Method::Dropping { capacity: 4096 },
         &mut Silent,
         &mut report,
@@ -45,7 +46,15 @@ fn a_part_is_checked(rt: HostRuntime) -> Result<(), Fail> {
     let opponents = both_opponents(rt.alloc())?;
     let texts = texts_of(TWO_IN_TURN, opponents.as_slice(), &rules, SECOND_HALF);
     let mut line = Outlet::new(Vec::new(rt.alloc()));
-    let checked = check_part_run(rt.alloc(), &texts, &mut Silent, HALF_CERT, &mut line);
+    let checked = check_for_run(
+        rt.alloc(),
+        &texts,
+        Demand::none(),
+        None,
+        &mut Silent,
+        HALF_CERT,
+        &mut line,
+    );
     assert_eq!(rt; checked, Ok(true));
     Ok(())
 }

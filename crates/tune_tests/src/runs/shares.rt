@@ -1,10 +1,10 @@
-//! `check_share_run`.
+//! `check_for_run` of a share.
 use crate::fixtures::{FOUR_EQUAL, FOUR_EQUAL_CERT, both_opponents, small_rules, texts_of};
 use rc_instr::Outlet;
 use std::test::Fail;
 use tune_cert::Silent;
 use tune_problem::Part;
-use tune_runs::{Share, check_share_run};
+use tune_runs::{Demand, Share, check_for_run};
 
 #[test]
 fn a_share_has_a_line_of_its_own(rt: HostRuntime) -> Result<(), Fail> {
@@ -16,10 +16,11 @@ fn a_share_has_a_line_of_its_own(rt: HostRuntime) -> Result<(), Fail> {
         shares: 3,
     };
     let mut line = Outlet::new(Vec::new(rt.alloc()));
-    let checked = check_share_run(
+    let checked = check_for_run(
         rt.alloc(),
         &texts,
-        share,
+        Demand::none(),
+        Some(share),
         &mut Silent,
         FOUR_EQUAL_CERT,
         &mut line,

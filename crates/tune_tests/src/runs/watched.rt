@@ -7,7 +7,7 @@ use std::alloc::Global;
 use std::test::Fail;
 use tune_cert::{Standing, Watcher};
 use tune_problem::{Inputs, Part};
-use tune_runs::{Demand, Method, RunFault, TuneTexts, check_for_run, check_part_run, tune_by_run};
+use tune_runs::{Aim, Demand, Method, RunFault, TuneTexts, check_for_run, tune_for_run};
 
 // Counts the begins, settings, fights and ends that it is told of, and what it is told after an
 // end.
@@ -87,7 +87,8 @@ fn tune(
 {
     let mut report = Outlet::new(Vec::new(alloc));
     let mut cert = Outlet::new(Vec::new(alloc));
-    tune_by_run(alloc, texts, method, told, &mut report, &mut cert)
+    let aim = Aim { keep: 1, floor: 0 };
+    tune_for_run(alloc, texts, aim, method, told, &mut report, &mut cert)
 }
 
 // The third setting is dropped after one fight of two.
@@ -113,41 +114,27 @@ fn a_tuning_that_plays_all_tells_its_watcher_once(rt: HostRuntime) -> Result<(),
     Ok(())
 }
 
+// Without a demand, and with one.
 #[test]
 fn a_check_tells_its_watcher_once(rt: HostRuntime) -> Result<(), Fail> {
     let rules = small_rules()?;
     let opponents = both_opponents(rt.alloc())?;
     let texts = texts_of(THREE_UNEQUAL, opponents.as_slice(), &rules, Part::whole());
-    let mut told = Told::nothing();
-    let mut line = Outlet::new(Vec::new(rt.alloc()));
-    let accepted = check_part_run(rt.alloc(), &texts, &mut told, THREE_UNEQUAL_CERT, &mut line)?;
-    assert!(rt; accepted);
-    assert_eq!(rt; told, Told::once(3, 5));
-    Ok(())
-}
-
-#[test]
-fn a_check_with_a_demand_tells_its_watcher_once(rt: HostRuntime) -> Result<(), Fail> {
-    let rules = small_rules()?;
-    let opponents = both_opponents(rt.alloc())?;
-    let texts = texts_of(THREE_UNEQUAL, opponents.as_slice(), &rules, Part::whole());
-    let demand = Demand {
-        keep: Some(2),
-        floor: None,
-    };
-    let mut told = Told::nothing();
-    let mut lines = Outlet::new(Vec::new(rt.alloc()));
-    let accepted = check_for_run(
-        rt.alloc(),
-        &texts,
-        demand,
-        None,
-        &mut told,
-        THREE_UNEQUAL_CERT,
-        &mut lines,
-    )?;
-    assert!(rt; accepted);
-    assert_eq!(rt; told, Told::once(3, 5));
+    for &keep in &[None, Some(2)] {
+        let mut told = Told::nothing();
+        let mut lines = Outlet::new(Vec::new(rt.alloc()));
+        let accepted = check_for_run(
+            rt.alloc(),
+            &texts,
+            Demand { keep, floor: None },
+            None,
+            &mut told,
+            THREE_UNEQUAL_CERT,
+            &mut lines,
+        )?;
+        assert!(rt; accepted);
+        assert_eq!(rt; told, Told::once(3, 5));
+    }
     Ok(())
 }
 

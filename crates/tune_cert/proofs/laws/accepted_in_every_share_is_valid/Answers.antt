@@ -1,4 +1,5 @@
-use Rattle.tune_cert.proofs.ValidShares.{accepts_valid, valid_accepts, valid_of_shares, valid_in_shares}
+use Rattle.tune_cert.proofs.PlainChecks.{accepts_valid, valid_accepts}
+use Rattle.tune_cert.proofs.ValidShares.{valid_of_shares, valid_in_shares}
 use Rattle.tune_problem.specs.Parts.{part}
 use Rattle.tune_cert.proofs.laws.accepted_in_every_share_is_valid.Goals as goal
 

@@ -19,17 +19,17 @@ pub listed_cap-cap-requires-clause-fights : goal.listed_cap-cap-requires-clause-
 listed_cap-cap-requires-clause-fights g c =
     points_fights (problem_of c.args.claim.now.inputs.now) c.in-Some.warrior c.args.listed.now (sym c.if-not-have_points.ensures.points)
 
-pub returns-then-not-is_best_or_no_better-clause-reason : goal.returns-then-not-is_best_or_no_better-clause-reason
-returns-then-not-is_best_or_no_better-clause-reason g c =
+pub returns-then-not-is_best_or_below-clause-reason : goal.returns-then-not-is_best_or_below-clause-reason
+returns-then-not-is_best_or_below-clause-reason g c =
     cap_high _ _ _ _ _ _ (sym c.if-not-is_rising.ensures) (sym c.in_ok-warrior.ensures.warrior ∙ c.in-Some.is) (sym c.if-not-have_points.ensures.points)
-    (low_by (problem_of c.args.claim.now.inputs.now) c.args.claim.now.cert.now c.args.vector c.args.listed.now _ _ c.listed_cap-cap.ensures c.if-not-is_best_or_no_better.ensures)
+    (low_by (problem_of c.args.claim.now.inputs.now) c.args.claim.now.statement.now c.args.vector c.args.listed.now _ _ c.listed_cap-cap.ensures c.if-not-is_best_or_below.ensures)
 
 pub returns-then-not-is_exact-clause-reason : goal.returns-then-not-is_exact-clause-reason
 returns-then-not-is_exact-clause-reason g c =
     cap_contends _ _ _ _ _ _ (sym c.if-not-is_rising.ensures) (sym c.in_ok-warrior.ensures.warrior ∙ c.in-Some.is) (sym c.if-not-have_points.ensures.points)
-    (low_by (problem_of c.args.claim.now.inputs.now) c.args.claim.now.cert.now c.args.vector c.args.listed.now _ _ c.listed_cap-cap.ensures c.if-not-is_best_or_no_better.ensures) (sym c.if-not-is_exact.ensures)
+    (low_by (problem_of c.args.claim.now.inputs.now) c.args.claim.now.statement.now c.args.vector c.args.listed.now _ _ c.listed_cap-cap.ensures c.if-not-is_best_or_below.ensures) (sym c.if-not-is_exact.ensures)
 
 pub returns-clause-reason : goal.returns-clause-reason
 returns-clause-reason g c =
     cap_fine _ _ _ _ _ _ (sym c.if-not-is_rising.ensures) (sym c.in_ok-warrior.ensures.warrior ∙ c.in-Some.is) (sym c.if-not-have_points.ensures.points)
-    (low_by (problem_of c.args.claim.now.inputs.now) c.args.claim.now.cert.now c.args.vector c.args.listed.now _ _ c.listed_cap-cap.ensures c.if-not-is_best_or_no_better.ensures) (sym c.if-not-is_exact.ensures)
+    (low_by (problem_of c.args.claim.now.inputs.now) c.args.claim.now.statement.now c.args.vector c.args.listed.now _ _ c.listed_cap-cap.ensures c.if-not-is_best_or_below.ensures) (sym c.if-not-is_exact.ensures)

@@ -9,9 +9,9 @@ use Rattle.tune_cert.proofs.share_rows.check_rows_alone.Given as goal
 abbrev pub invariant-loop-vector : goal.invariant-loop-vector
 invariant-loop-vector g l = record {
   blank : IsBlank l.fn.claim.inputs.now.rules l.arena;
-  wrong : wrong_alone (problem_of l.fn.claim.inputs.now) l.fn.claim.cert.now l.fn.claim.aim (settings_between l.fn.first l.fn.end)
-      ≡ wrong_alone (problem_of l.fn.claim.inputs.now) l.fn.claim.cert.now l.fn.claim.aim (settings_between l.vector l.fn.end);
-  most : l.fn.arena.fights + listed_fights_of l.fn.claim.cert.now.rows (settings_between l.fn.first l.fn.end) < 2 ^ 64
-      → l.arena.fights + listed_fights_of l.fn.claim.cert.now.rows (settings_between l.vector l.fn.end)
-      ≤ l.fn.arena.fights + listed_fights_of l.fn.claim.cert.now.rows (settings_between l.fn.first l.fn.end);
+  wrong : wrong_alone (problem_of l.fn.claim.inputs.now) l.fn.claim.statement.now l.fn.claim.aim (settings_between l.fn.first l.fn.end)
+      ≡ wrong_alone (problem_of l.fn.claim.inputs.now) l.fn.claim.statement.now l.fn.claim.aim (settings_between l.vector l.fn.end);
+  most : l.fn.arena.fights + listed_fights_of l.fn.claim.statement.now.rows (settings_between l.fn.first l.fn.end) < 2 ^ 64
+      → l.arena.fights + listed_fights_of l.fn.claim.statement.now.rows (settings_between l.vector l.fn.end)
+      ≤ l.fn.arena.fights + listed_fights_of l.fn.claim.statement.now.rows (settings_between l.fn.first l.fn.end);
 }

@@ -1,5 +1,5 @@
-use Rattle.tune_runs.proofs.Repeats.{checked}
+use Rattle.tune_runs.proofs.AimedChecks.{agree}
 use Rattle.tune_runs.proofs.laws.a_tuning_is_accepted_by_its_check.Goals as goal
 
 pub returns : goal.returns
-returns c = checked
+returns c = agree

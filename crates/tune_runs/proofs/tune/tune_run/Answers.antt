@@ -5,4 +5,4 @@ use Rattle.tune_runs.proofs.tune.tune_run.Goals as goal
 
 pub returns-clause-whole : goal.returns-clause-whole
 returns-clause-whole g c = tuning_parted _
-    (part_texts c.args.template.now (map (λ o. o.items) c.args.opponents.now) c.args.schedule.now c.args.rules.now c.whole.result) c.whole.ensures c.tune_by_run.ensures.run.refused
+    (part_texts c.args.template.now (map (λ o. o.items) c.args.opponents.now) c.args.schedule.now c.args.rules.now c.whole.result) c.whole.ensures c.tune_for_run.ensures.run.refused

@@ -1,5 +1,5 @@
 use Rattle.tune_search.specs.State.{IsState}
-use Rattle.tune_search.proofs.tuning.search_from.Given as goal
+use Rattle.tune_search.proofs.tuning.search_for.Given as goal
 
 -- the state after these visits
 abbrev pub invariant-loop-visits : goal.invariant-loop-visits

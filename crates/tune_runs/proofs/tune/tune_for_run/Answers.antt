@@ -2,7 +2,7 @@ use Rattle.std.proofs.Common.{Err, ap, inl, ◌∙◌}
 use Rattle.std.proofs.lemmas.Result.{err_from_is_err_and}
 use Rattle.tune_runs.specs.Given.{texts_given}
 use Rattle.tune_runs.proofs.Endings.{refused_tuning, search_other, search_refused}
-use Rattle.tune_runs.proofs.tune.tune_from_run.Goals as goal
+use Rattle.tune_runs.proofs.tune.tune_for_run.Goals as goal
 
 pub returns-in_err-inputs : goal.returns-in_err-inputs
 returns-in_err-inputs g c =

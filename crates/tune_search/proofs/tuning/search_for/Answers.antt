@@ -2,13 +2,13 @@ use Rattle.std.proofs.Common.{arith, ◌≡◌, ◌+◌, sym, subst, ℕ, ◌<�
 use Rattle.tune_template.specs.Limits.{MOST_SETTINGS}
 use Rattle.tune_problem.specs.Problem.{problem_of}
 use Rattle.tune_problem.proofs.Scores.{inputs_problem}
-use Rattle.tune_search.specs.Findings.{IsSearchFrom}
+use Rattle.tune_search.specs.Findings.{IsSearchFor}
 use Rattle.tune_search.specs.State.{IsState, progress_of}
 use Rattle.tune_problem.specs.declared.aim.Aim.{Aim}
 use Rattle.tune_search.specs.declared.findings.Findings.{Findings}
 use Rattle.tune_search.specs.declared.method.Method.{Method}
 use Rattle.tune_search.proofs.Finish.{finds, finds_none}
-use Rattle.tune_search.proofs.tuning.search_from.Goals as goal
+use Rattle.tune_search.proofs.tuning.search_for.Goals as goal
 
 pub visit-requires-clause-state : goal.visit-requires-clause-state
 visit-requires-clause-state g c =
@@ -49,4 +49,4 @@ returns g c =
     let few : p.count ≤ MOST_SETTINGS = omega (arith, c.part_size-visits-end.ensures.count, c.part_size-visits-end.ensures.few) in
     let found = finds p (inputs_problem i) state.start_inside i.rules c.args.aim c.requires.aim c.args.method (progress_of s) state.going s.found.version state.version_is few in
     let some : 0 < s.found.candidates = omega (arith, c.if-none_assembles.false) in
-    subst (λ (f : Findings). IsSearchFrom p c.args.aim c.args.method f × (0 < f.candidates)) (sym c.into_findings.ensures) (found, some)
+    subst (λ (f : Findings). IsSearchFor p c.args.aim c.args.method f × (0 < f.candidates)) (sym c.into_findings.ensures) (found, some)
