@@ -1,9 +1,7 @@
 //! Lines `help: ..` after the reason of a refusal: what to write in place of what is refused here.
 
 use crate::telling::line::{Line, bad_byte, line_of};
-use crate::telling::names_in::{
-    Meaning, definition_of, has_ranges, like_name, range_of, unknown_name,
-};
+use crate::telling::names_in::{Meaning, definition_of, like_name, range_of, unknown_name};
 use crate::telling::{tell, tell_bytes, tell_name};
 use itoa::Buffer;
 use rc_asm::AsmKind;
@@ -30,16 +28,15 @@ pub(crate) fn tell_help<V: Write>(
     }
     if let Some(help) = help_of(kind, &line_of(alloc, line)) {
         tell(err, &["  help: ", help, "\n"]);
-        if is_in_listings(kind) && !has_ranges(text) {
-            let way = "  help: or take pMARS's listing: pmars -r 0 ";
-            tell(err, &[way, file, " | tail -n +2 > listing.red\n"]);
+        if is_of_pmars(kind) {
+            let way = "  help: or rewrite what pMARS takes: cwtune-adapt ";
+            tell(err, &[way, file, " > adapted.red\n"]);
         }
     }
 }
 
-// Returns whether pMARS may take a text with this fault, so that its listing helps. `tell_help`
-// leaves out templates: their listings have no constants.
-fn is_in_listings(kind: AsmKind) -> bool {
+// Returns whether pMARS may take a text with this fault, so that `cwtune-adapt` helps.
+fn is_of_pmars(kind: AsmKind) -> bool {
     match kind {
         AsmKind::Expand(ExpandKind::Text(fault)) => fault == LexFault::NumberTooLarge,
         AsmKind::Expand(_) | AsmKind::Value(_) | AsmKind::MissingOperand => true,

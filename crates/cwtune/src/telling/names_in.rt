@@ -58,12 +58,6 @@ pub(crate) fn range_of<'a>(text: &'a [u8], name: &[u8]) -> Option<u64> {
     None
 }
 
-// Returns whether a text is a template with constants.
-pub(crate) fn has_ranges(text: &[u8]) -> bool {
-    text.split(|byte| *byte == b'\n')
-        .any(|line| constant_in(line).is_some())
-}
-
 // Returns the name of the constant of a range line.
 fn constant_in(line: &[u8]) -> Option<&[u8]> {
     if !is_range_line(line) {

@@ -27,7 +27,7 @@ fn top_command<'a>(alloc: Global) -> Result<Command<'a>, AllocError> {
             "Plays Core War fights and finds the best values for a warrior's constants. With no command, same as `fight`.",
         )
         .after_help(
-            "Commands for authors, each with --help: cwtune-files, cwtune-holdout, cwtune-landscape, cwtune-scores, cwtune-seek, cwtune-series, cwtune-spread, cwtune-study, cwtune-vary, cwtune-warrior.\n\nExit status: 0 success or accepted; 1 input refused or certificate rejected; 2 usage error; 3 I/O error or out of memory.",
+            "Commands for authors begin with cwtune-, as in cwtune-study, and have --help too.\n\nExit status: 0 success or accepted; 1 input refused or certificate rejected; 2 usage error; 3 I/O error or out of memory.",
         );
     Ok(command)
 }
