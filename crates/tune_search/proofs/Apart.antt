@@ -4,14 +4,18 @@ use Rattle.std.specs.List.{slice_get, count_by, range_with_len}
 use Rattle.std.proofs.lemmas.Bool.Decides.{nat_tests, leb_tells}
 use Rattle.rc_instr.specs.Warrior.{WarriorView}
 use Rattle.tune_problem.specs.Problem.{Problem}
-use Rattle.tune_problem.specs.declared.cert.Found.{Found}
+use Rattle.tune_problem.specs.Ranking.{first_of}
+use Rattle.tune_problem.specs.declared.aim.Aim.{Aim}
 use Rattle.tune_problem.specs.declared.cert.Row.TheVariants.{Cap}
 use Rattle.tune_problem.proofs.Certificates.{same_number}
 use Rattle.tune_search.specs.Visits.{visits_before, setting_visited}
 use Rattle.tune_search.specs.Recent.{OneHas, ChangesRecent, IsRecent, NoneHas}
 use Rattle.tune_search.specs.Method.{capacity_of}
 use Rattle.tune_search.specs.Sharing.{HasRowOf}
-use Rattle.tune_search.specs.Found.{IsSearch, fought_count, is_cap, is_copied, was_fought}
+use Rattle.tune_search.specs.Findings.{IsSearchFor}
+use Rattle.tune_search.specs.declared.findings.Findings.{Findings}
+use Rattle.tune_search.proofs.OneAnswer.{rows_count}
+use Rattle.tune_search.specs.Found.{fought_count, is_cap, is_copied, was_fought}
 use Rattle.tune_search.proofs.Leads.{by_then}
 use Rattle.tune_search.proofs.VisitOrder.{before_below, before_visited, visited_below, visited_early, visited_late, visited_before}
 use Rattle.tune_search.proofs.Ranges.{sum_more}
@@ -76,7 +80,7 @@ module _ (g : ℕ → Bool) (s : ℕ) where
       let e : among (k + m) ≡ among n = ap among (let q : k + (n - k) ≡ n = omega arith in q) in
       omega (arith, grows k m, e, late n inside)
 
-module _ (p : Problem) (method : Method) (f : Found) (s : IsSearch p method f) (start : p.start < p.count) (room : fought_count f ≤ capacity_of method) where
+module _ (p : Problem) (aim : Aim) (method : Method) (f : Findings) (s : IsSearchFor p aim method f) (start : p.start < p.count) (room : fought_count f ≤ capacity_of method) where
   abbrev capacity : ℕ
   capacity = capacity_of method
 
@@ -86,7 +90,7 @@ module _ (p : Problem) (method : Method) (f : Found) (s : IsSearch p method f) (
   all_room : below test p.start p.count ≤ capacity
   unfolding fought_count
   all_room =
-      let e : length f.rows ≡ p.count = s.valid.rows_are in
+      let e : length f.rows ≡ p.count = rows_count p aim.floor f.version f.rows (first_of f.ranking) s.certified in
       let same : fought_count f ≡ below test p.start p.count = ap (λ n. count_by test (range_with_len 0 n)) e in
       omega (arith, same, room)
 

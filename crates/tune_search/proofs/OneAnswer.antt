@@ -115,7 +115,7 @@ version_one p m n a b = elim a [
 
 -- the rows of a search, whichever answer they certify
 module _ (p : Problem) (floor version : ℕ) (rows : List Row) where
-  rows_count : (best : Option Best) → IsCertified p floor version rows best → length rows ≡ p.count
+  pub rows_count : (best : Option Best) → IsCertified p floor version rows best → length rows ≡ p.count
   rows_count None h = h.rows_are
   rows_count (Some best) h = h.rows_are
 
@@ -252,7 +252,11 @@ pub found_one : (p : Problem) (method : Method) (f g : Found) → IsSearch p met
 found_one p method f g s t =
     some_is f g (ap first_found (answer_one p best_alone method (as_findings f) (as_findings g) (as_search p method f s) (as_search p method g t) (omega arith, omega arith)))
 
--- searches by any two methods find the optimum, and there is one
+-- searches by any two methods find the first of the ranking, and there is one
+pub one_found : (p : Problem) (aim : Aim) (one other : Method) (f g : Findings) → IsAim aim → IsSearchFor p aim one f → IsSearchFor p aim other g
+    → (f.ranking ≡ g.ranking) × (f.candidates ≡ g.candidates)
+one_found p aim one other f g is_aim s t = (one_ranking p aim is_aim Any f.ranking g.ranking s.ranking t.ranking, s.work.count ∙ sym t.work.count)
+
 pub one_optimum : (p : Problem) (one other : Method) (f g : Found) → IsSearch p one f → IsSearch p other g
     → (f.best ≡ g.best) × (f.total ≡ g.total) × (f.candidates ≡ g.candidates)
 one_optimum p one other f g s t =

@@ -8,22 +8,24 @@ use Rattle.rc_instr.specs.Warrior.{WarriorView}
 use Rattle.tune_problem.specs.Problem.{Problem, IsProblem}
 use Rattle.tune_problem.specs.Optimum.{all_fights}
 use Rattle.tune_problem.specs.Valid.{IsCapRow, listed_fights, listed_indices}
-use Rattle.tune_problem.specs.declared.cert.Found.{Found}
+use Rattle.tune_problem.specs.declared.aim.Aim.{Aim}
 use Rattle.tune_problem.specs.declared.cert.Row.TheVariants.{Refused, Cap}
 use Rattle.tune_problem.proofs.CapRows.{whole}
 use Rattle.tune_search.specs.Plays.{played, row_of, row_with, rows_of}
 use Rattle.tune_search.specs.Order.{aim_at, enough, fight_order}
 use Rattle.tune_search.specs.Visits.{IsFought, IsListed, visits_before, ranking_before, setting_visited}
 use Rattle.tune_search.specs.Recent.{OneHas, ChangesRecent, IsRecent}
-use Rattle.tune_search.specs.Found.{IsSearch, copied_fights}
+use Rattle.tune_search.specs.Found.{copied_fights}
+use Rattle.tune_search.specs.Findings.{IsSearchFor}
+use Rattle.tune_search.specs.declared.findings.Findings.{Findings}
 use Rattle.tune_search.specs.declared.method.Method.TheVariants.{PlayingAll}
 use Rattle.tune_search.proofs.Enough.{all_enough}
 use Rattle.tune_search.proofs.Listed.{listed_rows}
 use Rattle.tune_search.proofs.ListedFights.{listed_is_row, listed_length, order_below}
-use Rattle.tune_search.proofs.OneAnswer.{same_lists}
+use Rattle.tune_search.proofs.OneAnswer.{rows_count, same_lists}
 use Rattle.tune_search.proofs.Orders.{order_permutes}
 use Rattle.tune_search.proofs.Totals.{order_length}
-use Rattle.tune_problem.specs.Ranking.{best_alone}
+use Rattle.tune_problem.specs.Ranking.{first_of}
 
 -- it remembers no setting
 nothing : (u : ℕ) (front back : List ℕ) → [] ≡ front ++ u ∷ back → ⊥
@@ -49,9 +51,9 @@ row_played : (p : Problem) (w : WarriorView) (a : ℕ) (row : List (ℕ × ℕ))
 row_played p w a [] h = refl
 row_played p w a (e ∷ row) h = let rest = row_played p w (e.0 + 1) row h.3 in λ i. (e.0, h.2 i) ∷ rest i
 
-module _ (p : Problem) (f : Found) (s : IsSearch p PlayingAll f) where
+module _ (p : Problem) (aim : Aim) (f : Findings) (s : IsSearchFor p aim PlayingAll f) where
   -- a setting that assembles is fought, and no copy
-  own : (v : ℕ) (w : WarriorView) → v < p.count → p.warrior v ≡ Some w → (f.copied ≢ Some v) × IsFought p best_alone PlayingAll f.rows v w
+  own : (v : ℕ) (w : WarriorView) → v < p.count → p.warrior v ≡ Some w → (f.copied ≢ Some v) × IsFought p aim PlayingAll f.rows v w
   own v w l is =
       let h = s.work.shared v w l is in
       let none : h.recent ≡ [] = none_recent p (visits_before p.start v) h.recent h.is_recent in
@@ -79,8 +81,8 @@ module _ (p : Problem) (f : Found) (s : IsSearch p PlayingAll f) where
         let order = fight_order p v in
         let permutes : IsPermutation (all_fights p) order = order_permutes p v laws in
         let many : length order ≡ p.fights = order_length p order permutes in
-        let all : take (enough p PlayingAll (aim_at p best_alone v) w order v (ranking_before p best_alone v)) order ≡ order =
-        ap (λ j. take j order) (all_enough p (aim_at p best_alone v) w order v (ranking_before p best_alone v)) ∙ take_all p.fights order (omega (arith, many)) in
+        let all : take (enough p PlayingAll (aim_at p aim v) w order v (ranking_before p aim v)) order ≡ order =
+        ap (λ j. take j order) (all_enough p (aim_at p aim v) w order v (ranking_before p aim v)) ∙ take_all p.fights order (omega (arith, many)) in
         let listed : IsListed p w order h.row = subst (λ (ks : List ℕ). IsListed p w ks h.row) all h.listed in
         let row : IsCapRow p w 0 h.row = listed_is_row p w order h.row (order_below p order permutes) listed in
         let indices : listed_indices h.row ≡ all_fights p = whole p laws w p.fights 0 h.row (omega arith) row (listed_length p w order h.row listed ∙ many) in
@@ -94,8 +96,10 @@ module _ (p : Problem) (f : Found) (s : IsSearch p PlayingAll f) where
         slice_get-get_or (rows_of p) v Refused (omega (arith, as_many, l)) ∙ ap (λ r. Some r) (get_or-map-range_with_len (row_of p) 0 p.count v v Refused l (omega arith))
 
     pub all_rows : f.rows ≡ rows_of p
-    all_rows = same_lists f.rows (rows_of p) (s.valid.rows_are ∙ sym as_many) (λ k l.
-        let inside : k < p.count = subst (λ (n : ℕ). k < n) s.valid.rows_are l in
+    all_rows =
+        let many = rows_count p aim.floor f.version f.rows (first_of f.ranking) s.certified in
+        same_lists f.rows (rows_of p) (many ∙ sym as_many) (λ k l.
+        let inside : k < p.count = subst (λ (n : ℕ). k < n) many l in
         row_at k (p.warrior k) inside refl ∙ sym (rows_at k inside))
 
     pub fights_of_all : f.fights ≡ f.candidates * p.fights

@@ -33,17 +33,17 @@ abbrev pub is_fought : List Row → (copied : Option ℕ) → (v : ℕ) → Bool
 is_fought rows copied v = is_cap (slice_get rows v) && not (is_copied copied v)
 
 -- Setting v was fought, by the rows of what a search found.
-abbrev pub was_fought : Found → ℕ → Bool
+abbrev pub was_fought : Findings → ℕ → Bool
 was_fought f v = is_fought f.rows f.copied v
 
 -- Setting v has this warrior, and was fought.
-pub record HasFought (p : Problem) (f : Found) (w : WarriorView) (v : ℕ) : Type 0 where
+pub record HasFought (p : Problem) (f : Findings) (w : WarriorView) (v : ℕ) : Type 0 where
   pub inside : v < p.count
   pub candidate : p.warrior v ≡ Some w
   pub fought : was_fought f v ≡ true
 
 -- The number of settings that were fought.
-unfoldable pub fought_count : Found → ℕ
+unfoldable pub fought_count : Findings → ℕ
 fought_count f = count_by (was_fought f) (range_with_len 0 (length f.rows))
 
 -- The number of fights that the copied row lists, 0 if there is none.

@@ -7,7 +7,7 @@ ghost use Rattle.tune_search.specs.Method.{capacity_of};
 ghost use Rattle.tune_search.specs.Plays.{rows_of};
 ghost use Rattle.tune_search.specs.Visits.{ranking_after};
 ghost use Rattle.tune_search.specs.Ranking.{IsRankingBy};
-ghost use Rattle.tune_search.specs.Found.{IsSearch, HasFought, fought_count};
+ghost use Rattle.tune_search.specs.Found.{IsSearch, HasFought, as_findings, fought_count};
 ghost use Rattle.tune_search.specs.Findings.{IsSearchFor, best_from};
 ghost use Rattle.tune_problem.specs.Ranking.{IsAim, first_of};
 ghost use Rattle.tune_problem.specs.Exact.{IsExact, listed_ranking};
@@ -26,8 +26,10 @@ pub fn visits_determine_the_recent_settings()
 /// States that no two settings that were fought have equal warriors, if the search may remember as
 /// many as were fought. The start setting must be one of the settings, as it is for all inputs.
 pub fn fought_settings_differ()
-    ensures { (p : Problem) (method : Method) (f : Found) (v u : ℕ) (w : WarriorView) → IsSearch p method f
+    ensures findings { (p : Problem) (aim : Aim) (method : Method) (f : Findings) (v u : ℕ) (w : WarriorView) → IsSearchFor p aim method f
         → p.start < p.count → fought_count f ≤ capacity_of method → HasFought p f w v → HasFought p f w u → v ≡ u }
+    ensures alone { (p : Problem) (method : Method) (f : Found) (v u : ℕ) (w : WarriorView) → IsSearch p method f → p.start < p.count
+        → fought_count (as_findings f) ≤ capacity_of method → HasFought p (as_findings f) w v → HasFought p (as_findings f) w u → v ≡ u }
 {}
 
 /// States that the inputs, the aim and the method determine what a search finds: its rows, and so
@@ -39,10 +41,12 @@ pub fn a_search_has_one_answer()
     ensures alone { (p : Problem) (method : Method) (f g : Found) → IsSearch p method f → IsSearch p method g → f ≡ g }
 {}
 
-/// States that all methods find the same setting, with the same total, and count the same number of
-/// settings that assemble.
+/// States that all methods find the same settings, with the same totals, and count the same number
+/// of settings that assemble; so for the best setting alone they find the same optimum.
 pub fn all_methods_find_the_optimum()
-    ensures { (p : Problem) (one other : Method) (f g : Found) → IsSearch p one f → IsSearch p other g
+    ensures ranking { (p : Problem) (aim : Aim) (one other : Method) (f g : Findings) → IsAim aim → IsSearchFor p aim one f → IsSearchFor p aim other g
+        → (f.ranking ≡ g.ranking) × (f.candidates ≡ g.candidates) }
+    ensures alone { (p : Problem) (one other : Method) (f g : Found) → IsSearch p one f → IsSearch p other g
         → (f.best ≡ g.best) × (f.total ≡ g.total) × (f.candidates ≡ g.candidates) }
 {}
 
@@ -51,9 +55,9 @@ pub fn all_methods_find_the_optimum()
 ///
 /// The premise `IsProblem`, that a fight gives 0, 1 or 3 points, holds for any inputs.
 pub fn playing_all_lists_every_fight()
-    ensures rows { (p : Problem) (f : Found) → IsProblem p → IsSearch p Method.PlayingAll f → f.rows ≡ rows_of p }
-    ensures fights { (p : Problem) (f : Found) → IsProblem p → IsSearch p Method.PlayingAll f → f.fights ≡ f.candidates * p.fights }
-    ensures copied { (p : Problem) (f : Found) → IsSearch p Method.PlayingAll f → f.copied ≡ None }
+    ensures rows { (p : Problem) (aim : Aim) (f : Findings) → IsProblem p → IsSearchFor p aim Method.PlayingAll f → f.rows ≡ rows_of p }
+    ensures fights { (p : Problem) (aim : Aim) (f : Findings) → IsProblem p → IsSearchFor p aim Method.PlayingAll f → f.fights ≡ f.candidates * p.fights }
+    ensures copied { (p : Problem) (aim : Aim) (f : Findings) → IsSearchFor p aim Method.PlayingAll f → f.copied ≡ None }
 {}
 
 /// States that a search with a floor finds the optimum if its total reaches the floor, and no best
