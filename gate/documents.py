@@ -1,12 +1,14 @@
 """Plays what README.md and docs/ show: files, commands with their output, and tables of runs.
 
-- `Save this as NAME` is the file of the next block, which is indented or between fences.
-- An indented block that begins with `$ ` has commands, each with its output. A line `..` of it
-  matches any lines, and `..` in a line any text. The output says the exit status: 1 if its last
-  line begins with `refused` or `rejected`, 2 with `error`, 3 with `failed`, and otherwise 0.
+A block is indented, or between fences.
+
+- `Save this as NAME`: the block after this paragraph is the file NAME.
+- A block that begins with `$ ` has commands, each with its output. A line `..` matches any lines,
+  and `..` in a line any text. The output says the exit status: 1 if its last line begins with
+  `refused` or `rejected`, 2 with `error`, 3 with `failed`, and otherwise 0.
 - A table with a column `Prints` has a run in each row, of the command that the paragraph before it
-  names last. `Text` is the file `x.red`. `With` is put in place of the lines `Instead of` of a
-  saved file that the command names. A head in capitals is a word of the command.
+  names last. `Text` is the file `x.red`. `With` replaces the lines `Instead of` in a saved file
+  that the command names. A head in capitals is a word of the command.
 
 Also looks in each document for the lines of a merge that nobody has settled.
 """
@@ -24,10 +26,9 @@ DOCUMENTS = [ROOT / "README.md", *sorted((ROOT / "docs").glob("*.md"), reverse=T
 # The folders for commands that are not typed at the top.
 FOLDERS = {"TOOLS.md": "examples/tuning"}
 BLOCK = re.compile(r"(?:^    .*\n)+|^```.*\n(?:.*\n)*?```\n", re.M)
-# What is saved: `Save this as NAME`, and the next block.
 SAVED = re.compile(r"Save\s+this\s+as\s+`([^`]+)`")
-# A paragraph, and the table after it.
-TABLE = re.compile(r"((?:^[^|\n].*\n)+)\n((?:^\|.*\n)+)", re.M)
+# A paragraph, which may be missing, and a table.
+TABLE = re.compile(r"((?:^[^|\n].*\n)*)\n((?:^\|.*\n)+)", re.M)
 STATUSES = {"refused": 1, "rejected": 1, "error": 2, "failed": 3}
 END = "end of a command"
 SECONDS = 600
@@ -54,29 +55,36 @@ def text_of(block):
 
 
 def saved_files(text):
-    """Returns the texts of the files that a document says to save, by name."""
-    return {match[1]: text_of(BLOCK.search(text, match.end())[0])
-            for match in SAVED.finditer(text)}
+    """Returns the texts of the files that a document says to save, None without a block."""
+    files = {}
+    for match in SAVED.finditer(text):
+        block = BLOCK.match(text, text.find("\n\n", match.end()) + 2)
+        files[match[1]] = text_of(block[0]) if block else None
+    return files
 
 
 def runs_in_blocks(text):
     """Returns the runs that the blocks of a document show."""
     runs = []
     for block in BLOCK.findall(text):
-        if block.startswith("    $ "):
-            lines = text_of(block).replace("\\\n", "")
+        lines = text_of(block).replace("\\\n", "")
+        if lines.startswith("$ "):
             parts = [part.split("\n", 1) for part in re.split(r"^\$ ", lines, flags=re.M)[1:]]
             runs += [Run(command, command, printed) for command, printed in parts]
     return runs
 
 
-def tables(text):
-    """Yields the paragraph before each table, and its rows by their heads."""
+def cells_of(line):
+    """Returns the cells of a line of a table."""
+    return [cell.strip().replace("\\|", "|") for cell in re.split(r"(?<!\\)\|", line)[1:-1]]
+
+
+def rows_of(text):
+    """Yields each row of a table of runs: the commands named before the table, heads and cells."""
     for paragraph, table in TABLE.findall(text):
-        head, _, *rows = ([cell.strip().replace("\\|", "|")
-                           for cell in re.split(r"(?<!\\)\|", line)[1:-1]]
-                          for line in table.splitlines())
-        yield " ".join(paragraph.split()), [dict(zip(head, row)) for row in rows]
+        head, *rows = map(cells_of, table.splitlines())
+        commands = re.findall(r"`(cwtune [^`]+)`", " ".join(paragraph.split()))
+        yield from ((commands, head, row) for row in rows[1:] if "Prints" in head)
 
 
 def lines_in(cell):
@@ -87,7 +95,7 @@ def lines_in(cell):
 
 def file_of_row(row, command, saved):
     """Returns the name of the file that a row is about, and its text in that row."""
-    if "Text" in row:
+    if "With" not in row:
         return "x.red", lines_in(row["Text"])
     old = lines_in(row["Instead of"])
     name, = (name for name in saved if name in command.split() and old in saved[name])
@@ -96,27 +104,23 @@ def file_of_row(row, command, saved):
 
 def run_of_row(row, command, saved, number):
     """Returns the run of a row. Its file has a name of its own."""
-    files, name = {}, f"{command}: {next(iter(row.values()))}"
-    if "Text" in row or "With" in row:
-        file, text = file_of_row(row, command, saved)
-        files[f"row-{number}"] = text
-        command = command.replace(file, f"row-{number}")
+    files, name = {}, f"{command}: {' | '.join(row.values())}"
+    if row.keys() & {"Text", "With"}:
+        file, files[f"row-{number}"] = file_of_row(row, command, saved)
+        before, after = command.split(file)
+        command = f"{before}row-{number}{after}"
     for head in filter(str.isupper, row):
         command = re.sub(rf"\b{head}\b", lambda _, cell=row[head]: lines_in(cell).strip(), command)
     return Run(name, command, lines_in(row["Prints"]), files)
 
 
 def runs_in_tables(text, saved):
-    """Yields the runs that the tables of a document show, or what a table lacks."""
-    number = 0
-    for paragraph, rows in tables(text):
-        commands = re.findall(r"`(cwtune [^`]+)`", paragraph)
-        for row in (row for row in rows if "Prints" in row):
-            number += 1
-            try:
-                yield run_of_row(row, commands[-1], saved, number)
-            except (IndexError, KeyError, ValueError):
-                yield f"no command before a table, or no file of it, for the row {row}"
+    """Yields the runs that the tables of a document show, or what a row lacks."""
+    for number, (commands, head, row) in enumerate(rows_of(text)):
+        try:
+            yield run_of_row(dict(zip(head, row, strict=True)), commands[-1], saved, number)
+        except (IndexError, KeyError, ValueError):
+            yield f"the row {row} has no command, not its cells, or no file of the command"
 
 
 def is_printed(expected, output):
@@ -140,22 +144,27 @@ def typed(program, runs, folder):
     return re.findall(rf"((?:.*\n)*?){END} (\d+)\n", out)
 
 
+def write_files(folder, tables):
+    for name, text in (pair for table in tables for pair in table.items()):
+        (folder / name).write_text(text)
+
+
 def played(program, document, folder):
     """Plays what a document shows. Yields each run with what was wrong."""
     text = document.read_text("utf-8")
     saved = saved_files(text)
-    found = [*runs_in_blocks(text), *runs_in_tables(text, saved)]
+    found = [f"no block to save as {name}" for name in saved if saved[name] is None]
+    saved = {name: saved[name] for name in saved if saved[name] is not None}
+    found += [*runs_in_blocks(text), *runs_in_tables(text, saved)]
     runs = [run for run in found if isinstance(run, Run)]
     yield from ((document.name, [lack]) for lack in found if isinstance(lack, str))
-    for name, text in (pair for files in (saved, *(run.files for run in runs))
-                       for pair in files.items()):
-        (folder / name).write_text(text)
+    write_files(folder, [saved, *(run.files for run in runs)])
     came = typed(program, runs, folder)
     for run, (out, status) in zip(runs, came):
         right = is_printed(run.printed, out) and int(status) == run.status()
         yield f"{document.name}: {run.name}", [] if right else [f"came {out!r}, status {status}"]
     if len(came) < len(runs):
-        yield f"{document.name}: {runs[len(came)].name}", [f"did not end in {SECONDS} seconds"]
+        yield f"{document.name}: {runs[len(came)].name}", ["ended the shell, or did not end"]
 
 
 def left_by_merge(text):
