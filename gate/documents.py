@@ -99,7 +99,8 @@ def file_of_row(row, command, saved):
         return "x.red", lines_in(row["Text"])
     old = lines_in(row["Instead of"])
     name, = (name for name in saved if name in command.split() and old in saved[name])
-    return name, saved[name].replace(old, lines_in(row["With"]))
+    before, _, after = saved[name].partition(old)
+    return name, before + lines_in(row["With"]) + after
 
 
 def run_of_row(row, command, saved, number):
