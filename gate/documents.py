@@ -142,7 +142,8 @@ def typed(program, runs, folder):
                              stderr=subprocess.STDOUT, encoding="utf-8", timeout=SECONDS).stdout
     except subprocess.TimeoutExpired as late:
         out = (late.stdout or b"").decode(errors="replace")
-    return re.findall(rf"((?:.*\n)*?){END} (\d+)\n", out)
+    parts = re.split(rf"{END} (\d+)\n", out)
+    return list(zip(parts[::2], parts[1::2]))
 
 
 def write_files(folder, tables):
