@@ -4,7 +4,7 @@ A block is indented, or between fences.
 
 - `Save this as NAME`: the block after this paragraph is the file NAME.
 - A block that begins with `$ ` has commands, each with its output. A line `..` matches any lines,
-  and `..` in a line any text. The output says the exit status: 1 if its last line begins with
+  and `..` in a line any text. The output says the exit status: 1 after a line that begins with
   `refused` or `rejected`, 2 with `error`, 3 with `failed`, and otherwise 0.
 - A table with a column `Prints` has a run in each row, of the command that the paragraph before it
   names last. `Text` is the file `x.red`. `With` replaces the lines `Instead of` in a saved file
@@ -43,8 +43,8 @@ class Run(NamedTuple):
     files: dict = {}
 
     def status(self):
-        last = self.printed.rstrip("\n").rpartition("\n")[2]
-        return STATUSES.get(re.split("[: ]", last)[0], 0)
+        words = re.findall(rf"(?m)^({'|'.join(STATUSES)})[: ]", self.printed)
+        return STATUSES[words[-1]] if words else 0
 
 
 def text_of(block):
