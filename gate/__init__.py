@@ -8,7 +8,7 @@ answers          which answers the prover does without (run by hand)
 edits            wrong bodies (crates/*/must-fail/) that the prover has to refuse, and for each
                  crate a body (harmless/) that it must not refuse
 play_cases       the cases: runs of the program as data (cases/)
-documents        the commands that README.md and docs/ show with their output
+documents        what README.md and docs/ show: commands with their output, and tables of runs
 pipes            pipes, closed streams, links, kills
 terminals        progress, and what a terminal is told
 cuts             texts that end after each of their bytes

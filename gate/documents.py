@@ -1,111 +1,172 @@
-"""Types the commands of README.md and docs/ that are shown with their output, and compares it.
+"""Plays what README.md and docs/ show: files, commands with their output, and tables of runs.
 
-An indented block that begins with `$ ` holds commands, each with its output; a line `..` of it
-matches any lines. Also assembles the texts that REDCODE.md shows in tables, and looks in each
-document for the lines of a merge that nobody has settled.
+A block is indented, or between fences.
+
+- `Save this as NAME`: the block after this paragraph is the file NAME.
+- A block that begins with `$ ` has commands, each with its output. A line `..` matches any lines,
+  and `..` in a line any text. The output says the exit status: 1 after a line that begins with
+  `refused` or `rejected`, 2 with `error`, 3 with `failed`, and otherwise 0.
+- A table with a column `Prints` has a run in each row, of the command that the paragraph before it
+  names last. `Text` is the file `x.red`. `With` replaces the lines `Instead of` in a saved file
+  that the command names. A head in capitals is a word of the command.
+
+Also looks in each document for the lines of a merge that nobody has settled.
 """
 import os, pathlib, re, shutil, subprocess, tempfile
+from typing import NamedTuple
 
 from author.lib.endings import run_tool
 from author.lib.words import program_word
 
-from .play import end, play
-from .tally import compare, tally
+from .tally import tally
 
 ROOT = pathlib.Path(__file__).resolve().parent.parent
 # All documents share a folder: USING.md goes on with the files of README.md, which comes first.
 DOCUMENTS = [ROOT / "README.md", *sorted((ROOT / "docs").glob("*.md"), reverse=True)]
 # The folders for commands that are not typed at the top.
 FOLDERS = {"TOOLS.md": "examples/tuning"}
-BLOCK = re.compile(r"(?:^    .*\n)+", re.M)
-# What is saved: `Save this as NAME`, and the next block.
-SAVED = re.compile(r"Save this as\s+`([^`]+)`")
+BLOCK = re.compile(r"(?:^    .*\n)+|^```.*\n(?:.*\n)*?```\n", re.M)
+SAVED = re.compile(r"Save\s+this\s+as\s+`([^`]+)`")
+# A paragraph, which may be missing, and a table.
+TABLE = re.compile(r"((?:^[^|\n].*\n)*)\n((?:^\|.*\n)+)", re.M)
+STATUSES = {"refused": 1, "rejected": 1, "error": 2, "failed": 3}
 END = "end of a command"
 SECONDS = 600
 
 
-def without_margin(block):
+class Run(NamedTuple):
+    """A command that a document shows, what it prints, and the texts of its own files by name."""
+
+    name: str
+    command: str
+    printed: str
+    files: dict = {}
+
+    def status(self):
+        words = re.findall(rf"(?m)^({'|'.join(STATUSES)})[: ]", self.printed)
+        return STATUSES[words[-1]] if words else 0
+
+
+def text_of(block):
+    """Returns the text of a block, without its margin or its fences."""
+    if block.startswith("```"):
+        return "".join(block.splitlines(keepends=True)[1:-1])
     return re.sub(r"^    ", "", block, flags=re.M)
 
 
-def commands_of(text):
-    """Returns the commands of a document, each with what it prints."""
-    commands = []
+def saved_files(text):
+    """Returns the texts of the files that a document says to save, None without a block."""
+    files = {}
+    for match in SAVED.finditer(text):
+        block = BLOCK.match(text, text.find("\n\n", match.end()) + 2)
+        files[match[1]] = text_of(block[0]) if block else None
+    return files
+
+
+def runs_in_blocks(text):
+    """Returns the runs that the blocks of a document show."""
+    runs = []
     for block in BLOCK.findall(text):
-        if block.startswith("    $ "):
-            lines = without_margin(block).replace("\\\n", "")
-            parts = re.split(r"^\$ ", lines, flags=re.M)[1:]
-            commands += [part.split("\n", 1) for part in parts]
-    return commands
+        lines = text_of(block).replace("\\\n", "")
+        if lines.startswith("$ "):
+            parts = [part.split("\n", 1) for part in re.split(r"^\$ ", lines, flags=re.M)[1:]]
+            runs += [Run(command, command, printed) for command, printed in parts]
+    return runs
+
+
+def cells_of(line):
+    """Returns the cells of a line of a table."""
+    return [cell.strip().replace("\\|", "|") for cell in re.split(r"(?<!\\)\|", line)[1:-1]]
+
+
+def rows_of(text):
+    """Yields each row of a table of runs: the commands named before the table, heads and cells."""
+    for paragraph, table in TABLE.findall(text):
+        head, *rows = map(cells_of, table.splitlines())
+        commands = re.findall(r"`(cwtune [^`]+)`", " ".join(paragraph.split()))
+        yield from ((commands, head, row) for row in rows[1:] if "Prints" in head)
+
+
+def lines_in(cell):
+    """Returns the text whose lines a cell begins with."""
+    code = re.match(r"(?:`[^`]*`(?: / )?)*", cell)[0]
+    return "".join(f"{line}\n" for line in re.findall("`([^`]*)`", code))
+
+
+def file_of_row(row, command, saved):
+    """Returns the name of the file that a row is about, and its text in that row."""
+    if "With" not in row:
+        return "x.red", lines_in(row["Text"])
+    old = lines_in(row["Instead of"])
+    name, = (name for name in saved if name in command.split() and old in saved[name])
+    before, _, after = saved[name].partition(old)
+    return name, before + lines_in(row["With"]) + after
+
+
+def run_of_row(row, command, saved, number):
+    """Returns the run of a row. Its file has a name of its own."""
+    files, name = {}, f"{command}: {' | '.join(row.values())}"
+    if row.keys() & {"Text", "With"}:
+        file, files[f"row-{number}"] = file_of_row(row, command, saved)
+        before, after = command.split(file)
+        command = f"{before}row-{number}{after}"
+    for head in filter(str.isupper, row):
+        command = re.sub(rf"\b{head}\b", lambda _, cell=row[head]: lines_in(cell).strip(), command)
+    return Run(name, command, lines_in(row["Prints"]), files)
+
+
+def runs_in_tables(text, saved):
+    """Yields the runs that the tables of a document show, or what a row lacks."""
+    for number, (commands, head, row) in enumerate(rows_of(text)):
+        try:
+            yield run_of_row(dict(zip(head, row, strict=True)), commands[-1], saved, number)
+        except (IndexError, KeyError, ValueError):
+            yield f"the row {row} has no command, not its cells, or no file of the command"
 
 
 def is_printed(expected, output):
     """Checks whether a command printed what a document shows."""
-    lines = (r"(?:.*\n)*" if line.strip() == ".." else re.escape(line + "\n")
+    lines = (r"(?:.*\n)*" if line.strip() == ".." else
+             ".*".join(re.escape(part) for part in line.split("..")) + "\n"
              for line in expected.splitlines())
     return re.fullmatch("".join(lines), output) is not None
 
 
-def save_files(text, folder):
-    """Saves the files that a document says to save."""
-    for match in SAVED.finditer(text):
-        block = BLOCK.search(text, match.end())
-        (folder / match[1]).write_text(without_margin(block[0]))
-
-
-def typed(program, document, folder):
-    """Types the commands of a document in a shell, up to one that fails. Yields each with what was
-    wrong."""
-    text = document.read_text("utf-8")
-    save_files(text, folder)
-    commands = commands_of(text)
-    shell = "".join(f"{command}\necho '{END}'\n" for command, _ in commands)
+def typed(program, runs, folder):
+    """Types commands in a shell. Returns the output and the status of each, as far as it comes."""
+    shell = "".join(f"{run.command}\necho \"{END} $?\"\n" for run in runs)
     path = f"{pathlib.Path(program).parent}:{ROOT / 'author'}:{os.environ['PATH']}"
     try:
-        done = subprocess.run(["bash", "-e", "-c", shell],
-                              cwd=folder / FOLDERS.get(document.name, "."),
-                              env={**os.environ, "PATH": path}, stdin=subprocess.DEVNULL,
-                              stdout=subprocess.PIPE, stderr=subprocess.STDOUT, encoding="utf-8",
-                              timeout=SECONDS)
+        out = subprocess.run(["bash", "-c", shell], cwd=folder, env={**os.environ, "PATH": path},
+                             stdin=subprocess.DEVNULL, stdout=subprocess.PIPE,
+                             stderr=subprocess.STDOUT, encoding="utf-8", timeout=SECONDS).stdout
     except subprocess.TimeoutExpired as late:
-        ended = str(late.stdout).count(END)
-        yield f"{document.name}: its commands", [f"took more than {SECONDS} seconds, after {ended}"]
-        return
-    outputs = done.stdout.split(f"{END}\n")
-    for (command, expected), came in zip(commands, outputs):
-        right = is_printed(expected, came)
-        yield f"{document.name}: {command}", [] if right else [f"came {came!r}"]
-    if len(outputs) <= len(commands):
-        yield f"{document.name}: its commands", [f"ended after {len(outputs) - 1}"]
+        out = (late.stdout or b"").decode(errors="replace")
+    parts = re.split(rf"{END} (\d+)\n", out)
+    return list(zip(parts[::2], parts[1::2]))
 
 
-def cells_of(text, head):
-    """Yields the cells of each row of a table."""
-    for row in text.partition(f"\n{head}\n")[2].split("\n")[1:]:
-        if not row.startswith("| "):
-            return
-        yield row[2:-2].replace("\\|", "|").split(" | ")
+def write_files(folder, tables):
+    for name, text in (pair for table in tables for pair in table.items()):
+        (folder / name).write_text(text)
 
 
-def lines_in(cell):
-    """Returns the text whose lines a cell shows."""
-    return "".join(f"{line}\n" for line in re.findall("`([^`]*)`", cell))
-
-
-def assembled(program):
-    """Assembles the texts that REDCODE.md shows with a load file or a fault. Yields each with what
-    was wrong."""
-    text = (ROOT / "docs/REDCODE.md").read_text("utf-8")
-    good = [(source, end(0, lines_in(load)))
-            for source, load, _ in cells_of(text, "| Text | Load file | Why |")]
-    bad = []
-    for source, said in cells_of(text, "| Text | Fault |"):
-        fault, line = re.match(r"`(.*?)`(?: at line (\d+))?", said).groups("1")
-        bad.append((source, end(1, err=f"refused: Asm line {line} {fault}\n")))
-    yield "texts in REDCODE.md", [] if good and bad else ["none was found"]
-    for source, wanted in good + bad:
-        yield compare(f"REDCODE.md: {source}", wanted,
-                      play(program, ["asm", "x.red"], {"x.red": lines_in(source)}))
+def played(program, document, folder):
+    """Plays what a document shows. Yields each run with what was wrong."""
+    text = document.read_text("utf-8")
+    saved = saved_files(text)
+    found = [f"no block to save as {name}" for name in saved if saved[name] is None]
+    saved = {name: saved[name] for name in saved if saved[name] is not None}
+    found += [*runs_in_blocks(text), *runs_in_tables(text, saved)]
+    runs = [run for run in found if isinstance(run, Run)]
+    yield from ((document.name, [lack]) for lack in found if isinstance(lack, str))
+    write_files(folder, [saved, *(run.files for run in runs)])
+    came = typed(program, runs, folder)
+    for run, (out, status) in zip(runs, came):
+        right = is_printed(run.printed, out) and int(status) == run.status()
+        yield f"{document.name}: {run.name}", [] if right else [f"came {out!r}, status {status}"]
+    if len(came) < len(runs):
+        yield f"{document.name}: {runs[len(came)].name}", ["ended the shell, or did not end"]
 
 
 def left_by_merge(text):
@@ -116,16 +177,15 @@ def left_by_merge(text):
 def trials(program):
     for document in DOCUMENTS:
         yield f"{document.name}: no unsettled merge", left_by_merge(document.read_text("utf-8"))
-    yield from assembled(program)
     with tempfile.TemporaryDirectory() as name:
         folder = pathlib.Path(name)
         shutil.copytree(ROOT / "examples", folder / "examples")
         count = 0
         for document in DOCUMENTS:
-            for trial in typed(program, document, folder):
+            for trial in played(program, document, folder / FOLDERS.get(document.name, ".")):
                 count += 1
                 yield trial
-        yield "commands in documents", [] if count else ["none was found"]
+        yield "runs in documents", [] if count else ["none was found"]
 
 
 def main():
