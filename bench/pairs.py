@@ -25,8 +25,9 @@ class Pair:
     """Two warriors, each a name and a load file, and what is measured of their series.
 
     `cwtune_seconds` and `pmars_seconds` are the least that each program took, `points` the
-    candidate's points, `ties` how many fights are ties, and `unclassed` the share of the turns of
-    the first fight whose instruction has no class of its own.
+    candidate's points, `ties` how many fights are ties, `executed` how often each instruction was
+    executed in the first fight, and `unclassed` the share of its turns whose instruction has no
+    class of its own. `folder` has the schedule as `s.csv`.
     """
 
     def __init__(self, candidate, opponent, programs, folder):
@@ -36,12 +37,13 @@ class Pair:
         self.points, self.ties = None, None
         cwtune, pmars = map(str, programs)
         game = Game(Rules(), my_load, their_load, tempfile.mkdtemp(dir=folder))
+        self.folder = game.folder
         self.fights = series_length(game, pmars)
         self.tune_words = game.tune_words(cwtune, fights_of(game.rules, SEED, self.fights))
         self.pmars_words = game.series_words(pmars, SEED, self.fights)
         fight = plain_machine.Fight(game.rules, (my_load, their_load), SEED)
         fight.play()
-        self.unclassed = fight.unclassed()
+        self.unclassed, self.executed = fight.unclassed(), fight.executed
         _, came = processor_time(game.fight_words(cwtune, SEED, "c"))
         if came != fight.result():
             raise Fault(f"{self.name}: cwtune has {came!r}, plain_machine.py {fight.result()!r}",

@@ -30,7 +30,7 @@ REFUSED = {
                    "gate.ranking_trials", "gate.scripts", "gate.shares", "gate.cert_inputs_trials",
                    "gate.races_trials", "gate.refuse.memory", "gate.refuse.writes",
                    "gate.refuse.two_devices", "release.try_release", "bench.measure --program",
-                   "bench.loop_place --program",
+                   "bench.loop_place --program", "bench.limit --pmars=none --program",
                    "bench.searches none --program", "bench.races --results=none --program",
                    "bench.naive 1 1 none none --program"],
     "make pmars": ["pmars.compare", "bench.measure --pmars", "bench.random_pairs --pmars",

@@ -1,0 +1,115 @@
+"""Measures how far the program is from what a processor could do, beside pMARS.
+
+Plays the series of all pairs of a folder of bench by three programs in turn, as bench.measure does:
+by `cwtune`, by pMARS, and by limit.cc, a simulator with every trick and no proof. A line for each
+pair says how many times as fast as pMARS the other two are. Then come the geometric means, and the
+instructions that were executed most in the first fights of the pairs: the share of the turns, and
+whether the hot loop has an arm for it (docs/HOT_LOOP.md). Needs clang++.
+"""
+import collections, itertools, math, pathlib, re, shutil, subprocess, tempfile
+
+from author.lib.endings import Fault, run_tool
+from author.lib.program import program_of
+from author.lib.words import add_program, module_parser, number_from
+
+from .pairs import FOLDERS, HERE, Pair, loads_of, mean_and_least, play_in_turn, processor_time
+from .plain_machine import LINE, classes
+
+FLAGS = ["-std=c++17", "-O2", "-march=x86-64-v2", "-fno-pie", "-static", "-fno-strict-aliasing"]
+OPCODES = "DAT MOV ADD SUB MUL DIV MOD JMP JMZ JMN DJN SEQ SNE SLT SPL NOP".split()
+MODIFIERS = "A B AB BA F X I".split()
+MODES = "#$*@{<}>"
+# The instructions that are shown.
+SHOWN = 24
+
+
+def key_of(line):
+    """Returns the key of an instruction as limit.cc numbers it."""
+    opcode, modifier, a_mode, _, b_mode, _ = LINE.fullmatch(line).groups()
+    return (OPCODES.index(opcode) | MODIFIERS.index(modifier) << 4 | MODES.index(a_mode) << 7
+            | MODES.index(b_mode) << 10)
+
+
+def built(loads, folder):
+    """Builds limit.cc for the instructions of some load files. Returns its path."""
+    clang, program = shutil.which("clang++"), folder / "limit"
+    if not clang:
+        raise Fault("no clang++ on the PATH (Debian: apt-get install clang)", 2)
+    keys = {key_of(line) for load in loads for line in load.splitlines()[1:]}
+    (folder / "KEYS.inc").write_text("".join(f"{key},\n" for key in sorted(keys)))
+    done = subprocess.run([clang, *FLAGS, f"-I{folder}", "-o", program, HERE / "limit.cc"],
+                          capture_output=True, text=True)
+    if done.returncode:
+        raise Fault(f"clang++: {done.stderr.strip()}", 3)
+    return program
+
+
+class LimitPair(Pair):
+    """A pair that the simulator plays too: `limit_seconds` are the least that it took."""
+
+    def __init__(self, candidate, opponent, programs, folder):
+        *programs, limit = programs
+        super().__init__(candidate, opponent, programs, folder)
+        self.limit_seconds = math.inf
+        self.limit_words = [str(limit)]
+        for name, load in (candidate, opponent):
+            path = pathlib.Path(tempfile.mkdtemp(dir=folder), f"{name}.load")
+            path.write_text(load, "ascii")
+            self.limit_words.append(str(path))
+        self.limit_words.append(str(self.folder / "s.csv"))
+
+    def play(self):
+        super().play()
+        seconds, output = processor_time(self.limit_words)
+        points = int(re.fullmatch(r"total (\d+)\n", output)[1])
+        if points != self.points:
+            raise Fault(f"{self.name}: limit.cc has {points} points, cwtune {self.points}", 3)
+        self.limit_seconds = min(self.limit_seconds, seconds)
+
+    def limit_ratio(self):
+        """Returns how many times as fast as pMARS the simulator is."""
+        return self.pmars_seconds / self.limit_seconds
+
+
+def print_instructions(pairs):
+    """Prints the instructions that were executed most, each pair counting alike."""
+    known, shares = classes(), collections.Counter()
+    for pair in pairs:
+        turns = sum(pair.executed.values())
+        for words, count in pair.executed.items():
+            shares[words] += count / turns / len(pairs)
+    for (opcode, modifier, *modes), share in shares.most_common(SHOWN):
+        words = (opcode, modifier, *modes)
+        print(f"{f'{opcode}.{modifier} {modes[0]}, {modes[1]}':<32}{share:>8.1%}"
+              f"{'' if words in known else '  no arm'}")
+    rest = sum(share for words, share in shares.items() if words not in known)
+    print(f"{'all without an arm':<32}{rest:>8.1%}")
+
+
+def main():
+    parser = module_parser("bench.limit", __doc__)
+    add_program(parser)
+    parser.add_argument("--pmars", required=True, metavar="PATH", help="a pMARS server build")
+    parser.add_argument("--folder", choices=FOLDERS, default="unseen",
+                        help="the warriors [default: unseen]")
+    parser.add_argument("--runs", type=number_from(1), default=3, metavar="N",
+                        help="runs of each series [default: 3]")
+    asked = parser.parse_args()
+    program = program_of(asked.program)
+    pmars = program_of(asked.pmars, "make pmars")
+    with tempfile.TemporaryDirectory() as name:
+        warriors = loads_of(program, FOLDERS[asked.folder])
+        limit = built([load for _, load in warriors], pathlib.Path(name))
+        pairs = play_in_turn((LimitPair(*both, (program, pmars, limit), name)
+                              for both in itertools.combinations(warriors, 2)), asked.runs)
+    print(f"{asked.folder:<32}{'cwtune':>8}{'limit':>8}")
+    for pair in pairs:
+        print(f"{pair.name:<32}{pair.ratio():>8.2f}{pair.limit_ratio():>8.2f}")
+    print(f"cwtune: {mean_and_least([pair.ratio() for pair in pairs])}")
+    print(f"limit: {mean_and_least([pair.limit_ratio() for pair in pairs])}")
+    print_instructions(pairs)
+    return 0
+
+
+if __name__ == "__main__":
+    run_tool(main)
