@@ -171,6 +171,8 @@ def print_fresh(name, player, report):
 def print_tuned(report):
     """Prints what the tuning of a whole template found."""
     best, winner, start = report["ranking"][0], report["winner"], report["start"]
+    if report["refused"]:
+        print(f"{report['refused']} of the {report['settings']} settings do not assemble")
     print(f"tuned: setting {best['setting']} is best, total {best['tuned']} of "
           f"{report['schedule']['greatest']}, START {start['tuned']}; the certificate is checked")
     print_fresh(f"setting {winner['setting']}, rank {winner['rank']}", winner, report)
