@@ -83,7 +83,8 @@ class Study:
         name = "warrior.red" if self.args.ranges else "template.red"
         if inputs.original != inputs.warrior:
             folder.write("original.red", inputs.original)
-            folder.run(self.author_words("cwtune-adapt", "original.red"), name)
+            # The author was told once, by the name of his own file.
+            folder.run(self.author_words("cwtune-adapt", "original.red"), name, is_silent=True)
         else:
             folder.write(name, inputs.warrior)
         if self.args.ranges:
@@ -201,6 +202,8 @@ def print_end(folder, report):
     print_raced(report) if report["race"] else print_tuned(report)
     if gain and report["winner"]["values"] != report["start"]["values"]:
         print(f"over START: {gain['percent']:+.1f}% +- {gain['error']:.1f}, {gain['words']}")
+        if gain["words"] != "a gain":
+            print("keep START: winner.red gains nothing in these fights")
     else:
         print("the winner is START: nothing better was found")
     for name in ["winner.red", "report.html"]:

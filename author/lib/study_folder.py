@@ -185,19 +185,20 @@ class StudyFolder(OwnFolder):
         self.stage_commands.append({"command": f"# {text}", "seconds": round(seconds, 2),
                                     "said": []})
 
-    def run(self, words, output_name, logs_messages=True):
+    def run(self, words, output_name, logs_messages=True, is_silent=False):
         """Runs a command in the folder, with its output in a file there. Its fault is this
-        command's. With `logs_messages` the log gets what it says on standard error, too. Returns
-        these lines."""
+        command's. With `logs_messages` the log gets what it says on standard error, too; with
+        `is_silent` nobody else does, if it has no fault. Returns these lines."""
         began_at = time.monotonic()
         argv = words
         if words[0].startswith("cwtune-"):
             argv = [sys.executable, str(AUTHOR / words[0]), *words[1:]]
         with self.whole_file(output_name, "wb") as file:
-            status, messages = run_in(self.path, argv, file, logs_messages)
+            status, messages = run_in(self.path, argv, file, logs_messages, is_silent)
             if status < 0:
                 raise ended_with(words[0], status)
             if status:
+                sys.stderr.write("".join(f"{line}\n" for line in messages if is_silent))
                 sys.exit(status_of(status))
         self.log_command(words, output_name, time.monotonic() - began_at, messages)
         return messages
@@ -216,9 +217,9 @@ def quoted(word):
     return f"\"$(printf '{octal}')\""
 
 
-def run_in(folder, argv, output, returns_messages):
+def run_in(folder, argv, output, returns_messages, is_silent):
     """Runs a command. Returns its status, and with `returns_messages` the lines that it wrote on
-    standard error, which are passed on."""
+    standard error, which are passed on unless it `is_silent`."""
     messages = []
     with subprocess.Popen(argv, cwd=folder, stdin=subprocess.DEVNULL, stdout=output,
                           stderr=subprocess.PIPE if returns_messages else None,
@@ -226,7 +227,7 @@ def run_in(folder, argv, output, returns_messages):
         try:
             for line in job.stderr or ():
                 with naming("standard error"):
-                    sys.stderr.buffer.write(line)
+                    sys.stderr.buffer.write(line * (not is_silent))
                     sys.stderr.flush()
                 messages.append(line.decode(errors="surrogateescape").rstrip("\n"))
             return job.wait(), messages

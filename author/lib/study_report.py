@@ -49,7 +49,7 @@ def opening(report):
         f"{decimal(winner['fresh']['percent'])}% of the points and START "
         f"{decimal(start['fresh']['percent'])}%: <strong class=\"winner\">"
         f"{with_error(abs(gain['percent']), gain['error'])}</strong> percentage points {more}, "
-        f"{escaped(gain['words'])}.")
+        f"{escaped(gain['words'])}." + " Keep START." * (gain["words"] != "a gain"))
     notes = ["These fights picked nothing: they were played once the winner was known.", ERROR_NOTE]
     if start["values"] == winner["values"]:
         notes.insert(0, "The winner is START itself.")

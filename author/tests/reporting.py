@@ -156,7 +156,7 @@ def sentences():
     start, winner_values = report["start"], report["winner"]["values"]
     for percent, error, words, sentence in [
             (12.34, 1.23, "a gain", "12.3 ± 1.2 percentage points more, a gain."),
-            (-0.45, 1.2, "a loss", "0.5 ± 1.2 percentage points less, a loss.")]:
+            (-0.45, 1.2, "a loss", "0.5 ± 1.2 percentage points less, a loss. Keep START.")]:
         gain = report["gain"] | {"percent": percent, "error": error, "words": words}
         yield from says(report, sentence, gain=gain)
     yield from says(report, "The winner is START itself.", start=start | {"values": winner_values})
@@ -164,8 +164,8 @@ def sentences():
                     start=start | {"values": winner_values | {"STEP": 1}})
     yield from says(report, "Proved: the ranking of all 134,421 settings: 7 of them do not "
                     "assemble; each other one played all 160 fights",
-                    "–: the setting does not assemble.", "(lost)", "Marked: the winner lost against this "
-                    "opponent", "dwarf.red ", "imp-ring.red (counts 2 times)")
+                    "–: the setting does not assemble.", "(lost)", "Marked: the winner lost "
+                    "against this opponent", "dwarf.red ", "imp-ring.red (counts 2 times)")
     yield from says(REPORTS["many values"], "Each point is the greatest total among 2 values",
                     "(10,001 values)", "The totals are in report.json")
     race = REPORTS["a race"]
