@@ -89,8 +89,8 @@ class Study:
         if self.args.ranges:
             words = [opening.word for opening in self.args.ranges]
             as_is = ["--as-is"] * self.args.as_is
-            folder.run(self.author_words("cwtune-vary", *as_is, "warrior.red", *words),
-                       "template.red")
+            name = "warrior.red" if inputs.original == inputs.warrior else "original.red"
+            folder.run(self.author_words("cwtune-vary", *as_is, name, *words), "template.red")
         grid = Grid(folder.path / "template.red")
         folder.write("start.red", grid.line_through(grid.start_values, ()))
 
