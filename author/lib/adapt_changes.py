@@ -168,17 +168,7 @@ class Finder:
                 new, note = chars.of_root(root).strip(), f"{word} is written out"
             elif what == "CURLINE" and not text.blocks:
                 new = self.curline.written(value)
-                self.name_counts()
             self.add((text.index, *root), new, note, text.reading)
-
-    def name_counts(self):
-        """Names the counts of earlier blocks that are numbers."""
-        for block in self.curline.blocks:
-            if block.name:
-                note = f"the count {block.count} has the name {block.name}, for a CURLINE after it"
-                equ = f"{block.name} EQU " + self.lines[block.head][slice(*block.columns)] + "\n"
-                self.add((block.head, 0, 0), equ, note)
-                self.add((block.head, *block.columns), block.name, note)
 
     def count(self, text, chars, node, registers):
         """Looks at the count of a block, in which no name of an instruction has a value here."""

@@ -83,15 +83,14 @@ class Study:
         name = "warrior.red" if self.args.ranges else "template.red"
         if inputs.original != inputs.warrior:
             folder.write("original.red", inputs.original)
-            # The author was told once, by the name of his own file.
-            folder.run(self.author_words("cwtune-adapt", "original.red"), name, is_silent=True)
+            folder.run(self.author_words("cwtune-adapt", "original.red"), name)
         else:
             folder.write(name, inputs.warrior)
         if self.args.ranges:
             words = [opening.word for opening in self.args.ranges]
             as_is = ["--as-is"] * self.args.as_is
-            folder.run(self.author_words("cwtune-vary", *as_is, "warrior.red", *words),
-                       "template.red")
+            name = "warrior.red" if inputs.original == inputs.warrior else "original.red"
+            folder.run(self.author_words("cwtune-vary", *as_is, name, *words), "template.red")
         grid = Grid(folder.path / "template.red")
         folder.write("start.red", grid.line_through(grid.start_values, ()))
 

@@ -27,6 +27,9 @@ NAMES = {
     **{f"best.cert.{name}": rf"spread\.json|{kind.OWN_FILES}|{kind.UNFINISHED_FILES}"
        for name, kind in [("parts", spread_parts.Parts), ("shares", spread_shares.Shares)]},
 }
+# How notes on the adapted text begin. The author was told that it is adapted, by the name of the
+# file that was given.
+TOLD = b"note: original.red"
 # What a kill leaves of these.
 UNFINISHED = r".*(\.\d+\.new|\.unfinished-\d+|\.report|\.fault)"
 Count = Annotated[int, range(1 << 53)]
@@ -185,20 +188,19 @@ class StudyFolder(OwnFolder):
         self.stage_commands.append({"command": f"# {text}", "seconds": round(seconds, 2),
                                     "said": []})
 
-    def run(self, words, output_name, logs_messages=True, is_silent=False):
+    def run(self, words, output_name, logs_messages=True):
         """Runs a command in the folder, with its output in a file there. Its fault is this
-        command's. With `logs_messages` the log gets what it says on standard error, too; with
-        `is_silent` nobody else does, if it has no fault. Returns these lines."""
+        command's. With `logs_messages` the log gets what it says on standard error, too. Returns
+        these lines."""
         began_at = time.monotonic()
         argv = words
         if words[0].startswith("cwtune-"):
             argv = [sys.executable, str(AUTHOR / words[0]), *words[1:]]
         with self.whole_file(output_name, "wb") as file:
-            status, messages = run_in(self.path, argv, file, logs_messages, is_silent)
+            status, messages = run_in(self.path, argv, file, logs_messages)
             if status < 0:
                 raise ended_with(words[0], status)
             if status:
-                sys.stderr.write("".join(f"{line}\n" for line in messages if is_silent))
                 sys.exit(status_of(status))
         self.log_command(words, output_name, time.monotonic() - began_at, messages)
         return messages
@@ -217,9 +219,9 @@ def quoted(word):
     return f"\"$(printf '{octal}')\""
 
 
-def run_in(folder, argv, output, returns_messages, is_silent):
+def run_in(folder, argv, output, returns_messages):
     """Runs a command. Returns its status, and with `returns_messages` the lines that it wrote on
-    standard error, which are passed on unless it `is_silent`."""
+    standard error, which are passed on but for those that the author was told."""
     messages = []
     with subprocess.Popen(argv, cwd=folder, stdin=subprocess.DEVNULL, stdout=output,
                           stderr=subprocess.PIPE if returns_messages else None,
@@ -227,7 +229,7 @@ def run_in(folder, argv, output, returns_messages, is_silent):
         try:
             for line in job.stderr or ():
                 with naming("standard error"):
-                    sys.stderr.buffer.write(line * (not is_silent))
+                    sys.stderr.buffer.write(line * (not line.startswith(TOLD)))
                     sys.stderr.flush()
                 messages.append(line.decode(errors="surrogateescape").rstrip("\n"))
             return job.wait(), messages

@@ -129,14 +129,14 @@ def read(parser, args):
     original = read_text(args.warrior)
     is_template = any(map(is_range_line, original.split(b"\n")))
     if args.ranges or not is_template:
-        text = vary.warrior_text(parser, args)
+        source = vary.source_of(parser, args)
         if not args.ranges:
             raise Fault(f"{args.warrior}: no range line: give words PLACE=VALUES too "
                         f"(`cwtune-vary {args.warrior}` lists the places)")
-        warrior = text.encode("latin-1")
+        warrior = source.text.encode("latin-1")
         if warrior == original:
             refuse_text(args, args.warrior, "--", args.warrior)
-        template = vary.checked_template(args, text)
+        template = vary.checked_template(args, source)
     else:
         warrior = template = adapted_for(args, args.warrior, original)
         refuse_start(args, Grid(args.warrior, template))
