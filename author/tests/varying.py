@@ -187,7 +187,7 @@ def hidden(place):
             ("3.a-mode=<,>", ", line 3: 3.a-mode is in line 1, an EQU line"),
             ("3.b-mode=<,>", ", line 3: 3.b-mode is in line 1, an EQU line")]),
         ("old.red", OLD, OLD_LIST, [
-            ("go.a=1:9", ", line 2: 0 was written by cwtune-adapt, so go.a can have no range"),
+            ("go.a=1:9", ", line 2: 0 is not written there, so go.a can have no range"),
             ("8.a=1:9", ", line 8: nothing there can be opened"),
             ("9.a.2=1:9", ", line 9: 9.a has 1 number, and no 9.a.2")]),
     ]:
