@@ -44,7 +44,8 @@ class Line(NamedTuple):
     """A line that is assembled. `number` is that of the author's line, and `row` that of the line in
     the text that is read. `word` is its opcode or directive in small letters, and `fields` has a
     span for each field; that of an EQU line is `equ`. `hidden` has why others are no places.
-    `depth` is how many blocks are open. `adapted` is the adapted text, or None."""
+    `depth` is how many blocks are open. `adapted` is the adapted text, or None, and `numbers` has
+    the numbers of all lines."""
 
     number: int
     row: int
@@ -55,6 +56,7 @@ class Line(NamedTuple):
     hidden: dict
     depth: int
     adapted: object
+    numbers: set
 
     def spelled(self, span):
         return self.text[span.start:span.end]
@@ -68,12 +70,18 @@ class Line(NamedTuple):
         """Returns the span of the number of a field that is a plain number, else None."""
         match = PLAIN.fullmatch(self.text, *self.fields[field])
         span = match and Span(*match.span(1 if match[1] else 2))
-        return span if span and self.origin(span) else None
+        return span if span and self.is_own(span) else None
 
     def decimals(self, field):
         """Returns the spans of all numbers of a field."""
         spans = [Span(*match.span()) for match in DECIMAL.finditer(self.text, *self.fields[field])]
-        return [span for span in spans if self.origin(span)]
+        return [span for span in spans if self.is_own(span)]
+
+    def is_own(self, span):
+        """Returns whether characters are in the author's text, and in no other line that has places
+        itself."""
+        origin = self.origin(span)
+        return origin and (origin.line == self.number or origin.line not in self.numbers)
 
     def spans_from(self, field, origin, length):
         """Returns the spans of a field whose characters come from a place of the author's text."""
@@ -149,7 +157,7 @@ def assembled_lines(text):
 def lines_of(text, adapted=None):
     """Returns the lines that have an opcode or a directive. One gets the labels before it, too.
     `adapted` is the adapted text, if the author's own is another one."""
-    lines, waiting, depth = [], [], 0
+    lines, waiting, depth, numbers = [], [], 0, set()
     for row, line in assembled_lines(text):
         code = code_of(line)
         head = HEAD.match(code) or LONE_LABELS.fullmatch(code + " ")
@@ -162,9 +170,10 @@ def lines_of(text, adapted=None):
         if word:
             labels = waiting if word in OPCODES else names if word == "equ" else []
             lines.append(Line(number_of(adapted, row, head.start(2)), row, line, labels, word,
-                              fields_of(code, head, word), {}, depth, adapted))
+                              fields_of(code, head, word), {}, depth, adapted, numbers))
         waiting = [] if word in OPCODES else waiting
         depth += word == "for"
+    numbers |= {line.number for line in lines}
     hide_fields(lines)
     return lines
 
@@ -279,7 +288,7 @@ def spot_of(path, lines, place):
     if span is None:
         numbers = ", ".join(f"{spot.name}={spot.spelled()}" for spot in spots_in(line, field))
         text = line.spelled(line.fields[field])
-        why = "was written by cwtune-adapt" if PLAIN.fullmatch(text) else "is not a plain number"
+        why = "is not written there" if PLAIN.fullmatch(text) else "is not a plain number"
         raise Fault(f"{where}: {shown(text) or 'nothing'} {why}, so {title} can have no range"
                     f"{'; it has ' * bool(numbers)}{numbers}")
     return Spot(f"{title}.{nth}" if nth else title, line, field, "number", span)

@@ -1,5 +1,5 @@
 """Reads the words and files of `cwtune-study`, and refuses those that make no study."""
-import argparse, collections, hashlib, json, math, os, pathlib, re
+import argparse, collections, hashlib, json, math, os, pathlib
 from typing import NamedTuple
 
 from . import vary
@@ -7,7 +7,6 @@ from .adapt import adapted_for, adapted_text, read_text
 from .endings import Fault, fault_of, say
 from .grid import Grid, is_range_line
 from .openings import opening_from
-from .places import PLACE
 from .program import EXPLAIN, rules_of, run_program
 from .series import refuse_distance, refuse_fights, refuse_seed
 from .tuning_files import MOST_OPPONENTS, MOST_WEIGHT
@@ -53,8 +52,7 @@ def sort_words(parser, args):
     """Sorts the words of the command into the warrior, the opponents and the ranges."""
     words, args.ranges = [], []
     for word in [args.warrior, *args.opponents]:
-        is_range = re.match(rf"{PLACE}=", word) and not os.path.exists(word.rpartition("=")[0])
-        if is_range and not os.path.exists(word):
+        if is_range(word):
             args.ranges.append(range_of(parser, word))
         else:
             words.append(word)
@@ -67,6 +65,14 @@ def sort_words(parser, args):
     if len(args.opponents) > MOST_OPPONENTS:
         parser.error(f"{len(args.opponents)} opponents; at most {MOST_OPPONENTS}")
     args.weights = weights_of(parser, opponents, args.by_kind)
+
+
+def is_range(word):
+    """Returns whether a word is meant to be PLACE=VALUES: no file has its name, nor looks so."""
+    place, equals, _ = word.partition("=")
+    path = word.rpartition("=")[0]
+    return (equals and "/" not in place and not place.endswith(".red")
+            and not os.path.exists(word) and not os.path.exists(path))
 
 
 def opponents_named(parser, word):

@@ -144,7 +144,9 @@ WRONG_RANGES = [
     usage_error("cwtune-vary two.red STEP=1:9 STEP=2:5", "STEP has two ranges"),
     *(usage_error(f"cwtune-vary two.red {word}", f"argument PLACE=VALUES: {word}{fault}")
       for word, fault in [
-          *((word, FORM) for word in ["STEP=1", "STEP=a:b", "STEP", "STEP=1,", "bomb.c=1:2"]),
+          *((word, FORM) for word in ["STEP=1", "STEP=a:b", "STEP", "STEP=1,", "bomb.b.0=1:2"]),
+          *((word, f": there is no field {field}; there are a b a-mode b-mode modifier opcode")
+            for word, field in [("bomb.c=1:2", "c"), ("bomb.mode=<,>", "mode")]),
           ("STEP=9:1", ": 9 is above 1"), ("STEP=1:9:0", ": the step is 0"),
           ("STEP=1:99999", ": values are -65535 to 65535"),
           ("bomb.a-mode=#,q", f": q is no mode; there are {MODES}"),
@@ -185,7 +187,7 @@ def hidden(place):
             ("3.a-mode=<,>", ", line 3: 3.a-mode is in line 1, an EQU line"),
             ("3.b-mode=<,>", ", line 3: 3.b-mode is in line 1, an EQU line")]),
         ("old.red", OLD, OLD_LIST, [
-            ("go.a=1:9", ", line 2: 0 was written by cwtune-adapt, so go.a can have no range"),
+            ("go.a=1:9", ", line 2: 0 is not written there, so go.a can have no range"),
             ("8.a=1:9", ", line 8: nothing there can be opened"),
             ("9.a.2=1:9", ", line 9: 9.a has 1 number, and no 9.a.2")]),
     ]:
