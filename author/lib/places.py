@@ -79,9 +79,16 @@ class Line(NamedTuple):
 
     def is_own(self, span):
         """Returns whether characters are in the author's text, and in no other line that has places
-        itself."""
+        itself, nor are the count of a block in a sum for CURLINE."""
         origin = self.origin(span)
-        return origin and (origin.line == self.number or origin.line not in self.numbers)
+        return origin and (origin.line == self.number or origin.line not in self.numbers
+                           and not self.is_in_sum(span))
+
+    def is_in_sum(self, span):
+        """Returns whether a number comes after a parenthesis that `cwtune-adapt` wrote into a
+        count."""
+        before = Span(span.start - 1, span.start)
+        return self.word == "for" and self.spelled(before) == "(" and not self.origin(before)
 
     def spans_from(self, field, origin, length):
         """Returns the spans of a field whose characters come from a place of the author's text."""
@@ -321,9 +328,25 @@ def line_of(path, lines, name, field):
     equs = [line for line in lines if line.word == "equ" and not line.depth]
     instructions = [line for line in lines if line.word in OPCODES]
     named = [line for line in equs + instructions if name in line.labels]
+    if not named and (used := line_written_out(lines, name)):
+        spots = [spot.name for side in ("a", "b") if side in used.fields and field in (None, side)
+                 for spot in spots_in(used, side)] or [title_of(used, field or "a")]
+        raise Fault(f"{path}: the EQU line {name} is opened where it is used, as "
+                    f"{', '.join(spots)}")
     if not named:
         near = near_name(name, [label for line in (instructions if field else equs)
                                 for label in line.labels])
         what = f"label `{name}`" if field else f"line `{name} EQU number`"
         raise Fault(f"{path}: no {what}{f'; did you mean {near}?' if near else ''}")
     return named[0]
+
+
+def line_written_out(lines, name):
+    """Returns the first line that has the text of an EQU line which is a comment in the adapted
+    text, or None."""
+    equ, texts = re.compile(rf"[; \t]*{name}\s*:?\s+(?i:equ)\b"), []
+    if lines and lines[0].adapted:
+        texts = lines[0].adapted.lines
+    numbers = {text.number() for text in texts if text.text[:1] == ";" and equ.match(text.text)}
+    return next((line for line in lines if numbers and any(
+        place and place.line in numbers for place in texts[line.row - 1].places)), None)
