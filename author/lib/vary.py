@@ -15,8 +15,8 @@ Example: cwtune-vary my.red STEP=5:4000:10 'throw.a-mode=<,>,{' > my-template.re
 import math, re, sys
 from typing import NamedTuple
 
-from .adapt import adapt, add_as_is, adapted_for
-from .endings import Fault
+from .adapt import adapt, adapted_text, add_as_is
+from .endings import Fault, say
 from .grid import KEPT, is_range_line
 from .openings import constant_of, opening_from
 from .places import FIELDS, code_of, lines_of, spot_of, spots_in
@@ -186,7 +186,10 @@ def source_of(parser, args):
         text = file.read()
     if any(map(is_range_line, text.split(b"\n"))):
         raise Fault(f"{args.warrior}: it has range lines, so it is a template already")
-    read = adapted_for(args, args.warrior, text)
+    read, said = adapted_text(args, args.warrior, text)
+    if said:
+        say("note", f"{args.warrior} is adapted to what cwtune reads, as by cwtune-adapt; places and "
+            f"lines are those of {args.warrior}; {said}", 0)
     adapted = None if read == text else adapt(args.warrior, text, rules_of(args), args.program)
     return Source(read.decode("latin-1"), adapted)
 
