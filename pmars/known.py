@@ -84,6 +84,8 @@ TEXTS = [KnownText(*row) for row in [
      refused("line 2 Expand BadDirective"), two(["$0, $1", "$0, $2"])),
     ("two names before EQU", "one two EQU 5\nDAT one, two\n",
      refused("line 1 Expand BadDirective"), one("$5, $5")),
+    ("a name on the line before EQU", "five\nEQU 5\nDAT 0, five\n",
+     refused("line 2 Expand BadDirective"), one("$0, $5")),
     ("a counter in the text of an EQU", "next EQU i+1\ni FOR 1\nDAT next, i\nROF\n",
      refused("line 3 Value UnknownName"), one("$2, $1")),
     ("an inner counter joined first",

@@ -60,7 +60,7 @@ class Finder:
     """What is found in the lines of a text, each a `Traced`, while pMARS's reading goes on."""
 
     def __init__(self, lines, rules):
-        self.lines, self.core, self.curline = lines, rules.core, Curline(rules)
+        self.lines, self.core, self.curline = lines, rules.core, Curline(lines, rules)
         self.changes, self.read_counts = {}, collections.Counter()
         self.unknown, self.to_unroll = [], []
         self.blocks, self.tails, self.numbers = {}, {}, []
@@ -205,10 +205,14 @@ class Finder:
 
     def counter(self, text, label):
         """Looks at the counter of a block, which may be on a line before."""
-        if label.index != text.index and not text.inside:
-            note = f"the counter {label.name} is on the line of its FOR now"
+        if not text.inside:
+            self.beside(text, label, 0, f"the counter {label.name} is on the line of its FOR now")
+
+    def beside(self, text, label, column, note):
+        """Writes a label of a line before at a column of the line that is read."""
+        if label.index != text.index:
             self.take_out((label.index, *label.root), note, label.reading)
-            self.add((text.index, 0, 0), f"{label.name} ", note, text.reading)
+            self.add((text.index, column, column), f"{label.name} ", note, text.reading)
 
     def head_of(self, text, block):
         return text.lines[block.head].index
@@ -312,14 +316,18 @@ class Finder:
         self.write_out((text.index, *source.root), text.reading, source.equ)
 
     def equ(self, text, known, labels):
-        """Looks at an EQU. One with several names becomes several."""
+        """Looks at an EQU, whose name may be on a line before. One with several names becomes
+        several."""
         if text.inside:
             return
         self.equs[known] = [line.index for line in known.lines]
         if text.blocks:
             self.to_unroll.append(text.index)
-        for label in labels[:-1]:
+        *others, last = labels
+        for label in others:
             self.own_equ(text, known, label)
+        self.beside(text, last, known.lines[0].column - len("EQU"),
+                    f"the name {last.name} is on the line of its EQU now")
 
     def own_equ(self, text, known, label):
         """Gives one of the names of an EQU a line of its own."""

@@ -105,11 +105,20 @@ def draw_line(plot, totals):
     axes.scatter([values[start]], [greater(totals.totals[start], totals.caps[start])], marker="o",
                  s=120, facecolors="none", edgecolors="black", zorder=4,
                  label=f"START: {template.constants(start)}")
-    axes.set_xlabel(template.names[0])
+    label_values(axes, template, 0)
     axes.set_ylabel("points")
     axes.locator_params(axis="y", integer=True)
     axes.legend()
     return figure
+
+
+def label_values(axes, template, constant):
+    """Labels the axis from left to right: a constant that is an index of a list has what is in the
+    list there."""
+    name, values = template.names[constant], template.ranges[constant]
+    axes.set_xlabel(name)
+    if name in template.lists:
+        axes.set_xticks(list(values), [template.shown_value(name, value) for value in values])
 
 
 def greater(total, cap):
@@ -211,10 +220,10 @@ def draw_effects(plot, totals):
     template = totals.template
     # One scale, so that the effects can be compared.
     figure, grid, _ = grid_of(plot, len(template.names), sharey=True)
-    for constant, (axes, name) in enumerate(zip(grid, template.names)):
+    for constant, axes in enumerate(grid):
         axes.errorbar(*effect_of(template, totals.totals, constant), marker="o", linewidth=1,
                       capsize=2)
-        axes.set_xlabel(name)
+        label_values(axes, template, constant)
         axes.set_ylabel("mean total")
     return figure
 

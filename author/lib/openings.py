@@ -4,9 +4,10 @@ from typing import NamedTuple
 
 from .endings import Fault
 from .grid import NAME
-from .places import MODES, MODIFIERS, OPCODES, PLACE
+from .places import FIELDS, MODES, MODIFIERS, OPCODES, PLACE
 
 NUMBERS = re.compile(r"(-?[0-9]{1,5}):(-?[0-9]{1,5})(?::([0-9]{1,5}))?")
+FIELD = re.compile(rf"(?:{NAME}|[0-9]+)\.([A-Za-z_-][^.]*)(?:\.[0-9]*)?")
 LIST = re.compile(r"-?[0-9]{1,5}(?:,-?[0-9]{1,5})+")
 MOST_VALUE = 65535
 # Opcodes with two spellings.
@@ -41,6 +42,10 @@ def opening_from(word):
     """Reads PLACE=VALUES for argparse. Without `:STEP` the step of a range is 1."""
     place, _, values = word.partition("=")
     match = re.fullmatch(PLACE, place)
+    with_field = FIELD.fullmatch(place)
+    if with_field and with_field[1] not in FIELDS:
+        raise argparse.ArgumentTypeError(f"{word}: there is no field {with_field[1]}; there are "
+                                         f"{' '.join(FIELDS)}")
     if not match or not values:
         raise malformed(word)
     if match[2] in (None, "a", "b"):

@@ -3,12 +3,16 @@
 A *place* is written NAME or NAME.N for the text of an EQU line, and LINE.FIELD or LINE.FIELD.N for
 another line. LINE is a label or the number of a line; FIELD is a, b, a-mode, b-mode, modifier or
 opcode; N is which number of the text or of the field is meant, from 1.
+
+Of an adapted text, places and numbers of lines are those of the author's own text. What
+`cwtune-adapt` wrote is no place, and what became several of one place stays one.
 """
 import difflib, re
 from typing import NamedTuple
 
 from .endings import Fault, shown
 from .grid import NAME
+from .traced import Place
 from .words import counted
 
 OPCODES = "dat mov add sub mul div mod jmp jmz jmn djn cmp seq sne slt spl nop".split()
@@ -24,6 +28,9 @@ MODIFIER = re.compile(r"\s*\.\s*(ab|ba|[abfxi])(?![A-Za-z0-9_])", re.I)
 OPERAND = re.compile(rf"\s*([{re.escape(MODES)}]?)\s*(.*?)\s*", re.S)
 PLAIN = re.compile(r"\+?(-?[0-9]+)|\(\s*\+?(-?[0-9]+)\s*\)")
 DECIMAL = re.compile(r"(?<![A-Za-z0-9_])[0-9]+(?![A-Za-z0-9_])")
+FIRST_NAME = re.compile(rf"\s*({NAME})")
+# More EQU names than `cwtune` replaces one after the other.
+MOST_EQUS = 17
 
 
 class Span(NamedTuple):
@@ -34,27 +41,60 @@ class Span(NamedTuple):
 
 
 class Line(NamedTuple):
-    """A line that is assembled. `word` is its opcode or directive in small letters, and `fields`
-    has a span for each field; that of an EQU line is `equ`. `depth` is how many blocks are open."""
+    """A line that is assembled. `number` is that of the author's line, and `row` that of the line in
+    the text that is read. `word` is its opcode or directive in small letters, and `fields` has a
+    span for each field; that of an EQU line is `equ`. `hidden` has why others are no places.
+    `depth` is how many blocks are open. `adapted` is the adapted text, or None, and `numbers` has
+    the numbers of all lines."""
 
     number: int
+    row: int
     text: str
     labels: list
     word: str
     fields: dict
+    hidden: dict
     depth: int
+    adapted: object
+    numbers: set
 
     def spelled(self, span):
         return self.text[span.start:span.end]
 
+    def origin(self, span):
+        """Returns where characters are in the author's text, or None if they are not there."""
+        return (place_of(self.adapted, self.row, *span) if self.adapted
+                else Place(self.row, span.start))
+
     def plain(self, field):
         """Returns the span of the number of a field that is a plain number, else None."""
         match = PLAIN.fullmatch(self.text, *self.fields[field])
-        return match and Span(*match.span(1 if match[1] else 2))
+        span = match and Span(*match.span(1 if match[1] else 2))
+        return span if span and self.is_own(span) else None
 
     def decimals(self, field):
         """Returns the spans of all numbers of a field."""
-        return [Span(*match.span()) for match in DECIMAL.finditer(self.text, *self.fields[field])]
+        spans = [Span(*match.span()) for match in DECIMAL.finditer(self.text, *self.fields[field])]
+        return [span for span in spans if self.is_own(span)]
+
+    def is_own(self, span):
+        """Returns whether characters are in the author's text, and in no other line that has places
+        itself, nor are the count of a block in a sum for CURLINE."""
+        origin = self.origin(span)
+        return origin and (origin.line == self.number or origin.line not in self.numbers
+                           and not self.is_in_sum(span))
+
+    def is_in_sum(self, span):
+        """Returns whether a number comes after a parenthesis that `cwtune-adapt` wrote into a
+        count."""
+        before = Span(span.start - 1, span.start)
+        return self.word == "for" and self.spelled(before) == "(" and not self.origin(before)
+
+    def spans_from(self, field, origin, length):
+        """Returns the spans of a field whose characters come from a place of the author's text."""
+        start, end = self.fields[field]
+        spans = [Span(at, at + length) for at in range(start, end - length + 1)]
+        return [span for span in spans if self.origin(span) == origin]
 
 
 class Spot(NamedTuple):
@@ -74,10 +114,35 @@ class Spot(NamedTuple):
         """Returns whether the opcode of the line is in capital letters."""
         return self.line.text[slice(*self.line.fields.get("opcode", (0, 0)))].isupper()
 
+    def source(self):
+        """Returns what kind of thing is there, where it is in the author's text, and its length."""
+        return self.kind, self.line.origin(self.span), self.span.end - self.span.start
+
+    def twins(self, lines):
+        """Returns all that the adapted text has of this place."""
+        _, origin, length = self.source()
+        return [self._replace(line=line, field=field, span=span)
+                for line in lines for field in line.fields if kind_of(field) == self.kind
+                for span in line.spans_from(field, origin, length)]
+
     def overlaps(self, other):
         """Returns whether another place is the same one, or has some of its characters."""
-        return (self.line.number == other.line.number and self.kind == other.kind
+        return (self.line.row == other.line.row and self.kind == other.kind
                 and self.span.start <= other.span.end and other.span.start <= self.span.end)
+
+
+def kind_of(field):
+    """Returns what kind of thing a field has."""
+    return "number" if field in ("a", "b", "equ") else field.rpartition("-")[2]
+
+
+def place_of(adapted, row, start, end):
+    """Returns where characters of the adapted text are in the original, or None. Of no character it
+    is where the one before ends, or the next one begins."""
+    before = adapted.span(row, start - 1, start) if start == end > 0 else None
+    if before:
+        return before._replace(column=before.column + 1)
+    return adapted.span(row, start, max(end, start + 1))
 
 
 def code_of(line):
@@ -96,10 +161,11 @@ def assembled_lines(text):
     return lines[:ends[0] + 1] if ends else lines
 
 
-def lines_of(text):
-    """Returns the lines that have an opcode or a directive. One gets the labels before it, too."""
-    lines, waiting, depth = [], [], 0
-    for number, line in assembled_lines(text):
+def lines_of(text, adapted=None):
+    """Returns the lines that have an opcode or a directive. One gets the labels before it, too.
+    `adapted` is the adapted text, if the author's own is another one."""
+    lines, waiting, depth, numbers = [], [], 0, set()
+    for row, line in assembled_lines(text):
         code = code_of(line)
         head = HEAD.match(code) or LONE_LABELS.fullmatch(code + " ")
         if not head:
@@ -110,10 +176,52 @@ def lines_of(text):
             waiting = waiting + (names[:-1] if word == "for" else names)
         if word:
             labels = waiting if word in OPCODES else names if word == "equ" else []
-            lines.append(Line(number, line, labels, word, fields_of(code, head, word), depth))
+            lines.append(Line(number_of(adapted, row, head.start(2)), row, line, labels, word,
+                              fields_of(code, head, word), {}, depth, adapted, numbers))
         waiting = [] if word in OPCODES else waiting
         depth += word == "for"
+    numbers |= {line.number for line in lines}
+    hide_fields(lines)
     return lines
+
+
+def number_of(adapted, row, column):
+    """Returns the number of the author's line in which a word of a line is, or begins; 0 if that
+    line is new."""
+    if adapted is None:
+        return row
+    places = adapted.lines[row - 1].places
+    return next((place.line for place in [*places[column:], *places] if place), 0)
+
+
+def hide_fields(lines):
+    """Takes from lines the fields that are no places."""
+    equs = {name: line for line in lines if line.word == "equ" and "equ" in line.fields
+            for name in line.labels}
+    for line in lines:
+        for field, span in list(line.fields.items()):
+            if kind_of(field) == "number":
+                continue
+            why = "is not in the text: cwtune-adapt wrote it" if not line.origin(span) else (
+                mode_in_equ(line, field, equs))
+            if why:
+                line.hidden[field] = why
+                del line.fields[field]
+
+
+def mode_in_equ(line, field, equs):
+    """Returns that the mode of an operand is in the EQU line of its first name, or an empty text.
+    `equs` has the EQU lines by their names."""
+    if kind_of(field) != "mode" or line.spelled(line.fields[field]):
+        return ""
+    text, equ = line.spelled(line.fields[field[0]]), None
+    for _ in range(MOST_EQUS):
+        name = FIRST_NAME.match(text)
+        if not name or name[1] not in equs:
+            break
+        equ = equs[name[1]]
+        text = equ.spelled(equ.fields["equ"]) + text[name.end():]
+    return f"is in line {equ.number}, an EQU line" if equ and text[:1] in [*MODES, "."] else ""
 
 
 def names_in(labels):
@@ -173,32 +281,35 @@ def spot_of(path, lines, place):
         raise Fault(f"{where}: give {name} or {name}.1, as {name} is the name of an EQU line"
                     if line.word == "equ" else f"{where}: give a field too, as {name}.a")
     field = field or "equ"
-    if field not in line.fields:
-        raise Fault(f"{where}: {line.word.upper()} has no {field} here")
     title = title_of(line, field)
-    if field not in ("a", "b", "equ"):
-        kind = field.removeprefix("a-").removeprefix("b-")
-        return Spot(title, line, field, kind, line.fields[field])
+    if field not in line.fields:
+        raise Fault(f"{where}: {title} {line.hidden[field]}" if field in line.hidden else
+                    f"{where}: {line.word.upper()} has no {field} here")
+    if kind_of(field) != "number":
+        return spots_in(line, field)[0]
     decimals = line.decimals(field)
     if nth and int(nth) > len(decimals):
         raise Fault(f"{where}: {title} has {counted(len(decimals), 'number')}, and no "
                     f"{title}.{nth}")
     span = decimals[int(nth) - 1] if nth else line.plain(field)
     if span is None:
-        numbers = numbers_of(line, field)
-        raise Fault(f"{where}: {shown(line.spelled(line.fields[field])) or 'nothing'} is not a "
-                    f"plain number, so {title} can have no range{'; it has ' * bool(numbers)}"
-                    f"{', '.join(numbers)}")
+        numbers = ", ".join(f"{spot.name}={spot.spelled()}" for spot in spots_in(line, field))
+        text = line.spelled(line.fields[field])
+        why = "is not written there" if PLAIN.fullmatch(text) else "is not a plain number"
+        raise Fault(f"{where}: {shown(text) or 'nothing'} {why}, so {title} can have no range"
+                    f"{'; it has ' * bool(numbers)}{numbers}")
     return Spot(f"{title}.{nth}" if nth else title, line, field, "number", span)
 
 
-def numbers_of(line, field):
-    """Returns the places and the numbers of a field that can be opened: its number, or the numbers
-    in it."""
-    title, plain = title_of(line, field), line.plain(field)
+def spots_in(line, field):
+    """Returns the places of a field: itself, its number, or the numbers in it."""
+    title = title_of(line, field)
+    if kind_of(field) != "number":
+        return [Spot(title, line, field, kind_of(field), line.fields[field])]
+    plain = line.plain(field)
     spans = {title: plain} if plain else {
         f"{title}.{nth}": span for nth, span in enumerate(line.decimals(field), 1)}
-    return [f"{name}={line.spelled(span)}" for name, span in spans.items()]
+    return [Spot(name, line, field, "number", span) for name, span in spans.items()]
 
 
 def title_of(line, field):
@@ -210,16 +321,32 @@ def title_of(line, field):
 def line_of(path, lines, name, field):
     """Returns the line that a name or a number means."""
     if name.isdecimal():
-        line = next((line for line in lines if line.number == int(name)), None)
-        if line is None or not line.fields:
+        found = [line for line in lines if line.number == int(name) and line.fields]
+        if not found:
             raise Fault(f"{path}, line {name}: nothing there can be opened")
-        return line
+        return next((line for line in found if (field or "equ") in line.fields), found[0])
     equs = [line for line in lines if line.word == "equ" and not line.depth]
     instructions = [line for line in lines if line.word in OPCODES]
     named = [line for line in equs + instructions if name in line.labels]
+    if not named and (used := line_written_out(lines, name)):
+        spots = [spot.name for side in ("a", "b") if side in used.fields and field in (None, side)
+                 for spot in spots_in(used, side)] or [title_of(used, field or "a")]
+        raise Fault(f"{path}: the EQU line {name} is opened where it is used, as "
+                    f"{', '.join(spots)}")
     if not named:
         near = near_name(name, [label for line in (instructions if field else equs)
                                 for label in line.labels])
         what = f"label `{name}`" if field else f"line `{name} EQU number`"
         raise Fault(f"{path}: no {what}{f'; did you mean {near}?' if near else ''}")
     return named[0]
+
+
+def line_written_out(lines, name):
+    """Returns the first line that has the text of an EQU line which is a comment in the adapted
+    text, or None."""
+    equ, texts = re.compile(rf"[; \t]*{name}\s*:?\s+(?i:equ)\b"), []
+    if lines and lines[0].adapted:
+        texts = lines[0].adapted.lines
+    numbers = {text.number() for text in texts if text.text[:1] == ";" and equ.match(text.text)}
+    return next((line for line in lines if numbers and any(
+        place and place.line in numbers for place in texts[line.row - 1].places)), None)

@@ -8,6 +8,7 @@ from . import slots
 from .adapt import adapt, read_text
 from .endings import Fault
 from .grid import is_range_line
+from .places import place_of
 from .program import rules_of
 
 
@@ -16,8 +17,11 @@ def original_lines(args, template, setting):
     text has them. Refuses a text of which the template was not made, or that lacks a place."""
     text = read_text(args.original)
     adapted = adapt(args.original, text, rules_of(args), args.program)
-    lines = text.decode("latin-1").split("\n")
-    for place, length, new in sorted(edits_of(args, template, setting, adapted), reverse=True):
+    lines, news = text.decode("latin-1").split("\n"), {}
+    for place, length, new in edits_of(args, template, setting, adapted):
+        # Of one place of several lines some may want parentheses.
+        news[place, length] = max(new, news.get((place, length), ""), key=len)
+    for (place, length), new in sorted(news.items(), reverse=True):
         line = lines[place.line - 1]
         lines[place.line - 1] = line[:place.column] + new + line[place.column + length:]
     return lines
@@ -58,12 +62,3 @@ def spans(args, kept, of_line, text):
     if of_line and not match:
         raise other_text(args)
     return {slot: match.span(index) for index, slot in enumerate(of_line, 1)}
-
-
-def place_of(adapted, number, start, end):
-    """Returns where characters of the adapted text are in the original, or None. Of no character it
-    is where the one before ends."""
-    if end > start or not start:
-        return adapted.span(number, start, end)
-    before = adapted.span(number, start - 1, start)
-    return before and before._replace(column=before.column + 1)

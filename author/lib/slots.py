@@ -49,13 +49,9 @@ class Slot(NamedTuple):
 
 
 def slots_of(line, names):
-    """Returns the slots of a line: of each constant, at most one."""
-    slots = {}
-    for match in SLOT.finditer(line):
-        if match[1] in names and match[1] not in slots:
-            texts = () if match[2] is None else tuple(match[2].split(","))
-            slots[match[1]] = Slot(match[1], texts, *match.span())
-    return list(slots.values())
+    """Returns the slots of a line, which are before its comment."""
+    return [Slot(match[1], () if match[2] is None else tuple(match[2].split(",")), *match.span())
+            for match in SLOT.finditer(line, 0, len(code_of(line))) if match[1] in names]
 
 
 def filled(line, texts):
@@ -80,13 +76,14 @@ def code_of_kept(line, names):
     head = HEAD.match(line)
     if head and head[2].lower() == "equ" and head[1].strip(" \t:") in names:
         return []
-    lists = [slot for slot in slots if not slot.has_numbers()]
+    lists = {slot.name: slot.texts for slot in slots if not slot.has_numbers()}
     if not lists:
         return [filled(line, numbers) + end]
     lines = []
-    for indices in itertools.product(*(range(len(slot.texts)) for slot in lists)):
-        texts = {slot: slot.texts[index] for slot, index in zip(lists, indices)}
-        count = " && ".join(f"{slot.name} == {index}" for slot, index in zip(lists, indices))
+    for indices in itertools.product(*(range(len(texts)) for texts in lists.values())):
+        index_of = dict(zip(lists, indices))
+        texts = {slot: slot.text_of(index_of[slot.name]) for slot in slots if slot.name in lists}
+        count = " && ".join(f"{name} == {index}" for name, index in index_of.items())
         lines += [f"FOR {count}{end}", filled(line, numbers | texts) + end, f"ROF{end}"]
     return lines
 

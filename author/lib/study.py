@@ -89,8 +89,8 @@ class Study:
         if self.args.ranges:
             words = [opening.word for opening in self.args.ranges]
             as_is = ["--as-is"] * self.args.as_is
-            folder.run(self.author_words("cwtune-vary", *as_is, "warrior.red", *words),
-                       "template.red")
+            name = "warrior.red" if inputs.original == inputs.warrior else "original.red"
+            folder.run(self.author_words("cwtune-vary", *as_is, name, *words), "template.red")
         grid = Grid(folder.path / "template.red")
         folder.write("start.red", grid.line_through(grid.start_values, ()))
 
@@ -171,6 +171,8 @@ def print_fresh(name, player, report):
 def print_tuned(report):
     """Prints what the tuning of a whole template found."""
     best, winner, start = report["ranking"][0], report["winner"], report["start"]
+    if report["refused"]:
+        print(f"{report['refused']} of the {report['settings']} settings do not assemble")
     print(f"tuned: setting {best['setting']} is best, total {best['tuned']} of "
           f"{report['schedule']['greatest']}, START {start['tuned']}; the certificate is checked")
     print_fresh(f"setting {winner['setting']}, rank {winner['rank']}", winner, report)
@@ -199,6 +201,8 @@ def print_end(folder, report):
     print_raced(report) if report["race"] else print_tuned(report)
     if gain and report["winner"]["values"] != report["start"]["values"]:
         print(f"over START: {gain['percent']:+.1f}% +- {gain['error']:.1f}, {gain['words']}")
+        if gain["words"] != "a gain":
+            print("keep START: winner.red gains nothing in these fights")
     else:
         print("the winner is START: nothing better was found")
     for name in ["winner.red", "report.html"]:

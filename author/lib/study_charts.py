@@ -46,6 +46,29 @@ class Scale(NamedTuple):
         return [multiple * step for multiple in range(first, last + 1)]
 
 
+class Axis(NamedTuple):
+    """The constant of a picture: its name, its values, and the list that these are indices of, or
+    None."""
+
+    name: str
+    values: list
+    texts: list | None
+
+    def scale(self):
+        """Returns the scale from left to right."""
+        return Scale(min(self.values), max(self.values), LEFT + 10, RIGHT - 10)
+
+    def shown(self, tick):
+        return self.texts[round(tick)] if self.texts else tick_text(tick)
+
+    def ticks(self):
+        """Returns the ticks: at most MOST_TICKS values have one each, of more only round ones, and
+        as many from left to right as do not touch."""
+        ticks = self.values if len(self.values) <= MOST_TICKS else self.scale().ticks()
+        longest = max(len(self.shown(tick)) for tick in ticks)
+        return ticks[::math.ceil(len(ticks) * (6.5 * longest + 8) / (RIGHT - LEFT))]
+
+
 def svg(identifier, title, height, elements):
     """Returns a picture. `identifier` is its own among those of the page."""
     return (f'<svg role="img" aria-labelledby="{identifier}" viewBox="0 0 {WIDTH} {height}">'
@@ -119,31 +142,26 @@ def draw_bars(start_opponents, winner_opponents):
                "of the winner", bottom + 20, elements)
 
 
-def draw_axes(x_scale, y_scale, name, values):
-    """Yields the lines and labels of two axes. `name` is that of the constant, whose values go from
-    left to right; at most MOST_TICKS have a tick each, of more only round ones."""
+def draw_axes(axis, y_scale):
+    """Yields the lines and labels of two axes. The values of a constant go from left to right."""
+    x_scale = axis.scale()
     for tick in y_scale.ticks():
         y = y_scale.coordinate(tick)
         yield path(f"M{LEFT} {y}H{RIGHT}", "rule")
         yield label(LEFT - 6, y + 4, tick_text(tick), "soft end")
     bottom = y_scale.begin
-    for tick in apart(values if len(values) <= MOST_TICKS else x_scale.ticks()):
+    for tick in axis.ticks():
         x = x_scale.coordinate(tick)
         yield path(f"M{x} {bottom}v4", "rule")
-        yield label(x, bottom + 16, tick_text(tick), "soft middle")
-    yield label((LEFT + RIGHT) / 2, bottom + 32, shortened(name), "middle")
+        yield label(x, bottom + 16, axis.shown(tick), "soft middle")
+    yield label((LEFT + RIGHT) / 2, bottom + 32, shortened(axis.name), "middle")
 
 
-def apart(ticks):
-    """Returns as many of the ticks from left to right as do not touch."""
-    longest = max(len(tick_text(tick)) for tick in ticks)
-    return ticks[::math.ceil(len(ticks) * (6.5 * longest + 8) / (RIGHT - LEFT))]
-
-
-def points_of(x_scale, y_scale, values, heights):
+def points_of(axis, y_scale, heights):
     """Returns the point of each value: its x, and its y, None if it has no height."""
+    x_scale = axis.scale()
     return [(x_scale.coordinate(value), None if height is None else y_scale.coordinate(height))
-            for value, height in zip(values, heights)]
+            for value, height in zip(axis.values, heights)]
 
 
 def curve(points):
@@ -170,11 +188,6 @@ def marks(points, start_index, winner_index):
             yield circle(*points[index], radius, style)
 
 
-def x_scale_of(values):
-    """Returns the scale of a picture for the values of a constant."""
-    return Scale(min(values), max(values), LEFT + 10, RIGHT - 10)
-
-
 def y_scale_of(heights, bottom):
     """Returns the scale of a picture for the heights that are numbers. `bottom` is its lowest y."""
     known = [height for height in heights if height is not None] or [0]
@@ -183,15 +196,15 @@ def y_scale_of(heights, bottom):
     return Scale(low - room, high + room, bottom, 12)
 
 
-def draw_line(name, values, totals, start_index, winner_index):
+def draw_line(axis, totals, start_index, winner_index):
     """Draws totals over the values of one constant. The indices of START and of the winner may be
     None."""
-    x_scale, y_scale = x_scale_of(values), y_scale_of(totals, 210)
-    points = points_of(x_scale, y_scale, values, totals)
-    elements = [*draw_axes(x_scale, y_scale, name, values), curve(points), *dots(points),
+    y_scale = y_scale_of(totals, 210)
+    points = points_of(axis, y_scale, totals)
+    elements = [*draw_axes(axis, y_scale), curve(points), *dots(points),
                 *marks(points, start_index, winner_index),
                 *legend_of_line(start_index is not None)]
-    return svg("landscape", f"Tuned totals over {name}", 272, elements)
+    return svg("landscape", f"Tuned totals over {axis.name}", 272, elements)
 
 
 def legend_of_line(with_start):
@@ -201,14 +214,14 @@ def legend_of_line(with_start):
     yield label(RIGHT, 264, "height: tuned total", "soft end")
 
 
-def draw_effect(number, effect, y_scale, winner_value):
+def draw_effect(number, effect, y_scale, winner_value, texts):
     """Draws the mean totals of a constant's values with their errors. `number`, from 0,
     makes its id."""
     name, values, means, errors = (effect[key] for key in ("name", "values", "means", "errors"))
-    x_scale = x_scale_of(values)
-    points = points_of(x_scale, y_scale, values, means)
+    axis = Axis(name, values, texts)
+    points = points_of(axis, y_scale, means)
     winner_index = values.index(winner_value) if winner_value in values else None
-    elements = [*draw_axes(x_scale, y_scale, name, values), curve(points),
+    elements = [*draw_axes(axis, y_scale), curve(points),
                 error_lines(y_scale, points, means, errors), *dots(points),
                 *marks(points, None, winner_index)]
     return svg(f"effect{number}", f"Mean tuned totals of the values of {name}", 182, elements)
@@ -222,11 +235,12 @@ def error_lines(y_scale, points, means, errors):
                         if mean is not None), "stroke")
 
 
-def draw_effects(effects, winner_values):
+def draw_effects(effects, winner_values, lists):
     """Draws the effects of all constants to one scale, so that they can be compared. Returns a
-    picture for each."""
+    picture for each. `lists` has those of constants that are indices, by name."""
     means = [pair for effect in effects for pair in zip(effect["means"], effect["errors"])]
     ends = [mean + sign * error for mean, error in means if mean is not None for sign in (-1, 1)]
     y_scale = y_scale_of(ends, 140)
-    return [draw_effect(number, effect, y_scale, winner_values[effect["name"]])
+    return [draw_effect(number, effect, y_scale, winner_values[effect["name"]],
+                        lists.get(effect["name"]))
             for number, effect in enumerate(effects)]

@@ -27,6 +27,9 @@ NAMES = {
     **{f"best.cert.{name}": rf"spread\.json|{kind.OWN_FILES}|{kind.UNFINISHED_FILES}"
        for name, kind in [("parts", spread_parts.Parts), ("shares", spread_shares.Shares)]},
 }
+# How notes on the adapted text begin. The author was told that it is adapted, by the name of the
+# file that was given.
+TOLD = b"note: original.red"
 # What a kill leaves of these.
 UNFINISHED = r".*(\.\d+\.new|\.unfinished-\d+|\.report|\.fault)"
 Count = Annotated[int, range(1 << 53)]
@@ -218,7 +221,7 @@ def quoted(word):
 
 def run_in(folder, argv, output, returns_messages):
     """Runs a command. Returns its status, and with `returns_messages` the lines that it wrote on
-    standard error, which are passed on."""
+    standard error, which are passed on but for those that the author was told."""
     messages = []
     with subprocess.Popen(argv, cwd=folder, stdin=subprocess.DEVNULL, stdout=output,
                           stderr=subprocess.PIPE if returns_messages else None,
@@ -226,7 +229,7 @@ def run_in(folder, argv, output, returns_messages):
         try:
             for line in job.stderr or ():
                 with naming("standard error"):
-                    sys.stderr.buffer.write(line)
+                    sys.stderr.buffer.write(line * (not line.startswith(TOLD)))
                     sys.stderr.flush()
                 messages.append(line.decode(errors="surrogateescape").rstrip("\n"))
             return job.wait(), messages

@@ -1,5 +1,5 @@
 """Reads the words and files of `cwtune-study`, and refuses those that make no study."""
-import argparse, collections, hashlib, json, math, os, pathlib, re
+import argparse, collections, hashlib, json, math, os, pathlib
 from typing import NamedTuple
 
 from . import vary
@@ -7,7 +7,6 @@ from .adapt import adapted_for, adapted_text, read_text
 from .endings import Fault, fault_of, say
 from .grid import Grid, is_range_line
 from .openings import opening_from
-from .places import PLACE
 from .program import EXPLAIN, rules_of, run_program
 from .series import refuse_distance, refuse_fights, refuse_seed
 from .tuning_files import MOST_OPPONENTS, MOST_WEIGHT
@@ -53,8 +52,7 @@ def sort_words(parser, args):
     """Sorts the words of the command into the warrior, the opponents and the ranges."""
     words, args.ranges = [], []
     for word in [args.warrior, *args.opponents]:
-        is_range = re.match(rf"{PLACE}=", word) and not os.path.exists(word.rpartition("=")[0])
-        if is_range and not os.path.exists(word):
+        if is_range(word):
             args.ranges.append(range_of(parser, word))
         else:
             words.append(word)
@@ -67,6 +65,14 @@ def sort_words(parser, args):
     if len(args.opponents) > MOST_OPPONENTS:
         parser.error(f"{len(args.opponents)} opponents; at most {MOST_OPPONENTS}")
     args.weights = weights_of(parser, opponents, args.by_kind)
+
+
+def is_range(word):
+    """Returns whether a word is meant to be PLACE=VALUES: no file has its name, nor looks so."""
+    place, equals, _ = word.partition("=")
+    path = word.rpartition("=")[0]
+    return (equals and "/" not in place and not place.endswith(".red")
+            and not os.path.exists(word) and not os.path.exists(path))
 
 
 def opponents_named(parser, word):
@@ -129,14 +135,14 @@ def read(parser, args):
     original = read_text(args.warrior)
     is_template = any(map(is_range_line, original.split(b"\n")))
     if args.ranges or not is_template:
-        text = vary.warrior_text(parser, args)
+        source = vary.source_of(parser, args)
         if not args.ranges:
             raise Fault(f"{args.warrior}: no range line: give words PLACE=VALUES too "
                         f"(`cwtune-vary {args.warrior}` lists the places)")
-        warrior = text.encode("latin-1")
+        warrior = source.text.encode("latin-1")
         if warrior == original:
             refuse_text(args, args.warrior, "--", args.warrior)
-        template = vary.checked_template(args, text)
+        template = vary.checked_template(args, source)
     else:
         warrior = template = adapted_for(args, args.warrior, original)
         refuse_start(args, Grid(args.warrior, template))

@@ -3,7 +3,8 @@
 The totals are a list for each value of the first constant, with a total for each value of the
 second: the second constant goes from left to right and the first one upwards, as in
 `cwtune-landscape`. Of one constant they are a list with one list. A setting that does not assemble
-has no total, None. The values of a setting are here a dict, by the names of the constants.
+has no total, None. The values of a setting are here a dict, by the names of the constants; of one
+that is an index of a list in the author's text the pictures show what is in the list there.
 """
 from typing import NamedTuple
 
@@ -22,11 +23,13 @@ FIRST_DARK = 4
 
 
 class Landscape(NamedTuple):
-    """Totals over one or two constants: their names, their ranges, and the totals."""
+    """Totals over one or two constants: their names, their ranges, the totals, and the lists of
+    constants that are indices, by name."""
 
     names: list
     ranges: list
     totals: list
+    lists: dict = {}
 
     def place(self, values):
         """Returns the row and the column of the setting with these values, or None if it is not
@@ -48,23 +51,28 @@ class Landscape(NamedTuple):
 
     def title(self, row, column):
         """Returns the values and the total of a square in words."""
-        upwards, across = self.ranges
+        upwards, across = self.shown_ranges()
         return (f"{self.names[0]} {upwards[row]}, {self.names[1]} {across[column]}: "
                 f"{self.totals[row][column]}")
+
+    def shown_ranges(self):
+        """Returns the ranges, with what is in the lists in place of indices."""
+        return [[self.lists[name][value] for value in values] if name in self.lists else values
+                for name, values in zip(self.names, self.ranges)]
 
     def count(self):
         """Returns the number of settings."""
         return sum(map(len, self.totals))
 
 
-def read_landscape(landscape):
+def read_landscape(landscape, lists):
     """Reads the landscape of a report. Of one constant the totals are a list with one list there; a
     plain list, and a list for each value, are taken too."""
     names, ranges, totals = (landscape[key] for key in ("axes", "values", "totals"))
     if len(names) == 1:
         totals = [[total for row in totals
                    for total in (row if isinstance(row, list) else [row])]]
-    return Landscape(names, ranges, totals)
+    return Landscape(names, ranges, totals, lists)
 
 
 def greatest(totals):
@@ -83,7 +91,7 @@ def thinned(landscape, most=MOST_SQUARES):
                              for total in row[first_column:first_column + step])
                     for first_column in columns] for first_row in rows]
     thin_ranges = [values[::step] for values in landscape.ranges]
-    return step, Landscape(landscape.names, thin_ranges, thin_totals)
+    return step, landscape._replace(ranges=thin_ranges, totals=thin_totals)
 
 
 def count_after(landscape, step):
@@ -178,16 +186,17 @@ def draw_mark(squares, place, style):
 
 def draw_ticks(squares, landscape):
     """Yields the values along both sides: as many as can be read."""
+    upwards, across = landscape.shown_ranges()
     every = -(-squares.columns * 40 // max(1, round(squares.columns * squares.width)))
     for column in range(0, squares.columns, every):
         x, _ = squares.corner((0, column))
         yield charts.label(round(x + squares.width / 2, 2), squares.bottom() + 15,
-                           landscape.ranges[1][column], "soft middle")
+                           across[column], "soft middle")
     every = -(-squares.rows * 14 // max(1, round(squares.rows * squares.height)))
     for row in range(0, squares.rows, every):
         _, y = squares.corner((row, 0))
         yield charts.label(charts.LEFT - 5, round(y + squares.height / 2 + 4, 2),
-                           landscape.ranges[0][row], "soft end")
+                           upwards[row], "soft end")
 
 
 def legend(landscape, top, with_start):
@@ -236,5 +245,5 @@ def draw_landscape(landscape, start_values, winner_values, titled=True):
     if len(thin.names) > 1:
         return step, draw_map(thin, start_place, winner_place, titled)
     start_index, winner_index = (place and place[1] for place in (start_place, winner_place))
-    return step, charts.draw_line(thin.names[0], thin.ranges[0], thin.totals[0], start_index,
-                                  winner_index)
+    axis = charts.Axis(thin.names[0], thin.ranges[0], thin.lists.get(thin.names[0]))
+    return step, charts.draw_line(axis, thin.totals[0], start_index, winner_index)

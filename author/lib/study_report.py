@@ -49,7 +49,7 @@ def opening(report):
         f"{decimal(winner['fresh']['percent'])}% of the points and START "
         f"{decimal(start['fresh']['percent'])}%: <strong class=\"winner\">"
         f"{with_error(abs(gain['percent']), gain['error'])}</strong> percentage points {more}, "
-        f"{escaped(gain['words'])}.")
+        f"{escaped(gain['words'])}." + " Keep START." * (gain["words"] != "a gain"))
     notes = ["These fights picked nothing: they were played once the winner was known.", ERROR_NOTE]
     if start["values"] == winner["values"]:
         notes.insert(0, "The winner is START itself.")
@@ -65,10 +65,11 @@ def exactness(report):
 
 def tuned_items(report):
     """Yields what is proved of a template that was tuned whole, and what is not."""
-    yield (f"<strong>Proved:</strong> the ranking of all {integer(report['settings'])} settings. "
-           f"Each that assembles played all {integer(report['schedule']['fights'])} fights of the "
-           "schedule, and the certificate was checked: "
-           f"<code>{escaped(report['check'])}</code>.")
+    left_out = f"{integer(report['refused'])} of them do not assemble; each other one"
+    yield (f"<strong>Proved:</strong> the ranking of all {integer(report['settings'])} settings: "
+           f"{left_out if report['refused'] else 'each'} played all "
+           f"{integer(report['schedule']['fights'])} fights of the schedule, and the certificate "
+           f"was checked: <code>{escaped(report['check'])}</code>.")
     yield ("<strong>Measured:</strong> the percent in fresh fights. The winner did best in the "
            "fresh fights of the ranking below; then it and START played others, which alone count "
            "here.")
@@ -82,8 +83,9 @@ def raced_items(report):
            "better one may be anywhere.")
     if box:
         checked = f": <code>{escaped(box['check'])}</code>" if box["check"] else ""
+        left_out = f", of which {integer(box['refused'])} do not assemble" * bool(box["refused"])
         yield (f"<strong>Proved:</strong> the first {integer(box['first'])} of the "
-               f"{integer(box['settings'])} settings around the race's winner, in "
+               f"{integer(box['settings'])} settings around the race's winner{left_out}, in "
                f"{integer(box['schedule']['fights'])} fights each{checked}. In other fights "
                + ("one of them was better than the race’s winner, and took its place."
                   if box["replaces"] else "none of them was better than the race’s winner."))
@@ -102,11 +104,18 @@ def tuned_rows(sides, greatest):
             ["tuned percent", *percents]]
 
 
+def lists_of(report):
+    """Returns the lists of constants that are indices of a list in the author's text, by name, with
+    `-` for what is not written."""
+    return {constant["name"]: [text or "-" for text in constant["list"]]
+            for constant in report["constants"] if constant.get("list")}
+
+
 def shown_values(report, values):
     """Returns the values of a setting by the names of the constants. Of one that is an index of a
-    list in the author's text it has what is in the list there."""
-    lists = {constant["name"]: constant.get("list") for constant in report["constants"]}
-    return {name: lists[name][value] or DASH if lists.get(name) else value
+    list it has what is in the list there."""
+    lists = lists_of(report)
+    return {name: lists[name][value] if name in lists else value
             for name, value in values.items()}
 
 
@@ -163,17 +172,19 @@ def opponents(report):
 
 def landscape(report):
     """Returns the totals of the box, and what each constant does to them."""
-    box = study_map.read_landscape(report["landscape"])
+    box = study_map.read_landscape(report["landscape"], lists_of(report))
     start_values, winner_values = (report[side]["values"] for side in ("start", "winner"))
     is_small = box.count() <= MOST_CELLS
     step, picture = study_map.draw_landscape(box, start_values, winner_values, is_small)
     notes = [f"{escaped(name)} is held at {escaped(value)}, the winner's value."
-             for name, value in winner_values.items() if name not in box.names]
+             for name, value in shown_values(report, winner_values).items()
+             if name not in box.names]
     if step > 1:
         shown = "point" if len(box.names) == 1 else "square"
         notes.append(f"Each {shown} is the greatest total among {step} values of each constant.")
     if study_map.is_outside(start_values, winner_values, box):
-        notes.append(f"START is not in this picture: {values_text(start_values)}.")
+        shown = values_text(shown_values(report, start_values))
+        notes.append(f"START is not in this picture: {shown}.")
     if all(opponent["weight"] == 1 for opponent in report["opponents"]):
         luck = 4 / 3 * math.sqrt(report["schedule"]["fights"] if not report["race"]
                                  else report["box"]["schedule"]["fights"])
@@ -195,29 +206,32 @@ def totals_table(box, is_small):
     """Returns the totals of a box as a table, if it can be read."""
     if not is_small:
         return paragraph("The totals are in <code>report.json</code>.", "soft")
-    names, ranges, totals = box
+    names, ranges, totals = box.names, box.shown_ranges(), box.totals
     if len(names) == 1:
         heads = [escaped(names[0]), "tuned total"]
         rows = [[escaped(value), integer(total)] for value, total in zip(ranges[0], totals[0])]
     else:
         heads = [escaped(" / ".join(names)), *map(escaped, ranges[1])]
         rows = [[escaped(value), *map(integer, row)] for value, row in zip(ranges[0], totals)]
-    return folded("The totals as a table", table("Tuned totals of the box", heads, rows))
+    note = paragraph(f"{DASH}: the setting does not assemble.", "soft")
+    return folded("The totals as a table", table("Tuned totals of the box", heads, rows)
+                  + note * (len(box.known_totals()) < box.count()))
 
 
 def effects(report):
     """Returns the main effects. Of one constant they are the landscape itself."""
-    of_constants = report["effects"]
+    of_constants, lists = report["effects"], lists_of(report)
     if len(of_constants) < 2:
         return []
     pictures = "".join(
         f"<figure>{picture}</figure>"
-        for picture in study_charts.draw_effects(of_constants, report["winner"]["values"]))
+        for picture in study_charts.draw_effects(of_constants, report["winner"]["values"], lists))
     pieces = ["<h3>What each constant does</h3>", paragraph(
         "The mean tuned total of each value, over all settings of the box that have it, with its "
         f"standard error. A filled mark is the winner's value. {ERROR_NOTE}"),
         f'<div class="charts">{pictures}</div>']
-    rows = [[escaped(effect["name"]), escaped(value), with_error(mean, error)]
+    rows = [[escaped(effect["name"]), *value_cells(report, {effect["name"]: value}),
+             with_error(mean, error)]
             for effect in of_constants
             for value, mean, error in zip(effect["values"], effect["means"], effect["errors"])]
     if len(rows) <= MOST_CELLS:
@@ -278,11 +292,20 @@ def constants_table(report):
     """Returns the range of each constant, and its values in START, in the winner and in the
     box."""
     heads = ["constant", "lowest", "highest", "step", "START", "winner", "values in the box"]
-    keys = "name", "low", "high", "step", "start", "best"
-    rows = [[*(escaped(constant[key]) for key in keys),
-             f'<div class="wide">{some_of(constant["box"])}</div>']
+    rows = [constant_row(constant, lists_of(report).get(constant["name"]))
             for constant in report["constants"]]
     return table("Constants of the template", heads, rows)
+
+
+def constant_row(constant, texts):
+    """Returns the range of a constant, as cells. `texts` is the list that it is an index of, or
+    None."""
+    ends, players, box = ([texts[value] if texts else value for value in values] for values in (
+        [constant["low"], constant["high"]], [constant["start"], constant["best"]],
+        constant["box"]))
+    step = "a list" if texts else constant["step"]
+    return [*map(escaped, [constant["name"], *ends, step, *players]),
+            f'<div class="wide">{some_of(box)}</div>']
 
 
 def facts(report):

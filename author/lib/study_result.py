@@ -22,6 +22,10 @@ class Box:
         # By setting, NaN for one that does not assemble.
         self.totals = landscape.Totals(self.template, self.cert, self.fights).totals
 
+    def refused(self):
+        """Returns how many of the settings do not assemble."""
+        return sum(not self.cert.assembles(setting) for setting in range(self.cert.count))
+
     def landscape(self, winner):
         """Returns the totals over the first two constants, with the others as the winner has them:
         for each value of the first a list of those of the second. Of one constant they are a list
@@ -131,7 +135,8 @@ def tuned_numbers(study, results):
     report["winner"] = ranked_winner | report["winner"]
     report["start"]["tuned"] = box.cert.total_of(start, box.fights)
     return report | {
-        "race": None, "box": None, "ranking": ranking, "schedule": schedule_numbers(box),
+        "race": None, "box": None, "refused": box.refused(), "ranking": ranking,
+        "schedule": schedule_numbers(box),
         "landscape": box.landscape(winner), "effects": box.effects(), **results["tuning"]}
 
 
@@ -142,8 +147,8 @@ def raced_numbers(study, results):
     box, found, challenge = results["box"], None, results["challenge"]
     if box:
         found = Box(folder)
-        box = {**box, "first": found.ranking.exact, "replaces": bool(challenge["points"]),
-               "schedule": schedule_numbers(found)}
+        box = {**box, "refused": found.refused(), "first": found.ranking.exact,
+               "replaces": bool(challenge["points"]), "schedule": schedule_numbers(found)}
     winner_values = dict(zip(grid.names, results["winner"]))
     report = common_numbers(study, grid, found, winner_values, results["points"])
     finalists = [{**one, "values": dict(zip(grid.names, one["values"]))}

@@ -6,18 +6,20 @@ line with the label throw, and 12.b that of line 12; throw.b.2 is the second num
 and AIM.1 the first of an EQU line. throw.a-mode, throw.b-mode, throw.modifier and throw.opcode are
 the others. VALUES are LOW:HIGH:STEP, or a list with commas.
 
-What the text has there is START. All other lines stay as they are. The template is printed only if
-its START is the warrior of the text. Without a range what could be opened is listed.
+What the text has there is START. All other lines stay as they are. Of an adapted text, lines are
+those of WARRIOR. The template is printed only if its START is the warrior of the text. Without a
+range what could be opened is listed.
 
 Example: cwtune-vary my.red STEP=5:4000:10 'throw.a-mode=<,>,{' > my-template.red
 """
 import math, re, sys
+from typing import NamedTuple
 
-from .adapt import add_as_is, adapted_for
-from .endings import Fault
+from .adapt import adapt, adapted_text, add_as_is
+from .endings import Fault, say
 from .grid import KEPT, is_range_line
 from .openings import constant_of, opening_from
-from .places import FIELDS, code_of, lines_of, numbers_of, spot_of
+from .places import FIELDS, code_of, lines_of, spot_of, spots_in
 from .program import load_file_of_bytes, refuse_other_warrior, rules_of
 from .slots import code_of_kept
 from .tuning_files import MOST_CONSTANTS, MOST_SETTINGS
@@ -27,86 +29,119 @@ from .words import add_program, add_rules, command_parser, counted
 UNWRITTEN = {"a-mode": "$", "b-mode": "$", "modifier": "-"}
 
 
+class Source(NamedTuple):
+    """A text that is read, and it as an `Adapted` if the author's own is another one, else None."""
+
+    text: str
+    adapted: object
+
+    def lines(self):
+        return lines_of(self.text, self.adapted)
+
+
+class Opened(NamedTuple):
+    """A place that is open, its constant, and whether the range line of that follows it."""
+
+    spot: object
+    constant: object
+    has_range: bool
+
+
 class Varied:
     """A text with openings: what is open in each line, and the notes on it."""
 
-    def __init__(self, path, text, openings):
-        self.path, self.text, self.opened, self.notes = path, text, [], []
-        lines = lines_of(text)
+    def __init__(self, path, source, openings):
+        self.path, self.text, self.opened, self.notes = path, source.text, [], []
+        lines = source.lines()
         for opening in openings:
             spot = spot_of(path, lines, opening.place)
-            self.refuse_twice(spot)
-            constant, note = constant_of(spot, opening, text)
-            self.opened.append((spot, constant))
+            constant, note = constant_of(spot, opening, source.text)
+            twins = spot.twins(lines)
+            for twin in twins:
+                self.refuse_twice(twin)
+            self.opened += [Opened(twin, constant, twin is twins[0]) for twin in twins]
             self.notes += [note] * bool(note)
-        self.names = [constant.name for _, constant in self.opened]
+        self.constants = [opened.constant for opened in self.opened if opened.has_range]
 
     def refuse_twice(self, spot):
         """Refuses a place that is open already, whole or in part."""
-        for other, _ in self.opened:
-            if spot.overlaps(other):
-                raise Fault(f"{self.path}, line {spot.line.number}: {other.name} and {spot.name} "
-                            "are in one place", 2)
+        for other in self.opened:
+            if spot.overlaps(other.spot):
+                raise Fault(f"{self.path}, line {spot.line.number}: {other.spot.name} and "
+                            f"{spot.name} are in one place", 2)
 
     def template(self, starts_alone=False):
         """Returns the template. With `starts_alone` each constant has its START as its only
         value."""
-        return "\n".join(new for number, line in enumerate(self.text.split("\n"), 1)
-                         for new in self.lines_for(number, line, starts_alone))
+        return "\n".join(new for row, line in enumerate(self.text.split("\n"), 1)
+                         for new in self.lines_for(row, line, starts_alone))
 
-    def lines_for(self, number, line, starts_alone):
+    def lines_for(self, row, line, starts_alone):
         """Returns the lines of the template for a line of the text."""
+        here = sorted((opened for opened in self.opened if opened.spot.line.row == row),
+                      key=lambda opened: opened.spot.span, reverse=True)
+        if not here:
+            return [line]
         kept, range_lines = line, []
-        opened = [pair for pair in self.opened if pair[0].line.number == number]
-        for spot, constant in sorted(opened, key=lambda pair: pair[0].span, reverse=True):
+        for spot, constant, has_range in here:
             kept = kept[:spot.span.start] + constant.slot() + kept[spot.span.end:]
             values = range(constant.start, constant.start + 1) if starts_alone else constant.values
-            range_lines.insert(0, constant.range_line(values) + "\r" * line.endswith("\r"))
-        return ([KEPT + kept, *range_lines, *code_of_kept(kept, self.names)] if range_lines
-                else [line])
+            if has_range:
+                range_lines.insert(0, constant.range_line(values) + "\r" * line.endswith("\r"))
+        names = [constant.name for constant in self.constants]
+        return [KEPT + kept, *range_lines, *code_of_kept(kept, names)]
 
     def count(self):
         """Returns how many settings the template has."""
-        return math.prod(len(constant.values) for _, constant in self.opened)
+        return math.prod(len(constant.values) for constant in self.constants)
 
 
-def uses_of(text, name, number):
-    """Returns in how many places other lines than line `number` use a name."""
-    use = re.compile(rf"(?<![A-Za-z0-9_]){name}(?![A-Za-z0-9_])")
-    return sum(len(use.findall(code_of(line.text))) for line in lines_of(text)
-               if line.number != number)
+def uses_of(lines, equ):
+    """Returns in how many places other lines use the name of an EQU line."""
+    use = re.compile(rf"(?<![A-Za-z0-9_]){equ.labels[-1]}(?![A-Za-z0-9_])")
+    return sum(len(use.findall(code_of(line.text))) for line in lines if line is not equ)
 
 
-def lines_of_numbers(text):
+def spots_of(lines, fields):
+    """Yields lines, each with the places in some of its fields that no line before it has."""
+    seen = set()
+    for line in lines:
+        spots = {spot.source(): spot for field in fields if field in line.fields
+                 for spot in spots_in(line, field)}
+        yield line, [spot for source, spot in spots.items() if source not in seen]
+        seen |= set(spots)
+
+
+def lines_of_numbers(lines):
     """Yields for each number that can have a range a line that says where it is and, of an EQU
     line, how often it is used."""
-    for line in lines_of(text):
-        for field in ("equ", "a", "b"):
-            if field not in line.fields or (field == "equ" and line.depth):
-                continue
-            uses = f", {counted(uses_of(text, line.labels[-1], line.number), 'use')}" if (
-                field == "equ") else ""
-            yield from (f"{number}: line {line.number}{uses}"
-                        for number in numbers_of(line, field))
+    for line, spots in spots_of(lines, ["equ", "a", "b"]):
+        for spot in spots if line.word != "equ" or not line.depth else ():
+            uses = (f", {counted(uses_of(lines, line), 'use')}" if line.word == "equ" else "")
+            yield f"{spot.name}={spot.spelled()}: line {line.number}{uses}"
 
 
-def lines_of_others(text):
+def lines_of_others(lines):
     """Yields for each instruction a line that says what else of it can be opened."""
-    for line in lines_of(text):
-        fields = [f"{field}={line.spelled(line.fields[field]).strip(' .') or UNWRITTEN[field]}"
-                  for field in FIELDS[2:] if field in line.fields]
+    for line, spots in spots_of(lines, FIELDS[2:]):
+        fields = [f"{spot.field}={spot.spelled().strip(' .') or UNWRITTEN[spot.field]}"
+                  for spot in spots]
         if fields:
             label = line.labels[-1] if line.labels else line.number
             yield f"{label}: line {line.number}, {' '.join(fields)}"
 
 
-def print_list(text):
+def print_list(source):
     """Prints what of a text could be opened."""
-    lines = [*lines_of_numbers(text), *lines_of_others(text)]
-    for line in lines:
+    lines = source.lines()
+    for line in [*lines_of_numbers(lines), *lines_of_others(lines)]:
         print(line)
-    if not lines:
-        print("note: nothing that could be opened", file=sys.stderr)
+
+
+def load_file_of_source(args, source):
+    """Returns the load file of a text. Refuses one that does not assemble."""
+    return load_file_of_bytes(args.program, args.warrior, source.text.encode("latin-1"),
+                              *rules_of(args).words())
 
 
 def refuse_ranges(args, varied):
@@ -114,11 +149,9 @@ def refuse_ranges(args, varied):
 
     For this each constant has its START alone, as `cwtune` takes at most a million settings.
     """
-    rules = rules_of(args).words()
-    load_file = load_file_of_bytes(args.program, args.warrior, varied.text.encode("latin-1"),
-                                   *rules)
+    load_file = load_file_of_source(args, varied)
     refuse_other_warrior("with range lines", varied.template(True).encode("latin-1"), load_file,
-                         args.program, *rules, "--setting=start")
+                         args.program, *rules_of(args).words(), "--setting=start")
 
 
 def print_size(settings):
@@ -141,8 +174,8 @@ def make_parser():
     return parser
 
 
-def warrior_text(parser, args):
-    """Returns the text of the warrior, adapted. Refuses a template, and ranges that no template
+def source_of(parser, args):
+    """Returns the `Source` of the warrior, adapted. Refuses a template, and ranges that no template
     has."""
     names = [opening.place for opening in args.ranges]
     if twice := [name for index, name in enumerate(names) if name in names[:index]]:
@@ -153,30 +186,36 @@ def warrior_text(parser, args):
         text = file.read()
     if any(map(is_range_line, text.split(b"\n"))):
         raise Fault(f"{args.warrior}: it has range lines, so it is a template already")
-    return adapted_for(args, args.warrior, text).decode("latin-1")
+    read, said = adapted_text(args, args.warrior, text)
+    if said:
+        say("note", f"{args.warrior} is adapted to what cwtune reads, as by cwtune-adapt; places and "
+            f"lines are those of {args.warrior}; {said}", 0)
+    adapted = None if read == text else adapt(args.warrior, text, rules_of(args), args.program)
+    return Source(read.decode("latin-1"), adapted)
 
 
-def checked(args, text):
+def checked(args, source):
     """Returns a text with what is open in it. Refuses openings whose START is not the warrior of
     the text."""
-    varied = Varied(args.warrior, text, args.ranges)
+    varied = Varied(args.warrior, source, args.ranges)
     refuse_ranges(args, varied)
     return varied
 
 
-def checked_template(args, text):
+def checked_template(args, source):
     """Returns the template of a text, as `checked` takes it."""
-    return checked(args, text).template().encode("latin-1")
+    return checked(args, source).template().encode("latin-1")
 
 
 def main():
     parser = make_parser()
     args = parser.parse_mixed()
-    text = warrior_text(parser, args)
+    source = source_of(parser, args)
     if not args.ranges:
-        print_list(text)
+        load_file_of_source(args, source)
+        print_list(source)
         return
-    varied = checked(args, text)
+    varied = checked(args, source)
     sys.stdout.buffer.write(varied.template().encode("latin-1"))
     for note in varied.notes:
         print(f"note: {note}", file=sys.stderr)

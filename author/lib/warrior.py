@@ -156,7 +156,8 @@ def text_put_back(args, template, setting, totals, load_file):
     try:
         text = finished(original_lines(args, template, setting), template, setting, totals)
         if adapt(args.original, text, rules_of(args), args.program).load_file != load_file:
-            raise Fault(f"{args.original} has one place for several of the adapted text")
+            raise Fault(f"{args.original} is another warrior with these values, as cwtune-adapt "
+                        "wrote a number that changes with them")
         return text
     except Fault as fault:
         if fault.status != 1:

@@ -49,6 +49,7 @@ def subplots(rows=1, columns=1, squeeze=True, **_):
 """}
 FILES = {
     "t.red": ";@tune K 0 1 1 0\nJMP 1-K\n",
+    "list.red": ";@text JMP [K:1,0]\n;@tune K 0 1 1 0\nJMP ((K==0)*(1)+(K==1)*(0))\n",
     "two.red": ";@tune A 0 1 1 0\n;@tune B 0 2 1 0\nMOV 0, 1\n",
     "imp.red": "MOV 0, 1\n",
     "s.csv": "opponent,position,first\n0,4000,c\n",
@@ -73,6 +74,12 @@ def effects(place):
                      folder=place.folder)
         yield compare("the means of all values", ((0, "", ""), EFFECTS, True), (
             result, (place.read("y.svg") or b"").decode(), b"scatter " in place.read("x.svg")))
+        place.run(["tune", "--all", "list.red", "s.csv", "list.cert", "imp.red"], keep=True)
+        run("cwtune-landscape", "list.red", "list.cert", "x.svg", "--effects", "y.svg",
+            folder=place.folder)
+        yield compare("what is in a list is shown", [1, 1], [
+            place.read(name).count(b"set_xticks ([0, 1], ['1', '0'])")
+            for name in ["x.svg", "y.svg"]])
         result = run("cwtune-landscape", "step.red", "step.cert", "x.png", "--effects", "y.png",
                      folder=place.folder)
     yield compare("settings that were dropped", (

@@ -92,7 +92,8 @@ def sample(sizes, opponents=8):
                  for name, values in box.items()]
     return {
         **origin_of(names), "start": start, "winner": winner, "constants": constants,
-        "race": None, "box": None, "fights": 400480, "check": f"accepted best {WINNER} total 350",
+        "race": None, "box": None, "refused": 7, "fights": 400480,
+        "check": f"accepted best {WINNER} total 350",
         "schedule": {"fights": 20 * len(names), "greatest": 60 * len(names)},
         "ranking": ranking_of(dice, winner, start["values"], names),
         "gain": gain_of(start["fresh"], winner["fresh"]),
@@ -115,7 +116,7 @@ def raced(sizes, box=None, has_totals=False):
     """Returns a report of a race. `box` is what it says of the box."""
     report = sample(sizes)
     winner, start = report["winner"], report["start"]
-    for name in ["ranking", "fights", "check", "schedule"]:
+    for name in ["ranking", "fights", "check", "schedule", "refused"]:
         del report[name]
     for side in winner, start:
         for name in ["rank", "setting", "tuned"]:
@@ -151,8 +152,8 @@ def hostile():
     return report
 
 
-BOX = {"settings": 243, "blocks": 12, "fights": 9876, "seconds": 3.2, "check": None, "first": 10,
-       "replaces": False, "schedule": {"fights": 96, "greatest": 288}}
+BOX = {"settings": 243, "refused": 31, "blocks": 12, "fights": 9876, "seconds": 3.2, "check": None,
+       "first": 10, "replaces": False, "schedule": {"fights": 96, "greatest": 288}}
 REPORTS = {
     "a race": raced((3, 5, 2, 4)),
     "a race and a box": raced((3, 5, 2, 4), BOX),

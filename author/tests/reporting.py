@@ -156,15 +156,16 @@ def sentences():
     start, winner_values = report["start"], report["winner"]["values"]
     for percent, error, words, sentence in [
             (12.34, 1.23, "a gain", "12.3 ± 1.2 percentage points more, a gain."),
-            (-0.45, 1.2, "a loss", "0.5 ± 1.2 percentage points less, a loss.")]:
+            (-0.45, 1.2, "a loss", "0.5 ± 1.2 percentage points less, a loss. Keep START.")]:
         gain = report["gain"] | {"percent": percent, "error": error, "words": words}
         yield from says(report, sentence, gain=gain)
     yield from says(report, "The winner is START itself.", start=start | {"values": winner_values})
     yield from says(report, "START is not in this picture: STEP 1, FIRST 4013.",
                     start=start | {"values": winner_values | {"STEP": 1}})
-    yield from says(report, "Proved: the ranking of all 134,421 settings.", "(lost)",
-                    "Marked: the winner lost against this opponent", "dwarf.red ",
-                    "imp-ring.red (counts 2 times)")
+    yield from says(report, "Proved: the ranking of all 134,421 settings: 7 of them do not "
+                    "assemble; each other one played all 160 fights",
+                    "–: the setting does not assemble.", "(lost)", "Marked: the winner lost "
+                    "against this opponent", "dwarf.red ", "imp-ring.red (counts 2 times)")
     yield from says(REPORTS["many values"], "Each point is the greatest total among 2 values",
                     "(10,001 values)", "The totals are in report.json")
     race = REPORTS["a race"]
@@ -172,9 +173,26 @@ def sentences():
     yield from says(race, "1513 of the template's 134,421 settings raced, in 51,234 fights.", luck)
     yield from says(race, "Nothing better than START was found.", gain=None)
     yield from says(REPORTS["a race and a box"], "Proved: the first 10 of the 243 settings around "
-                    "the race's winner, in 96 fights each.", "none of them was better")
+                    "the race's winner, of which 31 do not assemble, in 96 fights each.",
+                    "none of them was better")
     yield from says(REPORTS["a race and a box that was checked"], "accepted best 7 total 99",
                     "took its place")
+
+
+def lists():
+    """Makes pages of constants that are indices of lists: no page shows an index."""
+    for name in ["one constant", "two constants", "four constants"]:
+        report = copy.deepcopy(REPORTS[name]) | {"winner_text": ""}
+        for constant in report["constants"]:
+            constant["list"] = [f"v{value}" for value in range(7000)]
+            constant["list"][constant["box"][-1]] = ""
+        page, values = html_of(report), report["landscape"]["values"]
+        yield f"{name}: no index is shown", [
+            str(value) for constant in report["constants"] for value in constant["box"]
+            if re.search(rf"(?<![v0-9.#]){value}(?![0-9])", page)]
+        yield compare(f"{name}: what is in the lists is shown", (True, True), (
+            f">v{values[-1][0]}<" in page, ">-<" in page))
+    yield from says(report, "PLACE is held at v6013", "START is not in this picture: STEP v3005")
 
 
 def landscapes():
@@ -183,7 +201,7 @@ def landscapes():
     spellings = [plain_list, plain_list | {"totals": [[5], [None], [7]]},
                  plain_list | {"totals": [[5, None, 7]]}]
     yield compare("totals of one constant", 3 * [[[5, None, 7]]],
-                  [study_map.read_landscape(spelling).totals for spelling in spellings])
+                  [study_map.read_landscape(spelling, {}).totals for spelling in spellings])
     landscape = study_map.Landscape(["A", "B"], [[1, 2, 3], [4, 5]],
                                     [[1, 2], [3, None], [None, None]])
     step, thin = study_map.thinned(landscape, 2)
@@ -210,4 +228,5 @@ def numbers():
 
 
 def trials():
-    return {trial.__name__: trial() for trial in (pages, alone, sentences, landscapes, numbers)}
+    return {trial.__name__: trial() for trial in (pages, alone, sentences, lists, landscapes,
+                                                  numbers)}

@@ -14,6 +14,11 @@ WRONG_WORDS = [
     usage_error("cwtune-study w.red all STEP=1",
                 "STEP=1 is not of the form PLACE=LOW:HIGH:STEP or PLACE=VALUE,VALUE, as "
                 "STEP=5:4000:10 or throw.b=-40,-25, without blanks"),
+    usage_error("cwtune-study w.red all s1.mode=<,>",
+                "s1.mode=<,>: there is no field mode; there are a b a-mode b-mode modifier opcode"),
+    usage_error("cwtune-study w.red all s1-b=1:9",
+                "s1-b=1:9 is not of the form PLACE=LOW:HIGH:STEP or PLACE=VALUE,VALUE, as "
+                "STEP=5:4000:10 or throw.b=-40,-25, without blanks"),
     usage_error("cwtune-study w.red all STEP=1:9 STEP=1:9", "STEP has two ranges"),
     usage_error("cwtune-study t.red " + "all " * 22, "66 opponents; at most 64"),
     usage_error("cwtune-study --rounds=4000 t.red all",
@@ -41,6 +46,7 @@ WRONG_WARRIORS = [
 WRONG_FILES = [
     Refusal("cwtune-study t.red empty", 2, "error: empty: no file *.red in this folder"),
     Refusal("cwtune-study t.red none.red", 3, "failed: none.red: No such file or directory"),
+    Refusal("cwtune-study t.red none.red=2", 3, "failed: none.red=2: No such file or directory"),
     Refusal("cwtune-study none.red all", 3, "failed: none.red: No such file or directory"),
     Refusal("cwtune-study --out=none/x t.red all", 3, "failed: none/x: No such file or directory"),
     Refusal("cwtune-study --out=\udcff t.red all", 2,

@@ -123,6 +123,21 @@ def opens(place):
         status, json.loads(out)))
 
 
+def equals(place):
+    """Makes a study in which settings do not assemble, and the others are equal."""
+    place.write("a.red", ";assert STEP < 8\nSTEP EQU 5\nJMP 0, STEP\n")
+    status, out, _ = place.study("--rounds=1", "--fresh=1", "a.red", "all/dat.red", "STEP=1:9:4",
+                                 "3.b-mode=$,<")
+    lines = out.splitlines()
+    yield compare("how many settings do not assemble", (
+        0, 2, "2 of the 6 settings do not assemble"), (
+            status, place.report("a")["refused"], lines[1]))
+    yield compare("what is not written", ["STEP=1 line3_b_mode=-", "STEP=5 line3_b_mode=-"],
+                  [line.rpartition(") ")[2] for line in lines[3:5]])
+    yield compare("no gain", ["over START: +0.0% +- 0.0, no difference that these fights show",
+                  "keep START: winner.red gains nothing in these fights"], lines[5:7])
+
+
 def typed(place):
     """Types all commands of a log in a folder with the inputs alone."""
     folder, typed_folder = place.folder / "w.study", place.folder / "typed"
@@ -231,4 +246,4 @@ def without_seconds(log):
 
 def trials(program):
     return in_folders(lambda folder: StudyPlace(program, folder), [
-        finds, varies, opens, whole, races, study_refused.foreign, study_refused.refusals])
+        finds, varies, opens, equals, whole, races, study_refused.foreign, study_refused.refusals])

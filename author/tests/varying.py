@@ -82,11 +82,42 @@ LIST = """STEP=5: line 4, 3 uses
 far=-20: line 5, 1 use
 both.1=1: line 6, 0 uses
 9.a=-2: line 9
-11.a=2: line 11
+11.a=0: line 11
 7: line 7, a-mode=$ b-mode=@ modifier=- opcode=MOV
 8: line 8, a-mode=# b-mode=$ modifier=- opcode=ADD
 9: line 9, a-mode=$ modifier=- opcode=JMP
 bomb: line 10, a-mode=# b-mode=# modifier=- opcode=DAT
+"""
+# An operand whose mode is in an EQU line, also by way of another.
+MODE_IN_EQU = "gate EQU <-5\nway EQU gate\n MOV way, gate\n SPL #0, >3\n"
+MODE_LIST = """gate.1=5: line 1, 2 uses
+4.a=0: line 4
+4.b=3: line 4
+3: line 3, modifier=- opcode=MOV
+4: line 4, a-mode=# b-mode=> modifier=- opcode=SPL
+"""
+# A text that is adapted: CURLINE is a number, a block is unrolled, and an EQU is written out twice.
+OLD = """;redcode-94
+bomb EQU spl #, <-5
+go bomb
+j FOR 2
+y&j EQU 4
+ bomb
+ DAT j, y&j*9
+ ROF
+ FOR (MAXLENGTH-CURLINE)/50
+ DAT 7, 7
+ ROF
+"""
+OLD_LIST = """go.b=-5: line 2
+y01=4: line 5, 1 use
+7.b.1=9: line 7
+9.a.1=50: line 9
+10.a=7: line 10
+10.b=7: line 10
+go: line 2, a-mode=# b-mode=< modifier=- opcode=spl
+7: line 7, a-mode=$ b-mode=$ modifier=- opcode=DAT
+10: line 10, a-mode=$ b-mode=$ modifier=- opcode=DAT
 """
 FORM = (" is not of the form PLACE=LOW:HIGH:STEP or PLACE=VALUE,VALUE, as STEP=5:4000:10 or "
         "throw.b=-40,-25, without blanks")
@@ -113,7 +144,9 @@ WRONG_RANGES = [
     usage_error("cwtune-vary two.red STEP=1:9 STEP=2:5", "STEP has two ranges"),
     *(usage_error(f"cwtune-vary two.red {word}", f"argument PLACE=VALUES: {word}{fault}")
       for word, fault in [
-          *((word, FORM) for word in ["STEP=1", "STEP=a:b", "STEP", "STEP=1,", "bomb.c=1:2"]),
+          *((word, FORM) for word in ["STEP=1", "STEP=a:b", "STEP", "STEP=1,", "bomb.b.0=1:2"]),
+          *((word, f": there is no field {field}; there are a b a-mode b-mode modifier opcode")
+            for word, field in [("bomb.c=1:2", "c"), ("bomb.mode=<,>", "mode")]),
           ("STEP=9:1", ": 9 is above 1"), ("STEP=1:9:0", ": the step is 0"),
           ("STEP=1:99999", ": values are -65535 to 65535"),
           ("bomb.a-mode=#,q", f": q is no mode; there are {MODES}"),
@@ -143,11 +176,28 @@ def templates(place):
     status, _, err = vary(place, "two.red", "STEP=1:3000", "far=-999:0")
     yield compare("too many settings for tune", (0, "note: 3000000 settings: too many for `cwtune "
                   "tune`; cwtune-study and cwtune-seek have them race\n"), (status, err))
-    place.write("two.red", TEXT)
+    place.write("two.red", TEXT.replace("FOR  2", "FOR  0"))
     yield compare("what could be opened", (0, LIST, ""), vary(place, "two.red"))
-    place.write("none.red", ";name None\n equ 5\n")
-    yield compare("a text without places", (0, "", "note: nothing that could be opened\n"),
-                  vary(place, "none.red"))
+
+
+def hidden(place):
+    """Lists texts with fields that are not where they seem to be, and opens those."""
+    for name, text, listed, words in [
+        ("mode.red", MODE_IN_EQU, MODE_LIST, [
+            ("3.a-mode=<,>", ", line 3: 3.a-mode is in line 1, an EQU line"),
+            ("3.b-mode=<,>", ", line 3: 3.b-mode is in line 1, an EQU line")]),
+        ("old.red", OLD, OLD_LIST, [
+            ("go.a=1:9", ", line 2: 0 is not written there, so go.a can have no range"),
+            ("8.a=1:9", ", line 8: nothing there can be opened"),
+            ("9.a.2=1:9", ", line 9: 9.a has 1 number, and no 9.a.2")]),
+    ]:
+        place.write(name, text)
+        status, out, _ = vary(place, name)
+        yield compare(f"the list of {name}", (0, listed), (status, out))
+        for word, fault in words:
+            status, _, err = vary(place, name, word)
+            yield compare(f"{word} of {name}", (1, f"refused: {name}{fault}"),
+                          (status, err.splitlines()[-1]))
 
 
 def places(place):
@@ -199,6 +249,10 @@ def refusals(place):
     yield compare("a text that does not assemble",
                   (1, "", "refused: label.red does not assemble: Asm line 3 Value "
                    "DivisionByZero\n"), vary(place, "label.red", "K=1:2"))
+    place.write("none.red", ";redcode\nK = 5\nMOV 0, K\n")
+    yield compare("a text that neither program reads",
+                  (1, "", "refused: none.red does not assemble: Asm line 2 Expand Text BadByte\n"),
+                  vary(place, "none.red"))
     yield compare("a template", (1, "", "refused: ranges.red: it has range lines, so it is a "
                   "template already\n"), vary(place, "ranges.red"))
     yield compare("a missing file", 3, vary(place, "none").status)
@@ -206,4 +260,4 @@ def refusals(place):
 
 def trials(program):
     return in_folders(lambda folder: Place(program, folder, {}), [
-        templates, places, refusals])
+        templates, hidden, places, refusals])
