@@ -41,8 +41,8 @@ class Span(NamedTuple):
 
 
 class Line(NamedTuple):
-    """A line that is assembled. `number` is that of the author's line, and `row` that of the line in
-    the text that is read. `word` is its opcode or directive in small letters, and `fields` has a
+    """A line that is assembled. `number` is that of the author's line, and `row` that of the line
+    in the text that is read. `word` is its opcode or directive in small letters, and `fields` has a
     span for each field; that of an EQU line is `equ`. `hidden` has why others are no places.
     `depth` is how many blocks are open. `adapted` is the adapted text, or None, and `numbers` has
     the numbers of all lines."""

@@ -188,8 +188,8 @@ def source_of(parser, args):
         raise Fault(f"{args.warrior}: it has range lines, so it is a template already")
     read, said = adapted_text(args, args.warrior, text)
     if said:
-        say("note", f"{args.warrior} is adapted to what cwtune reads, as by cwtune-adapt; places and "
-            f"lines are those of {args.warrior}; {said}", 0)
+        say("note", f"{args.warrior} is adapted to what cwtune reads, as by cwtune-adapt; places "
+            f"and lines are those of {args.warrior}; {said}", 0)
     adapted = None if read == text else adapt(args.warrior, text, rules_of(args), args.program)
     return Source(read.decode("latin-1"), adapted)
 

@@ -16,8 +16,8 @@ use rc_instr::{Instruction, OutOfMemory};
 use std::alloc::Global;
 use std::mem;
 
-/// A store of cells as a turn uses it: cells are read and replaced, and those that have to be set to
-/// empty the store again are marked and counted.
+/// A store of cells as a turn uses it: it reads and replaces cells, and marks and counts those that
+/// have to be set to empty the store again.
 ///
 /// Contracts see a list of instructions, a list that says of each cell whether it is marked, and a
 /// number, the marks. Addresses count from 0.

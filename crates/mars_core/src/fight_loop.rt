@@ -8,12 +8,12 @@ use crate::snapshot::Snapshot;
 use crate::tasks::{STRETCH, Tasks};
 use crate::turn::next_turn;
 
-// Alternates turns, `mine` first, until a queue is empty or `cycles` are over. Returns the cells, both
-// queues and the number of turns.
+// Alternates turns, `mine` first, until a queue is empty or `cycles` are over. Returns the cells,
+// both queues and the number of turns.
 //
-// Owns the cells and the queues while it runs, so that the compiler keeps their fields in registers:
-// of what is behind a reference it has to assume that each write to a cell changes it. Too large to
-// be inlined.
+// Owns the cells and the queues while it runs, so that the compiler keeps their fields in
+// registers: it has to assume that a write to a cell changes what is behind a reference. Too large
+// to be inlined.
 #[inline(never)]
 pub(crate) fn take_turns<C: Store>(
     mut cells: C,

@@ -313,8 +313,8 @@ fn six_steps<C: Cells>(
     ]
 }
 
-// The queues are, from the start: 0; 1 0; 0 0; 0 1 0; 1 0 1 0; 0 1 0 0; 1 0 0 1. The last split finds
-// no room for its second task.
+// The queues are, from the start: 0; 1 0; 0 0; 0 1 0; 1 0 1 0; 0 1 0 0; 1 0 0 1. The last split
+// finds no room for its second task.
 #[test]
 fn one_side_steps_more_often_than_it_has_room_for_tasks(rt: HostRuntime) -> Result<(), Fail> {
     let rules = rules_of(16, 20, 4)?;

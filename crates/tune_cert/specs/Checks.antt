@@ -195,8 +195,8 @@ is_best_row p total (Some Refused) = false
 is_best_row p total (Some (Same u)) = false
 is_best_row p total (Some (Cap listed)) = lists_all p.fights 0 listed && (listed_total p listed == total)
 
--- What is wrong with a statement, and at which record, as far as a check of a share sees. `answered`
--- says whether the record of the answer is right. With an aim the rows have to be exact.
+-- What is wrong with a statement, and at which record, as far as a check of a share sees.
+-- `answered` says whether the record of the answer is right. With an aim the rows have to be exact.
 unfoldable pub failure_by : Problem → (share : Part) → (answered : Bool) → Option Aim → Statement → Option (ℕ × Reason)
 failure_by p share answered aim s =
     first_of (

@@ -1,5 +1,5 @@
--- What a check of a share says of a certificate, by its demand: certificates with either answer, and
--- those that show the first of the ranking. In names `by` means from a failure, `on` from a
+-- What a check of a share says of a certificate, by its demand: certificates with either answer,
+-- and those that show the first of the ranking. In names `by` means from a failure, `on` from a
 -- statement, `of` from records.
 use Rattle.std.specs.Prelude.{◌≡◌, ℕ, ◌<◌, ◌^◌, Bool, false, ◌==◌, List, [], length, slice_get, Option, Some, None, option_map, Result, Ok, Err}
 use Rattle.std.specs.List.{AllByRecursion}

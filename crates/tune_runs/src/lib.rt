@@ -11,8 +11,8 @@
 //! | `asm_run`, `setting_run` | a load file: of a Redcode text, or of one setting of a template |
 //! | `settings_run` | the number of a template's settings, and its constants |
 //!
-//! A tuning and a check have two runs each. `tune_run` and `check_run` are for the best setting of a
-//! template alone. `tune_for_run` also takes a part, an `Aim`, a `Method` and a watcher, and
+//! A tuning and a check have two runs each. `tune_run` and `check_run` are for the best setting of
+//! a template alone. `tune_for_run` also takes a part, an `Aim`, a `Method` and a watcher, and
 //! `check_for_run` a part, a `Demand`, a share of the rows and a watcher.
 #![tactic(auto)]
 

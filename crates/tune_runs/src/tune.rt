@@ -54,8 +54,8 @@ pub fn tune_run<W: Write, V: Write>(
     requires outlets { (report.old.failed ≡ false) × (cert.old.failed ≡ false) }
 
     // Both texts are of one finding of a search for the best setting alone: a valid certificate was
-    // written, and the report of its best setting, the optimum. Only texts without a meaning or a candidate
-    // are refused, and then nothing was written.
+    // written, and the report of its best setting, the optimum. Only texts without a meaning or a
+    // candidate are refused, and then nothing was written.
     ensures run { let t = all_given template.now opponents.now schedule.now rules.now in
         IsTuneRun t (WritesTuning t (Method.Dropping capacity)) result report.old report.new cert.old cert.new }
 
@@ -90,8 +90,8 @@ pub fn tune_run<W: Write, V: Write>(
 /// `total below F of M`, where M is the greatest total possible.
 ///
 /// By either method the settings and their totals are the same. The capacity, if `method` has one,
-/// is 1 to 65536. Neither outlet may have failed. `tune_run` is this run for part 1 of 1 with keep 1
-/// and the floor 0.
+/// is 1 to 65536. Neither outlet may have failed. `tune_run` is this run for part 1 of 1 with keep
+/// 1 and the floor 0.
 ///
 /// # Errors
 ///

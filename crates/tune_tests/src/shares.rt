@@ -1,5 +1,5 @@
-//! Tests of `check_for` of a share, on certificates of four settings with one warrior. In the valid one
-//! settings 1 and 3 refer to setting 2.
+//! Tests of `check_for` of a share, on certificates of four settings with one warrior. In the valid
+//! one settings 1 and 3 refer to setting 2.
 
 use crate::fixtures::{ACCEPTED, FOUR_EQUAL, FOUR_EQUAL_CERT, FOUR_EQUAL_TOTAL_5, inputs_of};
 use std::alloc::Global;
