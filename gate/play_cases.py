@@ -22,7 +22,7 @@ OPTIONAL = {
     "long": dict, "accepted": bool, "terminal": bool, "seconds": int, "megabytes": int,
 }
 # what the tables of `runs` and `each` may say
-MERGED = {**OPTIONAL, "status": int, "runs": None, "each": None}
+MERGED = {**OPTIONAL, **NEEDED, "runs": None, "each": None}
 LONG = {"head": str, "text": str, "times": int, "tail": str}
 SHARED = {"files": dict, "folders": list, "words": dict, "case": list}
 SECONDS = 120
@@ -50,7 +50,8 @@ def variants(case, key):
     for number, table in enumerate(case[key], 1):
         name = f"{case['name']} ({'table' if key == 'each' else 'run'} {number})"
         check_keys(table, MERGED, [], name)
-        merged = {"name": name}
+        told = table.get("name", table.get("words"))
+        merged = {"name": f"{name}: {told}" if told else name}
         for part in ["files", "fill", "long"]:
             merged[part] = case[part] | table.get(part, {})
         cases.append(case | table | merged)
