@@ -14,10 +14,10 @@ best so far. With --fights and a seed the result is the same on every machine.
 
 Example: cwtune-seek --minutes 10 my.red fights.csv dwarf.red scanner.red > better.red
 """
-import math, sys
+import math, pathlib, sys
 
 from . import holdout
-from .adapt import add_as_is, adapted_for, read_text
+from .adapt import adapted_for, adapted_opponents, add_as_is, read_text
 from .endings import Fault
 from .grid import Grid
 from .program import run_program
@@ -91,11 +91,25 @@ def make_parser():
     return parser
 
 
+def playing_opponents(args, weights, folder):
+    """Returns the paths of the opponents with a weight. Of those that are adapted these are copies
+    in a folder."""
+    paths = []
+    playing = [path for path, weight in zip(args.opponent, weights) if weight]
+    for path, text, is_adapted in adapted_opponents(args, playing):
+        if is_adapted:
+            path = pathlib.Path(folder, f"opponent{len(paths)}.red")
+            path.write_bytes(text)
+        paths.append(path)
+    return paths
+
+
 def seek(args, grid, weights):
-    """Runs the race. Returns the values of the winner and the outcome, or after Ctrl-C those of the
-    best so far and None."""
+    """Runs the race against the opponents with a weight. Returns the values of the winner and the
+    outcome, or after Ctrl-C those of the best so far and None."""
     with (temporary_folder() as folder,
-          Arena(args, budget_of(args), grid, args.opponent, weights, [], folder) as arena):
+          Arena(args, budget_of(args), grid, playing_opponents(args, weights, folder),
+                list(filter(None, weights)), [], folder) as arena):
         race = Race(grid, arena, args.seed)
         try:
             outcome = race.run()
@@ -105,7 +119,7 @@ def seek(args, grid, weights):
             print(f"stopped: the best so far is {grid.constants_of(race.leader())}; its gain was "
                   "not measured", file=sys.stderr)
             return race.leader(), None
-    print_outcome(grid, outcome, [weight for weight in weights if weight])
+    print_outcome(grid, outcome, list(filter(None, weights)))
     return outcome.winner, outcome
 
 
@@ -120,6 +134,6 @@ def main():
     winner, outcome = seek(args, grid, weights)
     text = grid.text(ranges_of(args, grid, winner), winner)
     if args.json:
-        print_json(outcome_numbers(grid, outcome, [weight for weight in weights if weight], text))
+        print_json(outcome_numbers(grid, outcome, list(filter(None, weights)), text))
     else:
         sys.stdout.buffer.write(text)

@@ -1,16 +1,15 @@
 """Reads the words and files of `cwtune-study`, and refuses those that make no study."""
-import argparse, collections, hashlib, json, math, os, pathlib
+import argparse, hashlib, json, math, os, pathlib
 from typing import NamedTuple
 
 from . import vary
-from .adapt import adapted_for, adapted_text, read_text
-from .endings import Fault, fault_of, say
+from .adapt import adapted_for, adapted_opponents, read_text
+from .endings import Fault, fault_of
 from .grid import Grid, is_range_line
 from .openings import opening_from
 from .program import EXPLAIN, rules_of, run_program
 from .series import refuse_distance, refuse_fights, refuse_seed
 from .tuning_files import MOST_OPPONENTS, MOST_WEIGHT
-from .words import counted
 from .writing import temporary_folder
 
 # The options that a study depends on.
@@ -142,7 +141,7 @@ def read(parser, args):
         warrior = source.text.encode("latin-1")
         if warrior == original:
             refuse_text(args, args.warrior, "--", args.warrior)
-        template = vary.checked_template(args, source)
+        template = vary.checked(args, source).template()
     else:
         warrior = template = adapted_for(args, args.warrior, original)
         refuse_start(args, Grid(args.warrior, template))
@@ -172,27 +171,14 @@ def refuse_text(args, name, *words, **options):
 
 def opponents_of(args):
     """Returns names and texts of the opponents. A name that is taken gets a number."""
-    texts, adapted = {}, collections.defaultdict(list)
-    for path in args.opponents:
-        if "\n" in path:
-            raise Fault("the name of an opponent has a line end", 2)
-        original = read_text(path)
-        text, said = adapted_text(args, path, original)
-        if said:
-            adapted[said].append(path)
-        else:
+    if any("\n" in path for path in args.opponents):
+        raise Fault("the name of an opponent has a line end", 2)
+    texts = {}
+    for path, text, is_adapted in adapted_opponents(args, args.opponents):
+        if not is_adapted:
             refuse_text(args, path, "--", path)
         texts[free_name(os.path.basename(path), texts)] = text
-    note_adapted(adapted)
     return list(texts.items())
-
-
-def note_adapted(adapted):
-    """Notes on standard error which opponents are adapted, by what pMARS says of them."""
-    for said, paths in adapted.items():
-        verb = "are" if len(paths) > 1 else "is"
-        say("note", f"{counted(len(paths), 'opponent')} {verb} adapted, as by cwtune-adapt: "
-            f"{', '.join(paths)}; {said}", 0)
 
 
 def free_name(name, taken):

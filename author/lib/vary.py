@@ -12,14 +12,14 @@ range what could be opened is listed.
 
 Example: cwtune-vary my.red STEP=5:4000:10 'throw.a-mode=<,>,{' > my-template.red
 """
-import math, re, sys
+import itertools, math, re, sys
 from typing import NamedTuple
 
 from .adapt import adapt, adapted_text, add_as_is
 from .endings import Fault, say
 from .grid import KEPT, is_range_line
 from .openings import constant_of, opening_from
-from .places import FIELDS, code_of, lines_of, spot_of, spots_in
+from .places import FIELDS, OPCODES, code_of, lines_of, spot_of, spots_in
 from .program import load_file_of_bytes, refuse_other_warrior, rules_of
 from .slots import code_of_kept
 from .tuning_files import MOST_CONSTANTS, MOST_SETTINGS
@@ -71,10 +71,10 @@ class Varied:
                             f"{spot.name} are in one place", 2)
 
     def template(self, starts_alone=False):
-        """Returns the template. With `starts_alone` each constant has its START as its only
-        value."""
-        return "\n".join(new for row, line in enumerate(self.text.split("\n"), 1)
-                         for new in self.lines_for(row, line, starts_alone))
+        """Returns the template. With `starts_alone` START is the only value of each constant."""
+        lines = [new for row, line in enumerate(self.text.split("\n"), 1)
+                 for new in self.lines_for(row, line, starts_alone)]
+        return "\n".join(lines).encode("latin-1")
 
     def lines_for(self, row, line, starts_alone):
         """Returns the lines of the template for a line of the text."""
@@ -112,11 +112,22 @@ def spots_of(lines, fields):
         seen |= set(spots)
 
 
+def heads_of_prose(lines):
+    """Returns the rows of the FOR lines whose blocks are dropped and have no instruction."""
+    dropped = [index for index, line in enumerate(lines)
+               if line.word == "for" and line.spelled(line.fields["a"]) == "0"]
+    return [lines[index].row for index in dropped if not any(
+        line.word in OPCODES for line in itertools.takewhile(
+            lambda line: line.depth > lines[index].depth, lines[index + 1:]))]
+
+
 def lines_of_numbers(lines):
     """Yields for each number that can have a range a line that says where it is and, of an EQU
-    line, how often it is used."""
+    line, how often it is used. The count of a block of prose is left out."""
+    prose = heads_of_prose(lines)
     for line, spots in spots_of(lines, ["equ", "a", "b"]):
-        for spot in spots if line.word != "equ" or not line.depth else ():
+        is_hidden = line.row in prose or line.word == "equ" and line.depth
+        for spot in () if is_hidden else spots:
             uses = (f", {counted(uses_of(lines, line), 'use')}" if line.word == "equ" else "")
             yield f"{spot.name}={spot.spelled()}: line {line.number}{uses}"
 
@@ -131,34 +142,10 @@ def lines_of_others(lines):
             yield f"{label}: line {line.number}, {' '.join(fields)}"
 
 
-def print_list(source):
-    """Prints what of a text could be opened."""
-    lines = source.lines()
-    for line in [*lines_of_numbers(lines), *lines_of_others(lines)]:
-        print(line)
-
-
 def load_file_of_source(args, source):
     """Returns the load file of a text. Refuses one that does not assemble."""
     return load_file_of_bytes(args.program, args.warrior, source.text.encode("latin-1"),
                               *rules_of(args).words())
-
-
-def refuse_ranges(args, varied):
-    """Refuses openings whose start setting is another warrior than the text.
-
-    For this each constant has its START alone, as `cwtune` takes at most a million settings.
-    """
-    load_file = load_file_of_source(args, varied)
-    refuse_other_warrior("with range lines", varied.template(True).encode("latin-1"), load_file,
-                         args.program, *rules_of(args).words(), "--setting=start")
-
-
-def print_size(settings):
-    """Prints on standard error how many settings there are, and if they are too many for `tune`."""
-    excess = ": too many for `cwtune tune`; cwtune-study and cwtune-seek have them race"
-    print(f"note: {counted(settings, 'setting')}{excess if settings > MOST_SETTINGS else ''}",
-          file=sys.stderr)
 
 
 def make_parser():
@@ -175,8 +162,7 @@ def make_parser():
 
 
 def source_of(parser, args):
-    """Returns the `Source` of the warrior, adapted. Refuses a template, and ranges that no template
-    has."""
+    """Returns the `Source` of the warrior. Refuses a template, and ranges that none has."""
     names = [opening.place for opening in args.ranges]
     if twice := [name for index, name in enumerate(names) if name in names[:index]]:
         parser.error(f"{twice[0]} has two ranges")
@@ -196,15 +182,13 @@ def source_of(parser, args):
 
 def checked(args, source):
     """Returns a text with what is open in it. Refuses openings whose START is not the warrior of
-    the text."""
+    the text. For this each constant has its START alone, as `cwtune` takes at most a million
+    settings."""
     varied = Varied(args.warrior, source, args.ranges)
-    refuse_ranges(args, varied)
+    load_file = load_file_of_source(args, source)
+    refuse_other_warrior("with range lines", varied.template(True), load_file, args.program,
+                         *rules_of(args).words(), "--setting=start")
     return varied
-
-
-def checked_template(args, source):
-    """Returns the template of a text, as `checked` takes it."""
-    return checked(args, source).template().encode("latin-1")
 
 
 def main():
@@ -213,10 +197,14 @@ def main():
     source = source_of(parser, args)
     if not args.ranges:
         load_file_of_source(args, source)
-        print_list(source)
+        lines = source.lines()
+        for line in [*lines_of_numbers(lines), *lines_of_others(lines)]:
+            print(line)
         return
     varied = checked(args, source)
-    sys.stdout.buffer.write(varied.template().encode("latin-1"))
-    for note in varied.notes:
+    sys.stdout.buffer.write(varied.template())
+    settings = varied.count()
+    excess = ": too many for `cwtune tune`; cwtune-study and cwtune-seek have them race"
+    for note in [*varied.notes, counted(settings, "setting")
+                 + (excess if settings > MOST_SETTINGS else "")]:
         print(f"note: {note}", file=sys.stderr)
-    print_size(varied.count())

@@ -1,14 +1,13 @@
 """Plays `cwtune-seek` with the program, and races with made-up fights."""
 import argparse, json, os, random, signal, subprocess
 from unittest import mock
-from unittest import mock
 
 from author.lib import grid, race, race_fights
 from author.lib.endings import Fault
 from gate.play import Place
 from gate.tally import compare
 
-from .commands import SECONDS, TUNING, command, in_folders, run, started, wait_until
+from .commands import SECONDS, command, in_folders, run, started, wait_until
 
 LARGE = ";@tune A 0 9999 1 2\n;@tune B 0 9999 1 2\nDAT A, B\n"
 # A warrior that wins if A is 3 and B near 4, in a core of 80.
@@ -127,8 +126,7 @@ def slow_play(place):
 
 
 def ended(improve):
-    """Returns a method that improves a race, and fails if it is called more often than a race has
-    rounds."""
+    """Returns a method that improves a race, and fails after more rounds than a race has."""
     def counted(number):
         if number > 500:
             raise ValueError("the rounds do not end")

@@ -1,5 +1,5 @@
 """Plays `cwtune-vary` with the program."""
-import re, subprocess
+import subprocess
 
 from gate.play import Place
 from gate.tally import compare
@@ -82,7 +82,6 @@ LIST = """STEP=5: line 4, 3 uses
 far=-20: line 5, 1 use
 both.1=1: line 6, 0 uses
 9.a=-2: line 9
-11.a=0: line 11
 7: line 7, a-mode=$ b-mode=@ modifier=- opcode=MOV
 8: line 8, a-mode=# b-mode=$ modifier=- opcode=ADD
 9: line 9, a-mode=$ modifier=- opcode=JMP
@@ -95,6 +94,15 @@ MODE_LIST = """gate.1=5: line 1, 2 uses
 4.b=3: line 4
 3: line 3, modifier=- opcode=MOV
 4: line 4, a-mode=# b-mode=> modifier=- opcode=SPL
+"""
+# Of two blocks without copies only the second one has an instruction.
+PROSE = "FOR 0\n this is a stone, 3 +\nROF\nFOR 0\n DAT 0, 5\nROF\n JMP 0\n"
+PROSE_LIST = """4.a=0: line 4
+5.a=0: line 5
+5.b=5: line 5
+7.a=0: line 7
+5: line 5, a-mode=$ b-mode=$ modifier=- opcode=DAT
+7: line 7, a-mode=$ modifier=- opcode=JMP
 """
 # A text that is adapted: CURLINE is a number, a block is unrolled, and an EQU is written out twice.
 OLD = """;redcode-94
@@ -186,6 +194,7 @@ def hidden(place):
         ("mode.red", MODE_IN_EQU, MODE_LIST, [
             ("3.a-mode=<,>", ", line 3: 3.a-mode is in line 1, an EQU line"),
             ("3.b-mode=<,>", ", line 3: 3.b-mode is in line 1, an EQU line")]),
+        ("prose.red", PROSE, PROSE_LIST, []),
         ("old.red", OLD, OLD_LIST, [
             ("go.a=1:9", ", line 2: 0 is not written there, so go.a can have no range"),
             ("8.a=1:9", ", line 8: nothing there can be opened"),
@@ -201,8 +210,7 @@ def hidden(place):
 
 
 def places(place):
-    """Opens places of each kind, alone and together, and takes the text out of each template
-    again."""
+    """Opens places of each kind, alone and together, and takes the text out again."""
     place.write("places.red", PLACES)
     lines = PLACES.split("\n")
     for number, word, new, notes in OPENED:
