@@ -124,7 +124,6 @@ class Pmars:
         self.program, self.folder = program, folder
 
     def command(self, fight, cycles, rounds=1):
-        """Returns the command that plays rounds of a fight."""
         game = Game(fight.rules._replace(cycles=cycles), fight.candidate, fight.opponent,
                     tempfile.mkdtemp(dir=self.folder))
         return game.series_words(self.program, fight.position, rounds)

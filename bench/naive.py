@@ -37,8 +37,7 @@ def processor_seconds():
 
 
 def schedule_of(places, rounds, opponents):
-    """Returns the text of a schedule of random fights. Of each two rounds an opponent moves first
-    in one."""
+    """Returns a schedule of random fights. Of each two rounds an opponent begins one."""
     blocks = []
     for index in range(rounds):
         if index % 2 == 0:
@@ -73,8 +72,7 @@ class Naive:
         return processor_seconds() >= self.seconds * part
 
     def play(self, values, rounds, least=0.0):
-        """Plays a setting. Its share is below 0 if it does not assemble, or if it is less than
-        `least`."""
+        """Plays a setting. Its share is below 0 if it does not assemble, or is below `least`."""
         greatest = 3 * rounds * len(self.opponents)
         floor = max(0, math.ceil(least * greatest - 1e-6))
         self.played += 1

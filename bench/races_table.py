@@ -196,7 +196,6 @@ def budget_line(runs):
 
 
 def table_of(results):
-    """Yields the lines of the table."""
     runs, ours = results.of_searches(), results.counting(SEARCHES[0])
     templates = sorted({run.race.template for run in runs})
     budgets = sorted({run.race.seconds for run in runs})

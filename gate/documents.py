@@ -75,7 +75,6 @@ def runs_in_blocks(text):
 
 
 def cells_of(line):
-    """Returns the cells of a line of a table."""
     return [cell.strip().replace("\\|", "|") for cell in re.split(r"(?<!\\)\|", line)[1:-1]]
 
 

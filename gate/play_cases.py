@@ -68,7 +68,6 @@ def fill(text, names):
 
 
 def long_text(long):
-    """Returns the text of a long file."""
     middle = "".join(long["text"].replace("$n", str(n)) for n in range(long["times"]))
     return long.get("head", "") + middle + long.get("tail", "")
 

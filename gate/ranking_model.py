@@ -131,7 +131,6 @@ class Search:
                        for rank, (cap, v) in enumerate(shown, 1))
 
     def certificate(self):
-        """Returns the certificate."""
         version = 1 if all(fight.weight == 1 for fight in self.table.fights) else 2
         lines = [f"cwcert,{version},{len(self.rows)}",
                  f"best,{self.ranking[0][1]},{-self.ranking[0][0]}" if self.ranking

@@ -232,8 +232,7 @@ def damaged(trial, model, keep):
 
 
 def floors(trial):
-    """Tunes with three floors, drawn from the numbers near the optimum and the totals of some
-    settings."""
+    """Tunes with three floors: numbers near the optimum, and totals of some settings."""
     table, dice = trial.table, trial.dice
     ranked = table.ranked()
     most = table.total(ranked[0])

@@ -11,25 +11,22 @@ from author.lib.endings import Fault, run_tool
 from author.lib.words import module_parser
 from pmars.compare import Programs
 
-from .gate import STEPS
+from .gate import EDITS, STEPS
 from .tally import compare, tally
 
 ROOT = pathlib.Path(__file__).resolve().parent.parent
 ROOMS = ["author", "bench", "gate", "pmars", "release"]
 # The end of a module that can be run.
 MAIN = '\nif __name__ == "__main__":\n'
-# The modules that are only asked for help.
-HELPED = ["gate.gate", "gate.answers", "gate.edits", "gate.runners", "release.dist",
-          "release.manual"]
+# The steps of the gate that take no program, and the other modules that are only asked for help.
+OTHER_STEPS = [EDITS, "gate.runners", "gate.refuse.growth"]
+HELPED = ["gate.gate", "gate.answers", EDITS, "gate.runners", "release.dist", "release.manual"]
 # The modules of gate that are no step of it.
 NO_STEPS = {"gate.gate", "gate.answers"}
 # The others, which take a program as their last word, by the command that builds it.
 REFUSED = {
-    "make build": ["author.tests.run", "author.tests.own_folders", "gate.play_cases", "gate.cuts",
-                   "gate.pipes", "gate.terminals", "gate.documents",
-                   "gate.ranking_trials", "gate.scripts", "gate.shares", "gate.cert_inputs_trials",
-                   "gate.races_trials", "gate.refuse.memory", "gate.refuse.writes",
-                   "gate.refuse.two_devices", "release.try_release", "bench.measure --program",
+    "make build": [*(step for step in STEPS if step not in OTHER_STEPS),
+                   "author.tests.own_folders", "bench.measure --program",
                    "bench.loop_place --program", "bench.limit --pmars=none --program",
                    "bench.searches none --program", "bench.races --results=none --program",
                    "bench.naive 1 1 none none --program"],

@@ -79,7 +79,6 @@ class Text:
         return [f"i\tFOR\t{count}", *inner, "\tROF"]
 
     def text(self):
-        """Returns the text."""
         lines = [f"{name}\tEQU\t{self.number()}" for name in self.names]
         body = [self.line(label) for label in self.labels]
         body += [self.line() for _ in range(self.dice.randint(1, 6))]

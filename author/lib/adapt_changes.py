@@ -38,8 +38,7 @@ class Change:
         return self.index, self.start, self.end
 
     def overlaps(self, other):
-        """Returns whether two changes change the same columns. Several texts may be put in at one
-        place."""
+        """Returns whether two changes change the same columns. One place may get several texts."""
         if self.index != other.index:
             return False
         is_same = self.where() == other.where() and self.start < self.end
@@ -87,7 +86,6 @@ class Finder:
                  None if is_alone else "", note, reading)
 
     def comment_out(self, index, note, reading=None):
-        """Makes a comment of a line."""
         self.comment_from((index, 0), note, reading)
 
     def comment_from(self, where, note, reading):
@@ -126,8 +124,7 @@ class Finder:
             self.add((text.index, *root), value, f"{name} is {value} here", text.reading)
 
     def dropped(self, line, depth):
-        """Looks at a line of a dropped block. `depth` is 1 if it begins a block, and -1 if it ends
-        one."""
+        """Looks at a line of a dropped block. `depth` is 1 if a block begins, -1 if one ends."""
         is_bad = TOKENS.fullmatch(line.text) is None or has_large_number(line.text)
         word = next((token for token in tokens_of(line.text)
                      if token.text.upper() == ("FOR" if depth > 0 else "ROF")), None)
@@ -295,8 +292,7 @@ class Finder:
                  f"{self.word(index, root)} is written out", reading)
 
     def equ_use(self, text, source, known, use):
-        """Looks at the use of an EQU, which `cwtune` takes for a label if it begins an
-        instruction."""
+        """Looks at the use of an EQU, which is a label for `cwtune` if it begins an instruction."""
         root, is_first = use
         outer = source.equ or known
         self.uses[known].add((text.index, *root) if outer is known else None)
@@ -316,8 +312,7 @@ class Finder:
         self.write_out((text.index, *source.root), text.reading, source.equ)
 
     def equ(self, text, known, labels):
-        """Looks at an EQU, whose name may be on a line before. One with several names becomes
-        several."""
+        """Looks at an EQU, whose name may be on a line before. Each further name gets its own."""
         if text.inside:
             return
         self.equs[known] = [line.index for line in known.lines]

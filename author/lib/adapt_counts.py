@@ -44,8 +44,7 @@ class Curline:
                                      and all(self.is_text(text, name) for name in names))
 
     def is_text(self, text, name):
-        """Returns whether a name stands for a text in which no label, no counter and no CURLINE
-        is."""
+        """Returns whether a name stands for a text without labels, counters and CURLINE."""
         known = text.names.get(name)
         return (known is not None and known.kind == "text" and len(known.lines) == 1 and all(
             self.is_text(text, token.text) for token in tokens_of(known.lines[0].text)

@@ -10,7 +10,7 @@ from typing import Annotated
 from .endings import Fault, say
 from .program import HILLS, Rules, fill_rules
 from .regular import NotRegular, digest_of, read_regular
-from .schema import Malformed, checked
+from .schema import checked
 from .tuning_files import MOST_OPPONENTS
 
 KINDS = ["template", "schedule", "opponent"]
@@ -82,8 +82,7 @@ def read(cert):
 
 
 def is_file(path, digest):
-    """Returns whether a file is regular, and has this size and digest. One of another size is not
-    read."""
+    """Returns whether a file is regular, and of this size and digest. It is read only then."""
     try:
         return (os.path.getsize(path) == int(digest.split()[0]) and digest_of(path) == digest)
     except NotRegular:

@@ -158,7 +158,6 @@ def fault_of(completed):
 
 
 def end_by(signal_number):
-    """Ends this process by a signal."""
     signal.signal(signal_number, signal.SIG_DFL)
     os.kill(os.getpid(), signal_number)
 

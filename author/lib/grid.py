@@ -72,8 +72,7 @@ class Grid:
         return self.text(ranges, values)
 
     def box(self, values, reach):
-        """Returns the ranges of the values that are at most `reach` steps from those of a
-        setting."""
+        """Returns the ranges of the values at most `reach` steps from those of a setting."""
         ranges = []
         for whole, value in zip(self.ranges, values):
             index = whole.index(value)

@@ -143,8 +143,7 @@ def label_ticks(set_ticks, values, most):
 
 
 def most_across(values, columns):
-    """Returns how many values have room from left to right in one of `columns` maps side by
-    side."""
+    """Returns how many values have room from left to right in one of `columns` maps."""
     longest = max(len(str(value)) for value in values)
     return max(1, min(8, int(inches_across(columns) * 72 * 0.7 // (7 * longest + 8))))
 
@@ -155,8 +154,7 @@ def inches_across(columns):
 
 
 def grid_of(plot, count, **sharing):
-    """Returns a figure with room for `count` maps, the axes of these, and those of the whole
-    grid."""
+    """Returns a figure with room for `count` maps, their axes, and those of the whole grid."""
     if count > MOST_MAPS:
         raise Fault(f"{count} maps, one for each choice of the other constants; at most "
                     f"{MOST_MAPS}: tune a template with fewer of them")

@@ -134,8 +134,7 @@ class OwnFolder:
             yield room, file_name
 
     def read_mark(self):
-        """Returns the mark, None if the folder is new. Refuses a folder that this command did not
-        make."""
+        """Returns the mark, None if the folder is new. Refuses a folder of another command."""
         if not self.top.names(rf"(?s)(?!{re.escape(self.MARK)}\.\d+\.new$).*"):
             return None
         refusal = f"{self.given_path} is not a folder of this {self.COMMAND}, and is not touched"
@@ -150,8 +149,7 @@ class OwnFolder:
         return mark
 
     def load(self, name, schema):
-        """Returns what a file of JSON says, as the schema has it. Raises a Malformed, or a
-        FileNotFoundError."""
+        """Returns what a file of JSON says by a schema. Raises Malformed or FileNotFoundError."""
         with self.room_of(name) as (room, file_name):
             return from_json(schema, read_regular(MOST_BYTES, **room.place(file_name)))
 

@@ -186,8 +186,7 @@ def lines_of(text, adapted=None):
 
 
 def number_of(adapted, row, column):
-    """Returns the number of the author's line in which a word of a line is, or begins; 0 if that
-    line is new."""
+    """Returns the number of the author's line in which a word is, or begins; 0 if it is new."""
     if adapted is None:
         return row
     places = adapted.lines[row - 1].places
@@ -231,7 +230,6 @@ def names_in(labels):
 
 
 def fields_of(code, head, word):
-    """Returns the fields of a line."""
     rest = head.end()
     if word == "rof" or word == "equ" and not names_in(head[1]):
         return {}
@@ -342,8 +340,7 @@ def line_of(path, lines, name, field):
 
 
 def line_written_out(lines, name):
-    """Returns the first line that has the text of an EQU line which is a comment in the adapted
-    text, or None."""
+    """Returns the first line with the text of an EQU line that became a comment, or None."""
     equ, texts = re.compile(rf"[; \t]*{name}\s*:?\s+(?i:equ)\b"), []
     if lines and lines[0].adapted:
         texts = lines[0].adapted.lines

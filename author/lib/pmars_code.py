@@ -80,8 +80,7 @@ class Instruction:
         return state
 
     def step(self, token, roots, state):
-        """Reads a token, given with the roots of its characters. Returns the next state, and where
-        to go on."""
+        """Reads a token and the roots of its characters. Returns the next state and column."""
         root = roots[0]
         if state == "modifier":
             return self.read_modifier(token, root), token.end
@@ -197,7 +196,6 @@ class Load:
             self.text.finder.end_over_org(self.org_codes)
 
     def add(self, instruction):
-        """Adds the line of an instruction."""
         numbers = [self.near_zero(instruction.value(operand))
                    for operand in (instruction.a, instruction.b)]
         self.text.finder.instruction(instruction)

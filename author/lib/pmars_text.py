@@ -107,7 +107,6 @@ class Chars:
         return taken
 
     def of_root(self, root):
-        """Returns the characters that have a root."""
         return "".join(char for char, its in zip(self.text, self.roots) if its == root)
 
 
@@ -122,8 +121,7 @@ class Block(NamedTuple):
 
 
 class Code(NamedTuple):
-    """An instruction or a pseudo-opcode as it came of a line: the line, its reading, and its
-    text."""
+    """An instruction or pseudo-opcode as it came of a line: the line, its reading and its text."""
 
     index: int
     reading: int
@@ -325,8 +323,7 @@ class PmarsText:
         return at + (source.text[at:at + 1] == ":"), State.LABELS
 
     def joined(self, source, token):
-        """Returns a name with the counters that `&` joins to it, where it ends, and the
-        counters."""
+        """Returns a name with the counters that `&` joins to it, where it ends, and these."""
         name, at, counters = token.text, token.end, []
         while source.text[at:at + 1] == "&" and source.text[at + 1:at + 2] in LETTERS:
             counter = token_at(source.text, at + 1)
@@ -421,7 +418,6 @@ class PmarsText:
         return State.BLOCK
 
     def read_copies(self, block, made):
-        """Reads the copies of a block."""
         self.blocks.append(block)
         self.finder.block(self, block)
         known, name = Name("counter"), block.counter and block.counter.name
@@ -436,7 +432,6 @@ class PmarsText:
         self.finder.block_ends(self, self.blocks.pop())
 
     def read_copy(self, made):
-        """Reads the lines of a copy."""
         while self.goes_on:
             if self.at + 1 == len(self.lines):
                 self.finder.missing_rof(self)

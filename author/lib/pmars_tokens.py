@@ -1,10 +1,12 @@
 """Reads the tokens of Redcode as pMARS 0.9.2 does."""
+import re, string
 from typing import NamedTuple
 
 BLANKS = " \t\n\v\f\r"
-LETTERS = frozenset("abcdefghijklmnopqrstuvwxyzABCDEFGHIJKLMNOPQRSTUVWXYZ")
-DIGITS = frozenset("0123456789")
-NAME_LETTERS = LETTERS | DIGITS | {"_"}
+LETTERS = frozenset(string.ascii_letters)
+# A token, which may have blanks before it.
+TOKEN = re.compile(rf"[{BLANKS}]*+(?:(?P<number>[0-9]+)|(?P<name>[A-Za-z_][A-Za-z0-9_]*)"
+                   r"|(?P<sign>&&|\|\|)|(?P<other>.))", re.DOTALL)
 MODES = "#$@<>*{}"
 SIGNS = "()/+-%!="
 OPCODES = ("MOV ADD SUB MUL DIV MOD JMZ JMN DJN CMP SLT SPL DAT JMP SEQ SNE NOP LDP STP "
@@ -30,33 +32,16 @@ class Token(NamedTuple):
     end: int
 
 
-def end_of(text, start, letters):
-    """Returns where the letters of a kind end that begin at `start`."""
-    end = start
-    while end < len(text) and text[end] in letters:
-        end += 1
-    return end
-
-
 def token_at(text, start):
     """Returns the first token of a text from `start` on."""
-    start = end_of(text, start, BLANKS)
-    if start == len(text):
-        return Token("", "", start, start)
-    first = text[start]
-    if first in DIGITS:
-        end, kind = end_of(text, start, DIGITS), "number"
-    elif first in LETTERS or first == "_":
-        end, kind = end_of(text, start, NAME_LETTERS), "name"
-    elif text[start:start + 2] in ("&&", "||"):
-        end, kind = start + 2, "sign"
-    else:
-        end, kind = start + 1, KIND_OF_SIGN.get(first, "other")
-    return Token(kind, text[start:end], start, end)
+    match = TOKEN.match(text, start)
+    if not match:
+        return Token("", "", len(text), len(text))
+    kind, token = match.lastgroup, match[match.lastgroup]
+    return Token(KIND_OF_SIGN.get(token, kind), token, *match.span(kind))
 
 
 def tokens_of(text, start=0):
-    """Yields the tokens of a text from `start` on."""
     while (token := token_at(text, start)).kind:
         yield token
         start = token.end

@@ -1,8 +1,8 @@
 """Evaluates expressions as pMARS 0.9.2 does, and writes them so that `cwtune` reads them alike."""
-import random
+import random, re
 from typing import NamedTuple
 
-from .pmars_tokens import BLANKS, DIGITS, LETTERS, end_of
+from .pmars_tokens import BLANKS, LETTERS
 
 # How tightly an operator binds, in pMARS and here.
 THERE = {"*": 5, "/": 5, "%": 5, "+": 4, "-": 4, **dict.fromkeys([">", "<", "==", "!=", ">=", "<="],
@@ -10,6 +10,8 @@ THERE = {"*": 5, "/": 5, "%": 5, "+": 4, "-": 4, **dict.fromkeys([">", "<", "=="
 HERE = {"||": 1, "&&": 2, "==": 3, "!=": 3, "<": 4, ">": 4, "<=": 4, ">=": 4, "+": 5, "-": 5,
         "*": 6, "/": 6, "%": 6}
 UNARY, OPERAND = 7, 8
+SKIPPED, DECIMAL = re.compile(f"[{BLANKS}]*"), re.compile("[0-9]+")
+OPERATOR = re.compile(r"&&|\|\||[<>=!]=|[-+*/%<>]")
 MOST_DECIMAL = 4294967295
 LONGEST_NUMBER = 19
 
@@ -87,7 +89,7 @@ class Parser:
         self.text, self.at = text, 0
 
     def skip(self):
-        self.at = end_of(self.text, self.at, BLANKS)
+        self.at = SKIPPED.match(self.text, self.at).end()
 
     def next(self):
         return self.text[self.at:self.at + 1]
@@ -109,9 +111,10 @@ class Parser:
             return Node("unary", (first, inner), start, inner.end)
         if first in LETTERS:
             return self.register(start)
-        self.at = end_of(self.text, start, DIGITS)
-        if self.at == start:
+        number = DECIMAL.match(self.text, start)
+        if not number:
             raise NoValue("no operand")
+        self.at = number.end()
         return Node("number", (), start, self.at)
 
     def register(self, start):
@@ -124,12 +127,10 @@ class Parser:
         return Node("register", (), start, start + 1)
 
     def operator(self):
-        """Reads an operator, if there is one."""
         self.skip()
-        for length in (2, 1):
-            if self.text[self.at:self.at + length] in HERE:
-                self.at += length
-                return self.text[self.at - length:self.at]
+        if operator := OPERATOR.match(self.text, self.at):
+            self.at = operator.end()
+            return operator[0]
         if self.next() in "=!|&":
             raise AnyValue(f"{self.next()} is no operator")
         raise NoValue("no operator")
@@ -197,8 +198,7 @@ class ParserHere(Parser):
 
 
 def number_at(text, node):
-    """Returns the number of a leaf, as `sscanf` of C reads it. pMARS has no room for a longer
-    one."""
+    """Returns the number of a leaf, as `sscanf` of C reads it. pMARS has no room for more."""
     if node.end - node.start > LONGEST_NUMBER:
         raise AnyValue(f"a number of more than {LONGEST_NUMBER} digits")
     return min(int(text[node.start:node.end]), (1 << 63) - 1)
@@ -221,8 +221,7 @@ class Registers(dict):
 
 
 def is_read_alike(text, node):
-    """Returns whether an expression of numbers has the same value here, whatever its numbers
-    are."""
+    """Returns whether an expression has the same value here, whatever its numbers are."""
     try:
         here = ParserHere(text).whole()
     except NoValue:
@@ -239,11 +238,6 @@ def same_values(node, other, dice):
     except NoValue:
         return True
     return values[0] == values[1]
-
-
-def tightness(node):
-    """Returns how tightly the operator of an expression binds here."""
-    return HERE.get(node.kind, UNARY if node.kind == "unary" else OPERAND)
 
 
 def written(node, leaf_text):
@@ -265,4 +259,5 @@ def written(node, leaf_text):
 def in_parentheses(node, least, leaf_text):
     """Returns an expression, in parentheses if it does not bind as tightly as it has to."""
     text = written(node, leaf_text)
-    return text if tightness(node) >= least else f"({text})"
+    tightness = HERE.get(node.kind, UNARY if node.kind == "unary" else OPERAND)
+    return text if tightness >= least else f"({text})"

@@ -28,8 +28,7 @@ def original_lines(args, template, setting):
 
 
 def edits_of(args, template, setting, adapted):
-    """Yields the edits of the original: the `Place` of each, how many characters go, and what is
-    put there."""
+    """Yields the edits of the original: the `Place`, how many characters go, and the new ones."""
     value_of, texts = template.values_by_name(setting), adapted.text.decode("latin-1").split("\n")
     lines = [line.decode("latin-1") for line in template.lines]
     own, _ = slots.author_lines(template.path, lines, value_of)

@@ -47,7 +47,6 @@ class Journal(list):
             raise self.fault(fault) from None
 
     def append(self, record):
-        """Adds a record, and writes it."""
         super().append(record)
         self.file.write(json.dumps(record, separators=(",", ":")).encode() + b"\n")
         self.file.flush()

@@ -6,8 +6,7 @@ SECOND_PARENT, CHANGED, REDRAWN = 0.3, 0.5, 0.3
 
 
 def spread_evenly(ranges, count, dice):
-    """Returns settings whose values, of each constant, are spread evenly over its range (a Latin
-    hypercube)."""
+    """Returns settings that spread each constant evenly over its range (a Latin hypercube)."""
     columns = []
     for values in ranges:
         column = [values[int((index + dice.random()) * len(values) / count)]

@@ -69,7 +69,6 @@ def finite(value, entry):
 
 
 def within(bound, value, entry):
-    """Returns a value that is within its bound."""
     if isinstance(bound, range):
         number = value if isinstance(value, int) else len(value)
         if number not in bound:

@@ -29,8 +29,7 @@ def scores_of(setting, cert, fights, template):
 
 
 def score_of(opponent, points, fights):
-    """Returns what a setting made against an opponent. `points` has the points of each fight that
-    it played."""
+    """Returns what a setting made against an opponent, by the points of its fights."""
     scheduled = [(index, fight.weight) for index, fight in enumerate(fights)
                  if fight.opponent == opponent]
     played = [(points[index], weight) for index, weight in scheduled if index in points]

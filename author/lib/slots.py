@@ -23,8 +23,7 @@ OPERATOR = re.compile(r"[-+/%=!&|]\s*$")
 
 
 class Slot(NamedTuple):
-    """A slot of a kept line: its constant, the texts of its list, none for a number, and its
-    characters."""
+    """A slot of a kept line: its constant, the texts of its list or none, and its characters."""
 
     name: str
     texts: tuple
@@ -67,8 +66,7 @@ def text_in(line, slot, text):
 
 
 def code_of_kept(line, names):
-    """Returns the lines of a template that are assembled in place of the author's line, which has
-    slots."""
+    """Returns the lines that are assembled in place of the author's line, which has slots."""
     end = "\r" if line.endswith("\r") else ""
     line = code_of(line).rstrip()
     slots = slots_of(line, names)

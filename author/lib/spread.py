@@ -167,8 +167,7 @@ def how_to_go_on(folder, progress):
 
 
 def refuse_missing(folder, progress, faults):
-    """If a piece has no result, ends: as its `cwtune` ended if that refused an input, else with
-    status 3."""
+    """Ends if a piece has no result: as its `cwtune` if that refused an input, else with 3."""
     missing = progress.numbers_left()
     if not missing:
         return
@@ -275,8 +274,7 @@ def print_start(args, whole):
 
 
 def tune(args, setting_count, notes):
-    """Tunes the template in parts, or puts together what the jobs of a cluster wrote. Returns the
-    status."""
+    """Tunes in parts, or puts together what the jobs of a cluster wrote. Returns the status."""
     if args.merge and args.merge > setting_count:
         raise Fault(f"--merge {args.merge}: the template has fewer than {args.merge} settings", 2)
     folder = (spread_parts.ClusterParts(args, setting_count) if args.merge

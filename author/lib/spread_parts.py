@@ -149,8 +149,7 @@ class ClusterParts:
         return fault_of_job(f"{cert}.fault", f"{cert}.report is cut, or not there")
 
     def whole(self):
-        """Returns where the certificate of the whole template is put together: a file that only
-        this run has."""
+        """Returns where the whole certificate is put together: a file that only this run has."""
         return pathlib.Path(f"{self.given_path}.whole.{os.getpid()}.new")
 
     def writing_whole(self):

@@ -12,8 +12,7 @@ MOST_CERT_BYTES = 1 << 30
 
 
 def best_of(parts):
-    """Returns the first of the parts with the greatest total, or None if no part has a best
-    setting."""
+    """Returns the first of the parts with the greatest total, or None if none has a best one."""
     return max((part for part in parts if part.has_best()), key=Part.total, default=None)
 
 
@@ -66,8 +65,7 @@ def row_of_whole(part, row):
 
 @contextlib.contextmanager
 def reading(folder, number):
-    """Gives a block the path of the certificate of a part, and names it in the faults of the
-    block."""
+    """Gives a block the path of the certificate of a part, and names it in its faults."""
     path = folder.cert(number)
     try:
         with naming(path):

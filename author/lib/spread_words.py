@@ -60,7 +60,6 @@ def add_search(parser):
 
 
 def add_check(parser):
-    """Adds the options of a check."""
     group = parser.add_argument_group("check")
     checks = group.add_mutually_exclusive_group()
     checks.add_argument("--check", action="store_true",

@@ -39,8 +39,7 @@ fight_count = number_from(1, MOST_FIGHTS)
 
 
 class Study:
-    """A study: its words, inputs and folder. Each stage of an exact tuning but the heats is a
-    method."""
+    """A study: its words, inputs and folder. A stage of an exact tuning is a method."""
 
     def __init__(self, args, inputs):
         self.args, self.inputs = args, inputs
@@ -147,7 +146,6 @@ class Study:
             arena.tell_estimate("the tuning and its check")
 
     def write_winner(self, setting, template):
-        """Writes the text of the winner."""
         is_adapted = self.inputs.original != self.inputs.warrior
         original = ["--original=original.red"] * is_adapted
         words = self.author_words("cwtune-warrior", *original, f"--setting={setting}", template)

@@ -47,8 +47,7 @@ class Scale(NamedTuple):
 
 
 class Axis(NamedTuple):
-    """The constant of a picture: its name, its values, and the list that these are indices of, or
-    None."""
+    """The constant of a picture: its name, its values, and the list of which they are indices."""
 
     name: str
     values: list
@@ -197,8 +196,7 @@ def y_scale_of(heights, bottom):
 
 
 def draw_line(axis, totals, start_index, winner_index):
-    """Draws totals over the values of one constant. The indices of START and of the winner may be
-    None."""
+    """Draws totals over the values of one constant. START and the winner may be None."""
     y_scale = y_scale_of(totals, 210)
     points = points_of(axis, y_scale, totals)
     elements = [*draw_axes(axis, y_scale), curve(points), *dots(points),
@@ -215,8 +213,7 @@ def legend_of_line(with_start):
 
 
 def draw_effect(number, effect, y_scale, winner_value, texts):
-    """Draws the mean totals of a constant's values with their errors. `number`, from 0,
-    makes its id."""
+    """Draws the mean totals of a constant's values with errors. `number` makes its id."""
     name, values, means, errors = (effect[key] for key in ("name", "values", "means", "errors"))
     axis = Axis(name, values, texts)
     points = points_of(axis, y_scale, means)

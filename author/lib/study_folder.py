@@ -207,7 +207,6 @@ class StudyFolder(OwnFolder):
 
 
 def result_schema(stage):
-    """Returns the schema of the result of a stage."""
     return next((schema for names, schema in RESULTS.items() if re.fullmatch(names, stage)), Any)
 
 

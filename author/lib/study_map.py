@@ -32,8 +32,7 @@ class Landscape(NamedTuple):
     lists: dict = {}
 
     def place(self, values):
-        """Returns the row and the column of the setting with these values, or None if it is not
-        here."""
+        """Returns row and column of the setting with these values, or None if it is not here."""
         try:
             indices = [whole.index(values[name]) for name, whole in zip(self.names, self.ranges)]
         except ValueError:
@@ -45,7 +44,6 @@ class Landscape(NamedTuple):
         return [total for row in self.totals for total in row if total is not None]
 
     def least_and_greatest(self):
-        """Returns the least and the greatest total."""
         totals = self.known_totals() or [0]
         return min(totals), max(totals)
 
@@ -171,8 +169,7 @@ def draw_squares(landscape, squares, titled):
 
 
 def draw_mark(squares, place, style):
-    """Returns a mark around a square, so that its number can be read, in a line of the page's
-    colour."""
+    """Returns a mark around a square, a line of the page's colour, so that it can be read."""
     (x, y), width, height = squares.corner(place), squares.width, squares.height
 
     def frame(room, frame_style):
@@ -232,8 +229,7 @@ def draw_map(landscape, start_place, winner_place, titled):
 
 
 def draw_landscape(landscape, start_values, winner_values, titled=True):
-    """Draws the totals of a box. Returns how many values of a constant became one, and the
-    picture."""
+    """Draws the totals of a box. Returns how many values became one, and the picture."""
     step, thin = thinned(landscape)
 
     def thin_place(values):

@@ -38,8 +38,7 @@ def with_error(value, error):
 
 
 def fresh_percent(fresh):
-    """Returns the percent of the points in fresh fights with its error, or a dash if there are
-    none."""
+    """Returns the percent of the points in fresh fights with its error, or a dash."""
     if fresh is None:
         return DASH
     return f"{decimal(fresh['percent'])}% ± {decimal(fresh['error'])}"

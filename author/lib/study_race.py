@@ -144,7 +144,6 @@ class RaceOfStudy:
         return {"best": best, "compared": compared, "points": points}
 
     def write_winner(self, winner):
-        """Writes the text of the winner."""
         self.folder.write("found.red", self.grid.line_through(winner, ()))
         self.study.write_winner("start", "found.red")
 

@@ -142,8 +142,7 @@ def comparison(report):
 
 
 def opponent_row(gain, sides):
-    """Returns the gain against one opponent, and the fresh fights of START and of the winner, as
-    cells."""
+    """Returns the gain against an opponent, and the fresh fights of both, as cells."""
     lost = " (lost)" if gain["words"] == "a loss" else ""
     signed = ("+" if gain["percent"] >= 0 else "") + with_error(gain["percent"], gain["error"])
     percents = (f"{decimal(side['percent'])}%" for side in sides)
@@ -250,7 +249,6 @@ def ranking_row(report, ranked, is_winner):
 
 
 def ranking(report):
-    """Returns the first of the ranking."""
     names, first = list(report["winner"]["values"]), report["ranking"]
     heads = ["rank", "setting", *map(escaped, names), "tuned total", "percent", "points", "fights"]
     marked = [index for index, ranked in enumerate(first)
@@ -289,8 +287,7 @@ def some_of(values):
 
 
 def constants_table(report):
-    """Returns the range of each constant, and its values in START, in the winner and in the
-    box."""
+    """Returns the range of each constant, and its values in START, winner and box."""
     heads = ["constant", "lowest", "highest", "step", "START", "winner", "values in the box"]
     rows = [constant_row(constant, lists_of(report).get(constant["name"]))
             for constant in report["constants"]]
@@ -298,8 +295,7 @@ def constants_table(report):
 
 
 def constant_row(constant, texts):
-    """Returns the range of a constant, as cells. `texts` is the list that it is an index of, or
-    None."""
+    """Returns the range of a constant, as cells. `texts` is its list, or None."""
     ends, players, box = ([texts[value] if texts else value for value in values] for values in (
         [constant["low"], constant["high"]], [constant["start"], constant["best"]],
         constant["box"]))

@@ -119,7 +119,6 @@ def ranking_of(box, points, study):
 
 
 def schedule_numbers(box):
-    """Returns the numbers of the schedule of a box."""
     return {"fights": len(box.fights), "greatest": box.fights.greatest}
 
 

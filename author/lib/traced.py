@@ -48,7 +48,6 @@ class Traced:
         return self[:start] + new + self[end:]
 
     def lines(self):
-        """Returns the lines of the text."""
         lines, start = [], 0
         for part in self.text.split("\n"):
             lines.append(self[start:start + len(part)])

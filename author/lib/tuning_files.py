@@ -99,8 +99,7 @@ class Template(Grid):
         return text
 
     def steps(self, setting):
-        """Returns for each constant the index of the setting's value in the range, the last
-        constant first."""
+        """Returns for each constant the index of the setting's value, the last constant first."""
         indices = []
         for values in reversed(self.ranges):
             setting, index = divmod(setting, len(values))
@@ -222,8 +221,7 @@ class AnyCertificate:
         return zip(self.listed[place], self.made[place])
 
     def points(self, setting):
-        """Returns the points that a setting made, a dict by fight, or None if it does not
-        assemble."""
+        """Returns the points of a setting, a dict by fight, or None if it does not assemble."""
         return dict(self.items(setting)) if self.assembles(setting) else None
 
     def plays_all(self, setting, fights):

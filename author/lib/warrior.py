@@ -32,8 +32,7 @@ MOST_LINE_BYTES = 255
 
 
 def equ_line(name, value):
-    """Returns an EQU line. A negative value is in parentheses, as the text may have a sign before
-    the name."""
+    """Returns an EQU line, with a negative value in parentheses, as a sign may come before it."""
     return f"{name} EQU {value}" if value >= 0 else f"{name} EQU ({value})"
 
 
@@ -47,8 +46,7 @@ def strategy_line(template, setting, totals):
 
 
 def text_of(text, template, setting, totals=(None, None)):
-    """Returns the author's text with the values of a setting. `text` is that of the template; both
-    are bytes."""
+    """Returns the author's text with the values of a setting, from the template's text."""
     value_of = template.values_by_name(setting)
     lines, _ = slots.author_lines(template.path, text.decode("latin-1").split("\n"), value_of)
     own = [slots.filled(line, slots.texts_of(of_line, value_of)) for line, of_line in lines]
@@ -137,8 +135,7 @@ def print_pmars_notes(text):
 
 
 def checked_text(args, template, setting, totals):
-    """Returns the author's text with the values of a setting. Refuses one that is another
-    warrior."""
+    """Returns the author's text with a setting's values. Refuses one of another warrior."""
     rules = rules_of(args).words()
     load_file = load_file_of(args.program, f"setting {setting}", *rules, f"--setting={setting}",
                              "--", template.path)

@@ -106,7 +106,7 @@ def add_opponents_of_tuning(parser):
 
 
 def program_at(word):
-    """Returns the path of the program that --program names: a file, or a name on the PATH."""
+    """Returns the path of a program that an option names: a file, or a name on the PATH."""
     return shutil.which(word) or word
 
 

@@ -13,7 +13,7 @@ from author.lib.regular import digest_of
 from author.lib.words import add_built, module_parser, number_from
 from gate.tally import LeftOut, compare, tally
 
-from .commands import SECONDS, command, in_folders, played
+from .commands import SECONDS, command, in_folder, in_folders, played
 from .spread_place import DECOY, SpreadPlace
 from .study_place import StudyPlace, texts
 
@@ -454,14 +454,9 @@ def main():
     program = program_of(args.program)
     all_trials = {"fuzz": fuzz(program, args.count)}
     if args.kills:
-        all_trials |= in_folders(lambda folder: StudyPlace(program, folder),
-                                 [all_kills_of_studies])
+        all_trials["kills"] = in_folder(lambda folder: StudyPlace(program, folder),
+                                        lambda place: kills_of_studies(place, 1))
     return tally(played(all_trials))
-
-
-def all_kills_of_studies(place):
-    """Kills a study at each of its places."""
-    yield from kills_of_studies(place, 1)
 
 
 if __name__ == "__main__":

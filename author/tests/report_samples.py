@@ -31,8 +31,7 @@ def box_of(sizes):
 
 
 def landscape_of(dice, box, best_values, best_total):
-    """Returns a landscape whose best setting has the greatest total. One setting does not
-    assemble."""
+    """Returns a landscape with the greatest total. One setting does not assemble."""
     names = list(box)[:2]
     ranges = [box[name] for name in names]
     place = [values.index(best_values[name]) for name, values in zip(names, ranges)]

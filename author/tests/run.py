@@ -103,8 +103,7 @@ def closed():
 
 
 def without_program():
-    """Runs commands of a release where no program is on the PATH. Yields names, and what was
-    wrong."""
+    """Runs commands of a release without a program. Yields names, and what was wrong."""
     with tempfile.TemporaryDirectory() as folder:
         shutil.copytree(AUTHOR, f"{folder}/author", ignore=shutil.ignore_patterns("tests"))
 

@@ -124,8 +124,7 @@ def kept_shares(place):
 
 
 def other_folders(place):
-    """Tries a folder in which another `cwtune-spread` is at work, and one with somebody else's
-    files."""
+    """Tries a folder in which another `cwtune-spread` is at work, and one of somebody else."""
     _, line = tune_decoy(place)
     (place.folder / "mine").mkdir()
     place.write("mine/precious.txt", b"mine\n")

@@ -151,8 +151,7 @@ def without_fights(result):
 
 
 def silent_stops(kills, kind, count):
-    """Returns which kills met a run that could say what is done of `count` parts or shares, and
-    did not."""
+    """Returns which kills met a run that could say what is done, and did not."""
     how_to_go_on = re.compile(rf"stopped: \d+ of {count} {kind} are done, and kept in CERT.{kind}: "
                               r"repeat the command to run the others\n")
     return [kill for kill in kills if kill.met_job() and kill.status != -signal.SIGKILL

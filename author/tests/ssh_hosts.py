@@ -176,5 +176,4 @@ class SshHosts:
                 for path in self.folder.glob("home-*/.parallel/tmp/*") if path.name != "sshlogin"]
 
     def kill(self, name):
-        """Kills a host."""
         kill_all(self.jobs[name].pid)

@@ -1,6 +1,5 @@
 """Gives the commands names, texts and files that a stranger chose, and looks what they leave."""
-import ast, contextlib, fcntl, os, pathlib, pty, re, signal, struct, subprocess, sys, tempfile
-import termios, time
+import ast, contextlib, fcntl, os, pathlib, pty, re, signal, struct, subprocess, sys, termios, time
 from unittest import mock
 
 from author.lib import regular, tuning_files, writing
@@ -314,7 +313,6 @@ def pids(place):
 
 
 def runs(pid):
-    """Returns whether a process runs."""
     with contextlib.suppress(OSError):
         return pathlib.Path(f"/proc/{pid}/stat").read_text().rpartition(")")[2].split()[0] != "Z"
     return False

@@ -51,7 +51,6 @@ class StudyPlace(play.Place):
         return [line for line, other in zip(lines, own) if line != other]
 
     def load_file(self, *words):
-        """Returns the load file of a text."""
         return self.run(["asm", "--core=80", "--length=5", "--distance=5", *words]).out
 
     def begin(self, *words):
@@ -59,7 +58,6 @@ class StudyPlace(play.Place):
                        stdout=subprocess.DEVNULL, stderr=subprocess.PIPE)
 
     def stages(self, name):
-        """Returns which stages are done."""
         text = self.read(f"{name}.study/study.json")
         return list(json.loads(text)["stages"]) if text else []
 

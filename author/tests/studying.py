@@ -215,8 +215,7 @@ def after_kills(place, words):
 
 
 def whole(place):
-    """Kills a study of a whole template after each stage, and compares what it makes with an
-    unbroken one."""
+    """Kills a study of a whole template after each stage, and compares it with an unbroken one."""
     place.study("p.red", "all")
     unbroken, log = place.read("p.study/report.json"), place.read("p.study/log.txt")
     shutil.rmtree(place.folder / "p.study")

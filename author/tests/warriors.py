@@ -220,8 +220,7 @@ def objects(place):
 
 
 def ranks(place):
-    """Plays fresh fights of a setting whose rank is exact, and of one that a dropped setting may
-    come before."""
+    """Plays fresh fights of an exact rank, and of one that a dropped setting may come before."""
     for name, text in [("t.red", ";@tune K 0 2 1 1\nJMP 1-K\n"), ("imp.red", "MOV 0, 1\n"),
                        ("s.csv", FIGHT + "0,4100,c\n0,4200,o\n")]:
         place.write(name, text)

@@ -303,7 +303,6 @@ class Tuning:
             yield [kind, v, "-" if rest in (None, "") else rest]
 
     def report(self):
-        """Returns the report of the search."""
         candidates = sum(kind != "refused" for kind, _ in self.rows.values())
         values = zip(self.names, self.settings[self.best])
         constants = " ".join(f"{name.decode()}={value}" for name, value in values) or "-"
