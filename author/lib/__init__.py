@@ -21,8 +21,8 @@ vary and warrior. Several commands use
 
 To adapt a text, pmars_tokens, pmars_values, pmars_text and pmars_code read it as pMARS does and make
 its load file. adapt_changes collects meanwhile what has to be written otherwise, expressions by
-adapt_values and CURLINE by adapt_counts. adapt_passes and adapt_blocks write it, in lines that know
-where they come from (traced), and pmars_program runs pMARS itself.
+adapt_values and CURLINE by adapt_counts. adapt_passes writes it, in lines that know where they come
+from (traced), and pmars_program runs pMARS itself.
 
 The words of `cwtune-vary` are read in openings.
 
