@@ -1,0 +1,2 @@
+-- The words of a command line name a command, or ask for help.
+pub mod CommandLine
