@@ -7,7 +7,14 @@ ghost use Rattle.command_words.specs.CommandLine.{MentionsHelp, is_help_word};
 const COMMANDS: [&str; 5] = ["fight", "asm", "settings", "tune", "check"];
 
 // The options of the rules, which take a value. All commands but `settings` have them.
-const RULES: [&str; 5] = ["--core", "--cycles", "--tasks", "--length", "--distance"];
+const RULES: [&str; 6] = [
+    "--hill",
+    "--core",
+    "--cycles",
+    "--tasks",
+    "--length",
+    "--distance",
+];
 
 // The other options that take a value, each with its command, as `clap_commands` makes them.
 const VALUED: [(&str, &str); 11] = [

@@ -10,6 +10,7 @@ mod clap_commands;
 mod command_line;
 mod command_word;
 mod help;
+mod hill_option;
 mod method_options;
 mod number_option;
 mod options;

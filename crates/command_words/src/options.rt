@@ -3,13 +3,13 @@ ghost use Rattle.std.specs.Prelude.{◌≡◌, IfOk};
 ghost use Rattle.std.specs.Option.{unwrap_or};
 
 use crate::aim_options::demand_of;
+use crate::hill_option::{hill_option, rules_on};
 use crate::number_option::{CORE, CYCLES, DISTANCE, LENGTH, POSITION, TASKS};
 use crate::part_word::part_of;
 use crate::setting_word::setting_of;
 use crate::share_word::share_of;
 use crate::usage_error::BadValue;
 use clap::{Arg, ArgAction, ArgMatches, Command};
-use rc_instr::Rules;
 use std::alloc::{AllocError, Global};
 use tune_cert::{Demand, Share};
 use tune_runs::{Part, RawRules, WhichSetting};
@@ -42,13 +42,14 @@ pub(crate) fn progress_option<'a>(alloc: Global) -> Arg<'a> {
         .help("Say once a minute how far the run is, if standard error is not a terminal")
 }
 
-// Adds the five options of the rules.
+// Adds the hill, and the five options of the rules.
 pub(crate) fn with_rules<'a>(
     alloc: Global,
     command: Command<'a>,
 ) -> Result<Command<'a>, AllocError> {
     command
         .next_help_heading("Rules")
+        .arg(hill_option(alloc))?
         .arg(CORE.arg(alloc))?
         .arg(CYCLES.arg(alloc))?
         .arg(TASKS.arg(alloc))?
@@ -66,33 +67,33 @@ struct GivenRules {
     distance: Option<u32>,
 }
 
-// Returns the rules that are given, with the standard rules as defaults.
-fn with_defaults(given: GivenRules) -> RawRules
-    ensures core { result.core ≡ unwrap_or given.core 8000 }
-    ensures cycles { result.cycles ≡ unwrap_or given.cycles 80000 }
-    ensures tasks { result.tasks ≡ unwrap_or given.tasks 8000 }
-    ensures length { result.length ≡ unwrap_or given.length 100 }
-    ensures distance { result.distance ≡ unwrap_or given.distance 100 }
+// Returns the rules that are given, with those of a hill as defaults.
+fn with_defaults(given: GivenRules, hill: RawRules) -> RawRules
+    ensures core { result.core ≡ unwrap_or given.core hill.core }
+    ensures cycles { result.cycles ≡ unwrap_or given.cycles hill.cycles }
+    ensures tasks { result.tasks ≡ unwrap_or given.tasks hill.tasks }
+    ensures length { result.length ≡ unwrap_or given.length hill.length }
+    ensures distance { result.distance ≡ unwrap_or given.distance hill.distance }
 {
-    let standard = Rules::standard();
     RawRules {
-        core: given.core.unwrap_or(standard.core()),
-        cycles: given.cycles.unwrap_or(standard.cycles()),
-        tasks: given.tasks.unwrap_or(standard.tasks()),
-        length: given.length.unwrap_or(standard.length()),
-        distance: given.distance.unwrap_or(standard.distance()),
+        core: given.core.unwrap_or(hill.core),
+        cycles: given.cycles.unwrap_or(hill.cycles),
+        tasks: given.tasks.unwrap_or(hill.tasks),
+        length: given.length.unwrap_or(hill.length),
+        distance: given.distance.unwrap_or(hill.distance),
     }
 }
 
 // Returns the rules of the options.
 fn raw_rules_of<'a>(matches: &ArgMatches<'a>) -> Result<RawRules, BadValue<'a>> {
-    Ok(with_defaults(GivenRules {
+    let given = GivenRules {
         core: CORE.value_in(matches)?,
         cycles: CYCLES.value_in(matches)?,
         tasks: TASKS.value_in(matches)?,
         length: LENGTH.value_in(matches)?,
         distance: DISTANCE.value_in(matches)?,
-    }))
+    };
+    Ok(with_defaults(given, rules_on(matches.get_str("hill"))))
 }
 
 // Returns the rules of a fight of two files, and the position.
