@@ -10,6 +10,7 @@ ghost use Rattle.command_runs.specs.Commands.{WritesReport, IsEnded};
 ghost use Rattle.command_words.specs.CommandLine.{aim_meant, method_meant};
 
 use crate::ending::Ending;
+use crate::files::cert_ending::{end_files, end_unopened, inputs_beside};
 use crate::files::cert_file::open_cert;
 use crate::host::Host;
 use crate::telling::witness::Witness;
@@ -40,15 +41,15 @@ pub(crate) fn tune<F: Files, T: Witness, W: Write, V: Write>(
     let files = host.read_tuning(words)?;
     let file = match open_cert(host.rt, host.alloc, words) {
         Ok(file) => file,
-        Err(unopened) => return Err(host.end_unopened(words.cert, &unopened)),
+        Err(unopened) => return Err(end_unopened(host, words.cert, &unopened)),
     };
-    let beside = host.inputs_beside(words, &file)?;
+    let beside = inputs_beside(host, words, &file)?;
     let mut cert = Outlet::new(file);
     let texts = files.texts(&rules, words.part);
     let method = method_meant(method);
     let aim = aim_meant(demand);
     let ended = tune_into(host, words, &texts, method, aim, out, &mut cert);
-    host.end_files(words, &texts, method, cert, beside);
+    end_files(host, words, &texts, method, cert, beside);
     ended
 }
 

@@ -1,32 +1,23 @@
 //! The file CERT of a tuning: a text that is not a certificate is not overwritten, and a regular
 //! file is replaced whole or not at all.
-ghost use Rattle.std.specs.Prelude.{◌≡◌, ◌↔◌, ◌≤◌, length, IfOk, IfSome, IsTrue, IsErrOf};
-ghost use Rattle.command_runs.specs.CertFile.{BeginsAsCert, names_twice};
+ghost use Rattle.std.specs.Prelude.{◌≡◌, ◌≤◌, length, IfOk, IsTrue, IsErrOf};
+ghost use Rattle.command_runs.specs.CertFile.{names_twice};
 
-use crate::files::beginning::begins_with;
 use crate::files::digest::{Digested, Digesting};
+use crate::files::guard::{Barred, Written, check_old};
 use crate::files::replacing::{Replacement, replacement_at};
-use crate::files::same_file::is_file_at;
 use command_words::TuneWords;
 use std::alloc::Global;
 use std::fs::{Metadata, OpenFile, OpenOptions};
-use std::io::{Read, Write};
+use std::io::Write;
 use std::os::unix::fs::MetadataExt;
 use std::rt::Files;
 use std::{fs, io};
 
-// The bytes with which a certificate begins.
-const BEGINNING: &[u8] = b"cwcert,";
-
 // Why CERT is not opened.
 #[derive(Drop)]
 pub(crate) enum NotOpened<'a> {
-    // It is the file of another word.
-    Named,
-    // It has a text that does not begin as a certificate does.
-    NotCert,
-    // It, or the file of another word, cannot be read.
-    Unread { name: &'a str, error: io::Error },
+    Barred(Barred<'a>),
     // It cannot be written or created.
     Uncreated(io::Error),
 }
@@ -156,12 +147,12 @@ impl<R: Files> Write for CertFile<R> {
 pub(crate) fn open_cert<'a, R: Files + Copy>(
     rt: R,
     alloc: Global,
-    words: &TuneWords<'a>,
+    words: &'a TuneWords<'_>,
 ) -> Result<CertFile<R>, NotOpened<'a>>
-    ensures named { IsTrue (names_twice words.now) → IsErrOf result NotOpened.Named }
+    ensures named { IsTrue (names_twice words.now) → IsErrOf result (NotOpened.Barred Barred.Named) }
 {
     if is_named_twice(words) {
-        return Err(NotOpened::Named);
+        return Err(NotOpened::Barred(Barred::Named));
     }
     open_other(rt, alloc, words)
 }
@@ -170,9 +161,11 @@ pub(crate) fn open_cert<'a, R: Files + Copy>(
 fn open_other<'a, R: Files + Copy>(
     rt: R,
     alloc: Global,
-    words: &TuneWords<'a>,
+    words: &'a TuneWords<'_>,
 ) -> Result<CertFile<R>, NotOpened<'a>> {
-    check_old(&rt, alloc, words)?;
+    if let Err(barred) = check_old(&rt, alloc, words, Written::Cert, words.cert) {
+        return Err(NotOpened::Barred(barred));
+    }
     match open_checked(rt, alloc, words.cert) {
         Ok(file) => Ok(file),
         Err(error) => Err(NotOpened::Uncreated(error)),
@@ -223,74 +216,4 @@ fn is_named_twice(words: &TuneWords<'_>) -> bool
     words.cert == words.template
         || words.cert == words.schedule
         || words.opponents.contains(&words.cert)
-}
-
-// Checks that CERT is no other word's file, and that it has no text, or one that begins as a
-// certificate does. A file that is not regular, such as a terminal, has no text to lose.
-fn check_old<'a, F: Files>(
-    rt: &F,
-    alloc: Global,
-    words: &TuneWords<'a>,
-) -> Result<(), NotOpened<'a>> {
-    let Ok(found) = fs::metadata(rt, words.cert) else {
-        return Ok(());
-    };
-    if !found.is_file() {
-        return Ok(());
-    }
-    if is_other_file(rt, words, &found)? {
-        return Err(NotOpened::Named);
-    }
-    if found.len() == 0 {
-        return Ok(());
-    }
-    match begins_as_cert_at(rt, alloc, words.cert) {
-        Ok(true) => Ok(()),
-        Ok(false) => Err(NotOpened::NotCert),
-        Err(error) => Err(unread(words.cert, error)),
-    }
-}
-
-fn unread<'a>(name: &'a str, error: io::Error) -> NotOpened<'a> {
-    NotOpened::Unread { name, error }
-}
-
-// Returns whether another word is a name of the file that was found under the word CERT.
-fn is_other_file<'a, F: Files>(
-    rt: &F,
-    words: &TuneWords<'a>,
-    found: &Metadata,
-) -> Result<bool, NotOpened<'a>> {
-    if is_name_of(rt, words.template, found)? || is_name_of(rt, words.schedule, found)? {
-        return Ok(true);
-    }
-    for name in words.opponents.as_slice() {
-        if is_name_of(rt, *name, found)? {
-            return Ok(true);
-        }
-    }
-    Ok(false)
-}
-
-fn is_name_of<'a, F: Files>(
-    rt: &F,
-    name: &'a str,
-    found: &Metadata,
-) -> Result<bool, NotOpened<'a>> {
-    match is_file_at(rt, name, found) {
-        Ok(is_same) => Ok(is_same),
-        Err(error) => Err(unread(name, error)),
-    }
-}
-
-fn begins_as_cert_at<F: Files>(rt: &F, alloc: Global, name: &str) -> io::Result<bool> {
-    let mut file = fs::open(rt, name)?;
-    begins_as_cert(alloc, &mut file)
-}
-
-// Returns whether the text of a reader begins as a certificate does.
-fn begins_as_cert<R: Read>(alloc: Global, input: &mut R) -> io::Result<bool>
-    ensures { IfOk result (λ yes. IfSome (R.remaining input.old) (λ text. IsTrue yes ↔ BeginsAsCert text)) }
-{
-    begins_with(alloc, input, BEGINNING)
 }

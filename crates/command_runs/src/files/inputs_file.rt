@@ -2,10 +2,8 @@
 //! folder that it ran in, and the size and the digest of each of its files. No result depends on
 //! it.
 
-use crate::files::beginning::begins_with;
 use crate::files::digest::Digested;
 use crate::files::replacing::replacement_at;
-use crate::files::same_file::is_file_at;
 use command_words::{TuneWords, VERSION};
 use std::alloc::{AllocError, Global};
 use std::fs::Metadata;
@@ -14,68 +12,12 @@ use std::rt::Files;
 use std::{fs, io};
 use tune_runs::{Method, TuneTexts};
 
-// The bytes with which the file begins.
-const BEGINNING: &[u8] = b"cwtune inputs";
-
 // Where Linux has a link to the folder that the program runs in.
 const HERE: &str = "/proc/self/cwd";
 
 // Returns the name of CERT.inputs. `cert` is the name of the certificate.
 pub(crate) fn name_beside(alloc: Global, cert: &str) -> Result<String, AllocError> {
     format!(in alloc; "{cert}.inputs")
-}
-
-// Why a tuning may not write the file.
-#[derive(Drop)]
-pub(crate) enum Barred {
-    // It is the file of a word.
-    Named,
-    // It has a text that does not begin with `BEGINNING`.
-    NotInputs,
-    // It cannot be read.
-    Unread(io::Error),
-}
-
-// Checks that no word names the file, and that it is empty or begins as a CERT.inputs does. What is
-// not a regular file is not written later either.
-pub(crate) fn check_old<F: Files>(
-    rt: &F,
-    alloc: Global,
-    words: &TuneWords<'_>,
-    name: &str,
-) -> Result<(), Barred> {
-    let Ok(found) = fs::metadata(rt, name) else {
-        return Ok(());
-    };
-    if !found.is_file() {
-        return Ok(());
-    }
-    if is_word(rt, words, &found) {
-        return Err(Barred::Named);
-    }
-    match begins_at(rt, alloc, name) {
-        Ok(begins) if begins || found.len() == 0 => Ok(()),
-        Ok(_) => Err(Barred::NotInputs),
-        Err(error) => Err(Barred::Unread(error)),
-    }
-}
-
-// Returns whether a word is a name of the file that was found. A word whose file cannot be looked
-// at is not: CERT need not be there yet.
-fn is_word<F: Files>(rt: &F, words: &TuneWords<'_>, found: &Metadata) -> bool {
-    let names = [words.template, words.schedule, words.cert];
-    let opponents = words.opponents.as_slice();
-    names
-        .iter()
-        .any(|name| is_file_at(rt, *name, found).unwrap_or(false))
-        || opponents
-            .iter()
-            .any(|name| is_file_at(rt, *name, found).unwrap_or(false))
-}
-
-fn begins_at<F: Files>(rt: &F, alloc: Global, name: &str) -> io::Result<bool> {
-    let mut file = fs::open(rt, name)?;
-    begins_with(alloc, &mut file, BEGINNING)
 }
 
 // What the text of the file is made from.

@@ -1,6 +1,5 @@
-//! Lines of faults: `refused: ` and the names of the fault from outside in, `failed: ` and what
-//! failed, or `error: CERT ` and why the file is not opened. `host` and `program` write the other
-//! lines `error: `.
+//! Lines of faults: `refused: ` and the names of the fault from outside in, or `failed: ` and what
+//! failed. `host`, `program` and `files` write the lines `error: `.
 //!
 //! A line is written in pieces and takes no memory, so that it can report that memory ran out. The
 //! names are those of the variants, so renaming a variant changes a line.
@@ -43,11 +42,6 @@ pub(crate) fn tell_text_fault<V: Write>(
 // Writes the line of a file: `failed: read NAME` or `failed: create NAME`.
 pub(crate) fn tell_file_fault<V: Write>(err: &mut Outlet<V>, action: &str, name: &str) {
     tell(err, &["failed: ", action, " ", name, "\n"]);
-}
-
-// Writes why the file CERT is not opened: `error: CERT`, the reason, and the file.
-pub(crate) fn tell_cert_fault<V: Write>(err: &mut Outlet<V>, reason: &str, name: &str) {
-    tell(err, &["error: CERT ", reason, " ", name, "\n"]);
 }
 
 // What `write!` writes to: each piece goes to `err` at once, so that none is kept in memory.
