@@ -18,7 +18,7 @@ STEPS = [EDITS, "author.tests.run", "gate.documents",
          "gate.runners", "release.try_release", "gate.refuse.two_devices", "gate.refuse.memory",
          "gate.refuse.writes", "gate.refuse.growth"]
 # Ends a step and its children after an hour, with a traceback of where it was. The edits are not
-# ended: a round of those of cwtune is one long check on one processor.
+# ended: a round of those of command_runs is one long check on one processor.
 WATCHED = ["timeout", "--signal=ABRT", "--kill-after=5", "3600", sys.executable, "-X",
            "faulthandler"]
 # With RT_JOBS set, `rt ci` gives each check one job, though processors are idle.

@@ -3,25 +3,17 @@
 #![tactic(auto)]
 
 ghost use Rattle.std.specs.Prelude.{◌≡◌, map, false, string_bytes, IsTrue};
-ghost use Rattle.cwtune.specs.Program.{IsProgramRun};
+ghost use Rattle.command_runs.specs.Program.{IsProgramRun};
 
-mod commands;
-mod ending;
-mod files;
-mod host;
-pub mod program;
 mod telling;
-mod words;
 
-use host::Host;
+use command_runs::{Host, program, tell};
+use command_words::{asks_for_fight, is_given};
 use rc_instr::Outlet;
 use std::io::{IsTerminal, Read, Write};
 use std::process::ExitCode;
 use std::{env, io};
 use telling::progress::{Progress, Style};
-use telling::tell;
-use words::command_word::asks_for_fight;
-use words::options::is_given;
 
 // Returns the words after the program's name.
 fn words_of(rt: &HostRuntime) -> io::Result<Vec<String>> {

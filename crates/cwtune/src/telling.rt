@@ -1,11 +1,9 @@
-//! Lines on standard error: of faults, of progress, and explanations, which are indented by two
-//! spaces. A write that fails ends them silently.
+//! Lines on standard error: of progress, and explanations, which are indented by two spaces. A write
+//! that fails ends them silently.
 //!
-//! `fault_line` has the line of a fault. `refusal` picks its explanation: `limits` says why the
-//! text is refused, `help_lines` what may have been meant.
+//! `refusal` picks the explanation of a fault: `limits` says why the text is refused, `help_lines`
+//! what may have been meant.
 
-pub(crate) mod fault_line;
-pub(crate) mod finding;
 pub(crate) mod help_lines;
 pub(crate) mod limits;
 pub(crate) mod line;
@@ -14,8 +12,8 @@ pub(crate) mod notes;
 pub(crate) mod progress;
 pub(crate) mod range_line;
 pub(crate) mod refusal;
-pub(crate) mod witness;
 
+use command_runs::{tell, tell_bytes};
 use itoa::Buffer;
 use rc_instr::Outlet;
 use std::alloc::Global;
@@ -28,20 +26,6 @@ const MOST_SHOWN: usize = 200;
 
 // The most bytes of a character of UTF-8 after its first.
 const MOST_FURTHER_BYTES: usize = 3;
-
-// Writes the parts of a line.
-pub(crate) fn tell<V: Write>(err: &mut Outlet<V>, parts: &[&str]) {
-    for part in parts {
-        tell_bytes(err, (*part).as_bytes());
-    }
-}
-
-// Writes bytes that need not be UTF-8.
-pub(crate) fn tell_bytes<V: Write>(err: &mut Outlet<V>, bytes: &[u8]) {
-    if !err.failed() {
-        let _ = err.write_all(bytes);
-    }
-}
 
 // Writes the explanation `WHAT MOST`, as in `indices of settings are 0 to 118`.
 pub(crate) fn tell_greatest<V: Write>(err: &mut Outlet<V>, what: &str, most: u64) {

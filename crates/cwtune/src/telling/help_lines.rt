@@ -2,7 +2,8 @@
 
 use crate::telling::line::{Line, bad_byte, line_of};
 use crate::telling::names_in::{Meaning, definition_of, like_name, range_of, unknown_name};
-use crate::telling::{tell, tell_bytes, tell_name};
+use crate::telling::tell_name;
+use command_runs::{tell, tell_bytes};
 use itoa::Buffer;
 use rc_asm::AsmKind;
 use rc_expand::ExpandKind;

@@ -3,10 +3,10 @@
 use crate::telling::help_lines::tell_help;
 use crate::telling::range_line::{tell_bad_range, tell_neighbours};
 use crate::telling::{
-    line_at, records_in, tell, tell_broken_limit, tell_fault, tell_greatest, tell_record,
-    tell_source,
+    line_at, records_in, tell_broken_limit, tell_fault, tell_greatest, tell_record, tell_source,
 };
-use crate::words::command_line::TuneWords;
+use command_runs::tell;
+use command_words::TuneWords;
 use itoa::Buffer;
 use mars_fight::{ScheduleFault, ScheduleFaultKind};
 use rc_asm::{AsmFault, AsmKind};

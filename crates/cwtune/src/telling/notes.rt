@@ -1,6 +1,7 @@
 //! Warnings: what has no effect in a template or a schedule.
 
-use crate::telling::{tell, tell_bytes, tell_source};
+use crate::telling::tell_source;
+use command_runs::{tell, tell_bytes};
 use itoa::Buffer;
 use mars_fight::Fight;
 use rc_instr::Outlet;

@@ -1,12 +1,11 @@
 //! Progress and explanations on standard error.
 ghost use Rattle.std.specs.Prelude.{◌≡◌, ◌<◌, ◌≤◌, ◌/◌, codes};
 
-use crate::telling::finding::Finding;
 use crate::telling::notes::{tell_idle, tell_lost_ranges, tell_template_notes, tell_unused};
-use crate::telling::refusal::{Refused, explain};
-use crate::telling::witness::Witness;
-use crate::telling::{tell, tell_error, tell_explanation};
-use crate::words::command_line::TuneWords;
+use crate::telling::refusal::explain;
+use crate::telling::{tell_error, tell_explanation};
+use command_runs::{Finding, Refused, Witness, tell};
+use command_words::TuneWords;
 use itoa::Buffer;
 use rc_instr::Outlet;
 use std::alloc::{AllocError, Global};

@@ -1,6 +1,6 @@
 //! What is wrong with a range line.
 
-use crate::telling::tell;
+use command_runs::tell;
 use itoa::Buffer;
 use rc_instr::Outlet;
 use rc_text::is_blank;

@@ -1,41 +1,15 @@
 //! Explains a refusal after its line: the line of text at fault, and why it is refused.
 
-use crate::telling::fault_line::tell_asm_names;
 use crate::telling::limits::{tell_asm, tell_positions, tell_rules, tell_schedule, tell_template};
-use crate::telling::{tell, tell_broken_limit, tell_greatest};
-use crate::words::command_line::{DuelWords, TuneWords};
+use crate::telling::{tell_broken_limit, tell_greatest};
+use command_runs::{Refused, tell, tell_asm_names};
+use command_words::{DuelWords, TuneWords};
 use rc_asm::AsmFault;
-use rc_instr::{Outlet, Rules};
+use rc_instr::Outlet;
 use std::alloc::Global;
 use std::io::Write;
 use tune_runs::{DuelTexts, RawRules, RunFault, TuneTexts};
 use tune_template::Template;
-
-// What was refused: the words of a run, and the texts that it has read.
-#[derive(Clone, Copy)]
-pub(crate) enum Refused<'a> {
-    Rules(RawRules),
-    // A Redcode text, or a setting of a template.
-    Warrior {
-        rules: &'a Rules,
-        file: &'a str,
-        text: &'a [u8],
-    },
-    Template {
-        file: &'a str,
-        text: &'a [u8],
-    },
-    // A fight of two texts.
-    Duel {
-        words: &'a DuelWords<'a>,
-        texts: &'a DuelTexts<'a>,
-    },
-    // A tuning, or a check.
-    Tuning {
-        words: &'a TuneWords<'a>,
-        texts: &'a TuneTexts<'a>,
-    },
-}
 
 // Writes what helps with a fault, if anything does. If no setting assembles, explains the fault of
 // `setting`, an index in the template.

@@ -1,0 +1,72 @@
+//! The option `--hill`: the rules of a hill, by its name.
+ghost use Rattle.std.specs.Prelude.{◌≡◌, IfSome, IsNone};
+ghost use Rattle.command_words.specs.Hills.{hill_rules, raw_rules};
+
+use clap::builder::ValueParser;
+use clap::{Arg, ArgAction};
+use rc_instr::Rules;
+use std::alloc::Global;
+use tune_runs::RawRules;
+
+// The names of the hills whose rules are within the limits.
+const NAMES: [&str; 4] = ["94nop", "tiny", "nano", "lp"];
+
+pub(crate) fn hill_option<'a>(alloc: Global) -> Arg<'a> {
+    Arg::new(alloc, "hill")
+        .long("hill")
+        .value_name("HILL")
+        .action(ArgAction::Set)
+        .value_parser(ValueParser::Names(&NAMES))
+        .help("Hill whose rules are the defaults of the other options [default: 94nop]")
+}
+
+// Returns the rules of a hill, which `clap` keeps to `NAMES`, or the standard rules without one.
+pub(crate) fn rules_on(hill: Option<&str>) -> RawRules
+    ensures standard { IsNone hill.entry → result ≡ raw_rules 8000 80000 8000 100 100 }
+    ensures named { IfSome hill.entry (λ name. result ≡ hill_rules name.now) }
+{
+    match hill {
+        Some(name) => rules_of_hill(name),
+        None => standard(),
+    }
+}
+
+fn rules_of_hill(name: &str) -> RawRules
+    ensures { result ≡ hill_rules name.now }
+{
+    if name == "tiny" {
+        return raw(800, 8000, 800, 20, 20);
+    }
+    if name == "nano" {
+        return raw(80, 800, 80, 5, 5);
+    }
+    if name == "lp" {
+        return raw(8000, 80000, 8, 200, 200);
+    }
+    standard()
+}
+
+fn raw(core: u32, cycles: u32, tasks: u32, length: u32, distance: u32) -> RawRules
+    ensures { result ≡ raw_rules core cycles tasks length distance }
+{
+    RawRules {
+        core,
+        cycles,
+        tasks,
+        length,
+        distance,
+    }
+}
+
+fn standard() -> RawRules
+    ensures { result ≡ raw_rules 8000 80000 8000 100 100 }
+{
+    let rules = Rules::standard();
+    raw(
+        rules.core(),
+        rules.cycles(),
+        rules.tasks(),
+        rules.length(),
+        rules.distance(),
+    )
+}
