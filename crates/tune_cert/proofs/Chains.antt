@@ -9,12 +9,7 @@ use Rattle.tune_problem.specs.declared.statement.Statement.{Statement}
 use Rattle.tune_cert.specs.Spelling.{count_of, answer_of, first_as, rows_from, statement_of, cert_by, cert_of_records, Returns}
 use Rattle.tune_cert.specs.declared.fault.ReadFault.{ReadFault}
 use Rattle.tune_cert.specs.declared.fault.ReadFault.TheVariants.{Malformed}
-
-same_Ok : {A E : Type 0} (x y : A) → ◌≡◌ {A = Result A E} (Ok x) (Ok y) → x ≡ y
-same_Ok x y e = cc
-
-same_Err : {A E : Type 0} (x y : E) → ◌≡◌ {A = Result A E} (Err x) (Err y) → x ≡ y
-same_Err x y e = cc
+use Rattle.tune_cert.proofs.Statements.{same_Ok, same_Err, after_answer}
 
 -- a fault of the first step is the fault of a chain, and its value is passed on
 faulted : {A B : Type 0} (r : Result A ℕ) (f : A → Result B ℕ) (e : ReadFault) → with_fault Malformed r ≡ Err e → with_fault Malformed (and_then f r) ≡ Err e
@@ -29,9 +24,6 @@ drop_two : (records : List Fields) → drop 1 (drop 1 records) ≡ drop 2 record
 drop_two [] = refl
 drop_two (a ∷ []) = refl
 drop_two (a ∷ b ∷ records) = refl
-
-abbrev after_answer : List Fields → ℕ × ℕ → Answer → Result Statement ℕ
-after_answer others count answer = rows_from 0 others >>= λ rows. Ok (record { version = count.0; count = count.1; answer = answer; rows = rows })
 
 abbrev after_count : Bool → List Fields → ℕ × ℕ → Result Statement ℕ
 after_count floors records count = first_as (answer_of floors) 1 (drop 1 records) >>= after_answer (drop 2 records) count

@@ -4,19 +4,14 @@ use Rattle.std.specs.List.{range_with_len, slice_get, list_all}
 use Rattle.std.specs.Prelude.{option_and_then}
 use Rattle.std.proofs.lemmas.Bool.{and_from, and_parts}
 use Rattle.tune_problem.specs.declared.cert.Row.{Row}
+use Rattle.tune_problem.proofs.CapRows.{above}
 use Rattle.tune_problem.proofs.Certificates.{some_is}
 use Rattle.tune_cert.specs.Checks.{reason_at, first_wrong, first_of, at_record, unless}
 use Rattle.tune_cert.specs.Spelling.{record_of}
 use Rattle.tune_cert.specs.declared.verdict.Reason.{Reason}
 use Rattle.tune_cert.specs.declared.verdict.Reason.TheVariants.{RowCount, BestRow, Version}
 
-pub split_or : (a v : ℕ) → a ≤ v → (v ≡ a) ⊎ (a + 1 ≤ v)
-split_or zero zero l = inl refl
-split_or zero (suc v) l = inr (omega arith)
-split_or (suc a) zero l = absurd (omega (arith, l))
-split_or (suc a) (suc v) l = elim (split_or a v (omega (arith, l))) [ inl e ↦ inl (ap suc e) | inr m ↦ inr (omega (arith, m)) ]
-
-both_none : {A : Type 0} (x y : Option A) → first_of (x ∷ y ∷ []) ≡ None → (x ≡ None) × (y ≡ None)
+pub both_none : {A : Type 0} (x y : Option A) → first_of (x ∷ y ∷ []) ≡ None → (x ≡ None) × (y ≡ None)
 both_none None None e = (refl, refl)
 both_none None (Some b) e = absurd (cc)
 both_none (Some a) y e = absurd (cc)
@@ -37,7 +32,7 @@ module _ (f : ℕ → Option Reason) where
   none_each zero a e v low high = absurd (omega (arith, low, high))
   none_each (suc n) a e v low high =
       let parts = both_none _ _ e in
-      elim (split_or a v low) [
+      elim (above a v low) [
         | inl same ↦ ap f same ∙ no_record _ _ parts.0
         | inr more ↦ none_each n (a + 1) parts.1 v more (omega (arith, high))
       ]
@@ -82,7 +77,7 @@ module _ (f : ℕ → Option Reason) where
         high = omega (arith, high);
         index_is = i.index_is;
         wrong = i.wrong;
-        before = λ u l m. elim (split_or a u l) [ inl same ↦ ap f same ∙ is | inr more ↦ i.before u more m ];
+        before = λ u l m. elim (above a u l) [ inl same ↦ ap f same ∙ is | inr more ↦ i.before u more m ];
       }
     where
       only : (o : Option (ℕ × Reason)) → first_of (None ∷ o ∷ []) ≡ Some (index, reason) → o ≡ Some (index, reason)
@@ -94,9 +89,6 @@ module _ (f : ℕ → Option Reason) where
   found (suc n) a index reason e = step n a index reason (f a) refl e (found n (a + 1) index reason)
 
 -- the rows are checked twice: the second time for those that refer to others
-pub two_walks_none : {A : Type 0} (x y : Option A) → first_of (x ∷ y ∷ []) ≡ None → (x ≡ None) × (y ≡ None)
-two_walks_none x y e = both_none x y e
-
 pub two_walks_some : {A : Type 0} (x y : Option A) (z : A) → first_of (x ∷ y ∷ []) ≡ Some z → (x ≡ Some z) ⊎ ((x ≡ None) × (y ≡ Some z))
 two_walks_some (Some a) y z e = inl e
 two_walks_some None (Some b) z e = inr (refl, e)
@@ -155,7 +147,7 @@ pub all_each : (f : ℕ → Bool) (n a : ℕ) → list_all f (range_with_len a n
 all_each f zero a e k low high = absurd (omega (arith, low, high))
 all_each f (suc n) a e k low high =
     let parts = and_parts _ _ e in
-    elim (split_or a k low) [
+    elim (above a k low) [
       | inl same ↦ ap f same ∙ parts.0
       | inr more ↦ all_each f n (a + 1) parts.1 k more (omega (arith, high))
     ]

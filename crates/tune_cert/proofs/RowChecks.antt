@@ -9,7 +9,7 @@ use Rattle.tune_problem.specs.Problem.{Problem}
 use Rattle.tune_problem.specs.Optimum.{all_fights}
 use Rattle.tune_problem.specs.Valid.{listed_indices, IsCapRow}
 use Rattle.tune_problem.specs.Exact.{lists_all}
-use Rattle.tune_problem.proofs.ListedRanks.{up_to}
+use Rattle.tune_problem.proofs.ListedRanks.{up_to, lists_range}
 use Rattle.tune_cert.specs.Checks.{rises, are_fights, have_points}
 
 -- ---- a cap row rises and has its points
@@ -64,20 +64,11 @@ indices_are n a (suc m) (e ∷ row) is h =
     let parts = and_parts _ _ h in
     ap (λ k. k ∷ listed_indices row) (eqb-true e.0 a parts.0) ∙ ap (λ ks. a ∷ ks) (indices_are n (a + 1) m row (omega arith) parts.1)
 
-are_indices : (n a m : ℕ) (row : List (ℕ × ℕ)) → n ≡ a + m → listed_indices row ≡ range_with_len a m → lists_all n a row ≡ true
-are_indices n a zero [] is h = eq-eqb a n (omega arith)
-are_indices n a zero (e ∷ row) is h = absurd (cc)
-are_indices n a (suc m) [] is h = absurd (cc)
-are_indices n a (suc m) (e ∷ row) is h =
-    let here : e.0 ≡ a = cc in
-    let rest : listed_indices row ≡ range_with_len (a + 1) m = cc in
-    and_from _ _ (eq-eqb e.0 a here) (are_indices n (a + 1) m row (omega arith) rest)
-
 pub all_indices : (p : Problem) (row : List (ℕ × ℕ)) → lists_all p.fights 0 row ≡ true → listed_indices row ≡ all_fights p
 all_indices p row h = indices_are p.fights 0 p.fights row (omega arith) h
 
 pub indices_all : (p : Problem) (row : List (ℕ × ℕ)) → listed_indices row ≡ all_fights p → lists_all p.fights 0 row ≡ true
-indices_all p row h = are_indices p.fights 0 p.fights row (omega arith) h
+indices_all p row h = lists_range p.fights 0 p.fights row (omega arith) h
 
 pub all_listed : (p : Problem) (row : List (ℕ × ℕ)) → listed_indices row ≡ all_fights p → length row ≡ p.fights
 all_listed p row h = sym (length-map row (λ e. e.0)) ∙ (ap length h ∙ length-range_with_len 0 p.fights)

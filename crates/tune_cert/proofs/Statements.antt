@@ -19,14 +19,14 @@ use Rattle.tune_cert.proofs.Forms.{count_spelled, count_read, best_spelled, answ
 
 -- ---- steps
 
-same_Ok : {A E : Type 0} (x y : A) → ◌≡◌ {A = Result A E} (Ok x) (Ok y) → x ≡ y
+pub same_Ok : {A E : Type 0} (x y : A) → ◌≡◌ {A = Result A E} (Ok x) (Ok y) → x ≡ y
 same_Ok x y e = cc
 
-same_Err : {A E : Type 0} (x y : E) → ◌≡◌ {A = Result A E} (Err x) (Err y) → x ≡ y
+pub same_Err : {A E : Type 0} (x y : E) → ◌≡◌ {A = Result A E} (Err x) (Err y) → x ≡ y
 same_Err x y e = cc
 
 -- a chain with a fault has it from its first step or from what follows
-stopped : {A B E : Type 0} (r : Result A E) (f : A → Result B E) (d : E) → and_then f r ≡ Err d → (r ≡ Err d) ⊎ ((x : A) × (r ≡ Ok x) × (f x ≡ Err d))
+pub stopped : {A B E : Type 0} (r : Result A E) (f : A → Result B E) (d : E) → and_then f r ≡ Err d → (r ≡ Err d) ⊎ ((x : A) × (r ≡ Ok x) × (f x ≡ Err d))
 stopped (Ok x) f d e = inr (x, refl, e)
 stopped (Err c) f d e = inl (ap Err (same_Err c d e))
 
@@ -39,7 +39,7 @@ none_of (Some y) n m e = absurd (cc)
 none_of None n m e = (refl, sym (same_Err n m e))
 
 -- what follows the first record, and what follows the second
-abbrev after_answer : List Fields → ℕ × ℕ → Answer → Result Statement ℕ
+abbrev pub after_answer : List Fields → ℕ × ℕ → Answer → Result Statement ℕ
 after_answer records first answer = rows_from 0 records >>= λ rows. Ok (record { version = first.0; count = first.1; answer = answer; rows = rows })
 
 -- ---- rows

@@ -27,7 +27,7 @@ use Rattle.tune_cert.specs.declared.verdict.Reason.{Reason}
 use Rattle.tune_problem.proofs.ListedRanks.{listed_is_cap}
 use Rattle.tune_cert.proofs.RowChecks.{cap_row_rises, cap_row_points, points_fights, all_indices, indices_all, all_listed}
 use Rattle.tune_cert.proofs.RightRows.{IsRightFor, not_false, right_if_none, none_if_right, no_aim}
-use Rattle.tune_cert.proofs.FirstWrong.{none_each, each_none, two_walks_none, reason_here, here_reason, chain, chain_none, all_each, each_all}
+use Rattle.tune_cert.proofs.FirstWrong.{none_each, each_none, both_none, reason_here, here_reason, chain, chain_none, all_each, each_all}
 use Rattle.std.proofs.Common.{inl, inr}
 
 -- ---- the checks before the rows
@@ -122,7 +122,7 @@ module _ (p : Problem) (share : Part) (s : Statement) (aim : Option Aim) where
   pub rows_each : rows_failure p s aim (share_settings share p.count) ≡ None → RowsRight
   rows_each e v row low high at =
       let inside : v < part_first share p.count + (part_end share p.count - part_first share p.count) = omega (arith, low, high) in
-      let parts = two_walks_none _ _ e in
+      let parts = both_none _ _ e in
       let alone = none_each (reason_at (alone_reason p s aim) s.rows) (part_end share p.count - part_first share p.count) (part_first share p.count) parts.0 v low inside in
       let same = none_each (reason_at (same_reason p s aim) s.rows) (part_end share p.count - part_first share p.count) (part_first share p.count) parts.1 v low inside in
       split_row p s aim v row (reason_here (alone_reason p s aim) s.rows v row None at alone) (reason_here (same_reason p s aim) s.rows v row None at same)

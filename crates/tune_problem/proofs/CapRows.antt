@@ -12,7 +12,7 @@ use Rattle.mars_fight.specs.Play.{ArePoints}
 pub few_points : (x : ℕ) → ArePoints x → x ≤ 3
 few_points x h = elim h [ inl a ↦ omega arith | inr b ↦ elim b [ inl c ↦ omega arith | inr d ↦ omega arith ] ]
 
-above : (a b : ℕ) → a ≤ b → (b ≡ a) ⊎ (a + 1 ≤ b)
+pub above : (a b : ℕ) → a ≤ b → (b ≡ a) ⊎ (a + 1 ≤ b)
 above a b h = elim (leb_tells b a) [ inl p ↦ inl (omega arith) | inr p ↦ inr (omega arith) ]
 
 cons_score : (p : Problem) (w : WarriorView) (k : ℕ) (ks : List ℕ) → sum_by (score_of p w) (k ∷ ks) ≡ score_of p w k + sum_by (score_of p w) ks

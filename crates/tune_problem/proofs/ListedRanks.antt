@@ -1,7 +1,8 @@
 -- The ranking that the rows of a valid certificate list.
 use Rattle.std.proofs.Common.{◌≡◌, ℕ, zero, suc, ◌+◌, ◌<◌, ◌≤◌, arith, Bool, true, false, cond, List, [], ◌∷◌, Option, Some, None, length, refl, sym, ◌∙◌, ap, ◌⊎◌, inl, inr, subst}
 use Rattle.std.specs.Prelude.{option_and_then}
-use Rattle.std.proofs.lemmas.Bool.{and_parts, cases_lt, eqb-true}
+use Rattle.std.specs.List.{range_with_len}
+use Rattle.std.proofs.lemmas.Bool.{and_from, and_parts, cases_lt, eqb-true, eq-eqb}
 use Rattle.rc_instr.specs.Warrior.{WarriorView}
 use Rattle.tune_problem.specs.Problem.{Problem, IsProblem}
 use Rattle.tune_problem.specs.Optimum.{total_of, cap_of, most_besides}
@@ -22,6 +23,16 @@ pub up_to : (n a : ℕ) (row : List (ℕ × ℕ)) → lists_all n a row ≡ true
 up_to n a [] h = omega (arith, eqb-true a n h)
 up_to n a (e ∷ row) h = omega (arith, up_to n (a + 1) row (and_parts _ _ h).1)
 
+-- fights with all indices in order are all fights
+pub lists_range : (n a m : ℕ) (row : List (ℕ × ℕ)) → n ≡ a + m → listed_indices row ≡ range_with_len a m → lists_all n a row ≡ true
+lists_range n a zero [] is h = eq-eqb a n (omega arith)
+lists_range n a zero (e ∷ row) is h = absurd (cc)
+lists_range n a (suc m) [] is h = absurd (cc)
+lists_range n a (suc m) (e ∷ row) is h =
+    let here : e.0 ≡ a = cc in
+    let more : listed_indices row ≡ range_with_len (a + 1) m = cc in
+    and_from _ _ (eq-eqb e.0 a here) (lists_range n (a + 1) m row (omega arith) more)
+
 -- the cap by the points that a cap row lists
 pub listed_is_cap : (p : Problem) (w : WarriorView) (row : List (ℕ × ℕ)) → IsCapRow p w 0 row → listed_cap p row ≡ cap_of p w (listed_indices row)
 unfolding cap_of
@@ -32,15 +43,15 @@ shown_if : (b : Bool) (x t : ℕ) → cond b (Some x) None ≡ Some t → (b ≡
 shown_if true x t e = (refl, some_is x t e)
 shown_if false x t e = absurd (cc)
 
-shown_by : (p : Problem) (fights : List (ℕ × ℕ)) → lists_all p.fights 0 fights ≡ true → shown_total p fights ≡ Some (listed_total p fights)
+pub shown_by : (p : Problem) (fights : List (ℕ × ℕ)) → lists_all p.fights 0 fights ≡ true → shown_total p fights ≡ Some (listed_total p fights)
 shown_by p fights e = ap (λ b. cond b (Some (listed_total p fights)) None) e
 
 -- one below k + 1 is below k, or is k
-cases_last : (v k : ℕ) → v < suc k → (v < k) ⊎ (v ≡ k)
+pub cases_last : (v k : ℕ) → v < suc k → (v < k) ⊎ (v ≡ k)
 cases_last v k l = elim (cases_lt v k) [ inl less ↦ inl less | inr more ↦ inr (omega (arith, l, more)) ]
 
 -- the same settings, said otherwise
-same_settings : (p : Problem) (aim : Aim) (among later : ℕ → Type 0) (xs : List Best) → ((v : ℕ) → among v → later v) → ((v : ℕ) → later v → among v)
+pub same_settings : (p : Problem) (aim : Aim) (among later : ℕ → Type 0) (xs : List Best) → ((v : ℕ) → among v → later v) → ((v : ℕ) → later v → among v)
     → IsRanking p aim among xs → IsRanking p aim later xs
 same_settings p aim among later xs on back h = record {
   few = h.few;

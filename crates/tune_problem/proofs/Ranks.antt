@@ -1,6 +1,7 @@
 -- Rankings: what contends, and what one more setting changes.
 use Rattle.std.proofs.Common.{◌≡◌, ◌≢◌, ℕ, zero, suc, ◌-◌, ◌<◌, ◌≤◌, arith, Bool, true, false, ◌&&◌, cond, nat_le, List, [], ◌∷◌, Option, Some, None, length, take, refl, sym, ◌∙◌, ap, ◌⊎◌, inl, inr, subst, ◌++◌, drop, get_or}
 use Rattle.std.specs.List.{AllByRecursion, slice_get}
+use Rattle.std.proofs.lemmas.Bool.{and_parts}
 use Rattle.std.proofs.lemmas.Bool.Decides.{nat_tests}
 use Rattle.std.proofs.lemmas.List.{length-take}
 use Rattle.rc_instr.specs.Warrior.{WarriorView}
@@ -12,10 +13,6 @@ use Rattle.tune_problem.specs.declared.watcher.Best.{Best}
 use Rattle.tune_problem.proofs.Certificates.{not_beats, some_is}
 
 -- what contends, and what does not
-pub both : (a b : Bool) → a && b ≡ true → (a ≡ true) × (b ≡ true)
-both true b h = (refl, h)
-both false b h = absurd (cc)
-
 pub either : (a b : Bool) → a && b ≡ false → (a ≡ false) ⊎ (b ≡ false)
 either true b h = inr h
 either false b h = inl refl
@@ -25,10 +22,10 @@ not_right true b h = h
 not_right false b h = refl
 
 pub reaching : (aim : Aim) (c v : ℕ) (ranking : List Best) → contends aim c v ranking ≡ true → aim.floor ≤ c
-reaching aim c v ranking h = let reach : nat_le aim.floor c ≡ true = (both _ _ h).0 in grind (arith, nat_tests)
+reaching aim c v ranking h = let reach : nat_le aim.floor c ≡ true = (and_parts _ _ h).0 in grind (arith, nat_tests)
 
 pub beating : (aim : Aim) (c v : ℕ) (ranking : List Best) → contends aim c v ranking ≡ true → beats_lead c v (last_kept aim ranking) ≡ true
-beating aim c v ranking h = (both (nat_le aim.floor c) _ h).1
+beating aim c v ranking h = (and_parts (nat_le aim.floor c) _ h).1
 
 pub contending : (aim : Aim) (c v : ℕ) (ranking : List Best) → aim.floor ≤ c → beats_lead c v (last_kept aim ranking) ≡ true → contends aim c v ranking ≡ true
 contending aim c v ranking le h = let reach : nat_le aim.floor c ≡ true = grind (arith, nat_tests) in ap (λ b. b && beats_lead c v (last_kept aim ranking)) reach ∙ h

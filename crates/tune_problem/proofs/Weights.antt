@@ -1,17 +1,14 @@
 -- The weights of the fights of a schedule.
-use Rattle.std.proofs.Common.{◌≡◌, ℕ, suc, ◌+◌, ◌*◌, ◌<◌, arith, List, [], ◌∷◌, length, get_or, Some, refl, sym, ◌∙◌, ap, subst, inl, inr}
+use Rattle.std.proofs.Common.{◌≡◌, ℕ, suc, ◌+◌, ◌*◌, ◌<◌, arith, List, [], ◌∷◌, length, get_or, Some, refl, sym, ◌∙◌, ap, subst}
 use Rattle.std.specs.List.{sum_by, range_with_len, slice_get}
 use Rattle.std.proofs.lemmas.List.Sums.{sum_by-cons}
-use Rattle.std.proofs.lemmas.Option.{slice_get-get_or, slice_get_cases}
+use Rattle.std.proofs.lemmas.Option.{slice_get-get_or}
 use Rattle.mars_fight.specs.declared.fight.Fight.{Fight}
 use Rattle.mars_fight.specs.Listed.{IsPlain, greatest_total}
 use Rattle.tune_problem.specs.Inputs.{InputsView}
 use Rattle.tune_problem.specs.Problem.{CountsOnce, weight_at, fight_weight, problem_of}
 use Rattle.tune_problem.specs.Optimum.{greatest_of}
-
--- there is a fight at an index inside
-slice_get_some : (xs : List Fight) (k : ℕ) → k < length xs → (x : Fight) × (slice_get xs k ≡ Some x)
-slice_get_some xs k l = elim (slice_get_cases xs k).1 [ inl a ↦ (a.0, a.2) | inr b ↦ absurd (omega (arith, b.0)) ]
+use Rattle.tune_problem.proofs.Certificates.{slice_get_some}
 
 -- the most that the last fights of a schedule can give, from fight a on
 most_from : (schedule rest : List Fight) (a : ℕ) → ((j : ℕ) → slice_get schedule (a + j) ≡ slice_get rest j)

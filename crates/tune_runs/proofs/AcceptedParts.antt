@@ -8,7 +8,6 @@ use Rattle.tune_template.specs.Instances.{setting_count}
 use Rattle.tune_problem.specs.Parts.{whole}
 use Rattle.tune_problem.specs.Inputs.{InputsView}
 use Rattle.tune_problem.specs.Problem.{Problem, IsProblem, problem_of}
-use Rattle.tune_problem.specs.Optimum.{IsBest}
 use Rattle.tune_problem.specs.Below.{AllBelow, cert_with}
 use Rattle.tune_problem.specs.BestPart.{in_part, IsOutcome, AllStayBelow, IsBestPart}
 use Rattle.tune_problem.specs.declared.statement.Answer.{Answer}
@@ -72,10 +71,7 @@ accepted_is t i parts n bytes o m (demand, (j, ranking, mean, accepted)) =
 
 shown_is : (t : Texts) (i : InputsView) (parts n : ℕ) (bytes : List ℕ) (o : Answer) → Means (of_part t n parts) (in_part i n parts) → IsShown (of_part t n parts) bytes o
     → IsOutcome (problem_of (in_part i n parts)) o
-shown_is t i parts n bytes (TheBest best) m (inl (j, mean, right)) =
-    let same : j ≡ in_part i n parts = one_meaning (of_part t n parts) j (in_part i n parts) mean m in
-    subst (λ x. IsBest (problem_of x) best) same right.optimum
-shown_is t i parts n bytes (TheBest best) m (inr h) = accepted_is t i parts n bytes (TheBest best) m h
+shown_is t i parts n bytes (TheBest best) m h = accepted_is t i parts n bytes (TheBest best) m h
 shown_is t i parts n bytes (NoneFrom floor) m (inl h) = accepted_is t i parts n bytes (NoneFrom floor) m h
 shown_is t i parts n bytes (NoneFrom floor) m (inr (j, mean, none)) =
     let same : j ≡ in_part i n parts = one_meaning (of_part t n parts) j (in_part i n parts) mean m in
@@ -83,8 +79,7 @@ shown_is t i parts n bytes (NoneFrom floor) m (inr (j, mean, none)) =
 
 -- whatever is shown of texts, they mean inputs
 shown_means : (t : Texts) (bytes : List ℕ) (o : Answer) → IsShown t bytes o → (i : InputsView) × Means t i
-shown_means t bytes (TheBest best) (inl h) = (h.0, h.1)
-shown_means t bytes (TheBest best) (inr h) = (h.1.0, h.1.2)
+shown_means t bytes (TheBest best) h = (h.1.0, h.1.2)
 shown_means t bytes (NoneFrom floor) (inl h) = (h.1.0, h.1.2)
 shown_means t bytes (NoneFrom floor) (inr h) = (h.0, h.1)
 

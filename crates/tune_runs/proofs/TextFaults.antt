@@ -16,16 +16,12 @@ use Rattle.tune_template.specs.Instances.{TemplateView, setting_count, template_
 use Rattle.tune_problem.specs.Limits.{MOST_OPPONENTS}
 use Rattle.tune_problem.specs.declared.part.Part.{Part}
 use Rattle.tune_cert.specs.declared.demand.Demand.{Demand}
+use Rattle.tune_cert.proofs.Statements.{stopped}
 use Rattle.tune_runs.specs.Runs.{opponent_fault, template_fault, schedule_fault}
 use Rattle.tune_runs.specs.TuneRun.{Texts, opponents_from, is_part, is_text_fault, meaning_of}
 use Rattle.tune_runs.specs.CheckRun.{check_output}
 use Rattle.tune_runs.specs.declared.fault.RunFault.{RunFault}
 use Rattle.tune_runs.specs.declared.fault.RunFault.TheVariants.{TooManyOpponents, Part as BadPart}
-
--- a chain with a fault has it in its first step, or after a value
-pub went_wrong : {A B E : Type 0} (r : Result A E) (f : A → Result B E) (e : E) → and_then f r ≡ Err e → (r ≡ Err e) ⊎ ((x : A) × (r ≡ Ok x) × (f x ≡ Err e))
-went_wrong (Ok x) f e h = inr (x, refl, h)
-went_wrong (Err q) f e h = let same : q ≡ e = cc in inl (ap Err same)
 
 of_template : (line : ℕ) (kind : TemplateKind) → is_text_fault (template_fault (record { line = line; kind = kind })) ≡ true
 of_template line template.BadLine = refl
@@ -67,9 +63,9 @@ wraps wrap (Err f) e each h = let same : wrap f ≡ e = cc in subst (λ q. is_te
 
 of_opponents : (rules : RulesView) (index : ℕ) (texts : List (List ℕ)) (e : RunFault) → opponents_from rules index texts ≡ Err e → is_text_fault e ≡ true
 of_opponents rules index [] e h = absurd (cc)
-of_opponents rules index (text ∷ texts) e h = elim (went_wrong (with_fault (opponent_fault index) (outcome_of text [] rules)) _ e h) [
+of_opponents rules index (text ∷ texts) e h = elim (stopped (with_fault (opponent_fault index) (outcome_of text [] rules)) _ e h) [
   | inl one ↦ wraps (opponent_fault index) (outcome_of text [] rules) e (λ f. of_opponent index f.line f.kind) one
-  | inr more ↦ elim (went_wrong (opponents_from rules (index + 1) texts) _ e more.2) [
+  | inr more ↦ elim (stopped (opponents_from rules (index + 1) texts) _ e more.2) [
     | inl others ↦ of_opponents rules (index + 1) texts e others
     | inr none ↦ absurd (let q = none.2 in cc)
   ]
@@ -92,15 +88,15 @@ no_part false e h = (refl, cc)
 
 pub text_fault : (t : Texts) (e : RunFault) → meaning_of t ≡ Err e → (is_text_fault e ≡ true) ⊎ HasNoPart t e
 unfolding meaning_of
-text_fault t e h = elim (went_wrong (check (nat_le (length t.opponents) MOST_OPPONENTS) TooManyOpponents) _ e h) [
+text_fault t e h = elim (stopped (check (nat_le (length t.opponents) MOST_OPPONENTS) TooManyOpponents) _ e h) [
   | inl a ↦ inl (too_many _ e a)
-  | inr n ↦ elim (went_wrong (with_fault template_fault (template_of t.template)) _ e n.2) [
+  | inr n ↦ elim (stopped (with_fault template_fault (template_of t.template)) _ e n.2) [
     | inl a ↦ inl (wraps template_fault (template_of t.template) e (λ f. of_template f.line f.kind) a)
-    | inr x ↦ elim (went_wrong (opponents_from t.rules 0 t.opponents) _ e x.2) [
+    | inr x ↦ elim (stopped (opponents_from t.rules 0 t.opponents) _ e x.2) [
       | inl a ↦ inl (of_opponents t.rules 0 t.opponents e a)
-      | inr o ↦ elim (went_wrong (with_fault schedule_fault (schedule_of t.rules (length t.opponents) t.schedule)) _ e o.2) [
+      | inr o ↦ elim (stopped (with_fault schedule_fault (schedule_of t.rules (length t.opponents) t.schedule)) _ e o.2) [
         | inl a ↦ inl (wraps schedule_fault (schedule_of t.rules (length t.opponents) t.schedule) e (λ f. of_schedule f.row f.kind) a)
-        | inr s ↦ elim (went_wrong (check (is_part t.part (setting_count x.0)) BadPart) _ e s.2) [
+        | inr s ↦ elim (stopped (check (is_part t.part (setting_count x.0)) BadPart) _ e s.2) [
           | inl a ↦
               let p = no_part _ e a in
               inr (record { is = p.1; template = x.0; means = ok_of template_fault (template_of t.template) x.0 x.1; missing = p.0 })
@@ -114,4 +110,4 @@ text_fault t e h = elim (went_wrong (check (nat_le (length t.opponents) MOST_OPP
 -- a check has no fault but that of its texts
 pub of_texts : (t : Texts) (demand : Demand) (share : Option Part) (cert : List ℕ) (e : RunFault) → check_output t demand share cert ≡ Err e → meaning_of t ≡ Err e
 unfolding check_output
-of_texts t demand share cert e h = elim (went_wrong (meaning_of t) _ e h) [ inl meant ↦ meant | inr none ↦ absurd (let q = none.2 in cc) ]
+of_texts t demand share cert e h = elim (stopped (meaning_of t) _ e h) [ inl meant ↦ meant | inr none ↦ absurd (let q = none.2 in cc) ]

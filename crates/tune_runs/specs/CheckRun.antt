@@ -118,5 +118,5 @@ IsAccepted t cert answer = (demand : Demand) × AcceptsFor t demand cert answer
 -- An answer of a tuning is shown if a check accepts these bytes with it. That none reaches a floor
 -- is also shown if no setting assembles.
 abbrev pub IsShown : Texts → List ℕ → Answer → Type 0
-IsShown t cert (TheBest best) = Accepts t cert best.vector best.total ⊎ IsAccepted t cert (TheBest best)
+IsShown t cert (TheBest best) = IsAccepted t cert (TheBest best)
 IsShown t cert (NoneFrom floor) = IsAccepted t cert (NoneFrom floor) ⊎ HasNoCandidate t

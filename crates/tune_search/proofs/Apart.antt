@@ -19,7 +19,7 @@ use Rattle.tune_search.specs.Found.{fought_count, is_cap, is_copied, was_fought}
 use Rattle.tune_search.proofs.Leads.{by_then}
 use Rattle.tune_search.proofs.VisitOrder.{before_below, before_visited, visited_below, visited_early, visited_late, visited_before}
 use Rattle.tune_search.proofs.Ranges.{sum_more}
-use Rattle.tune_search.proofs.Unique.{recent_one}
+use Rattle.tune_search.proofs.Unique.{none_of, recent_one}
 use Rattle.tune_search.specs.declared.method.Method.{Method}
 
 abbrev pub bit : Bool → ℕ
@@ -112,10 +112,6 @@ module _ (p : Problem) (aim : Aim) (method : Method) (f : Findings) (s : IsSearc
   never_both : (b : Bool) → b ≡ true → b ≡ false → ⊥
   never_both b t e = let q : true ≡ false = sym t ∙ e in cc
 
-  none_at : (w : WarriorView) (u : ℕ) (front back : List ℕ) → NoneHas p w (front ++ u ∷ back) → p.warrior u ≢ Some w
-  none_at w u [] back h = h.0
-  none_at w u (x ∷ front) back h = none_at w u front back h.1
-
   none_back : (w : WarriorView) (u : ℕ) (front back : List ℕ) → NoneHas p w (u ∷ (front ++ back)) → NoneHas p w (front ++ u ∷ back)
   none_back w u [] back h = h
   none_back w u (x ∷ front) back h = (h.1.0, none_back w u front back (h.0, h.1.1))
@@ -149,7 +145,7 @@ module _ (p : Problem) (aim : Aim) (method : Method) (f : Findings) (s : IsSearc
         ];
       }
   step k v (Some x) old us less at l is recent (inl m) i = elim (goes k v x old at l is recent) [
-    | inl g ↦ absurd (none_at x m.0 m.1.front m.1.back (subst (NoneHas p x) m.1.split g.0) m.1.alike)
+    | inl g ↦ absurd (none_of p x m.0 m.1.front m.1.back (subst (NoneHas p x) m.1.split g.0) m.1.alike)
     | inr g ↦
         let long : length us ≡ length old =
         ap length m.2 ∙ ap suc (length-append m.1.front m.1.back) ∙ sym (ap length m.1.split ∙ length-append m.1.front (m.0 ∷ m.1.back) ∙ (let q : length m.1.front + suc (length m.1.back) ≡ suc (length m.1.front + length m.1.back) = omega arith in q)) in
@@ -162,7 +158,7 @@ module _ (p : Problem) (aim : Aim) (method : Method) (f : Findings) (s : IsSearc
         }
   ]
   step k v (Some x) old us less at l is recent (inr m) i = elim (goes k v x old at l is recent) [
-    | inr g ↦ absurd (none_at x g.0 g.1.front g.1.back (subst (NoneHas p x) g.1.split m.0) g.1.alike)
+    | inr g ↦ absurd (none_of p x g.0 g.1.front g.1.back (subst (NoneHas p x) g.1.split m.0) g.1.alike)
     | inl g ↦
         let next : among test p.start (suc k) ≡ among test p.start k + 1 = ap (λ n. among test p.start k + bit (test n)) (sym at) ∙ ap (λ b. among test p.start k + bit b) g.1 in
         let long = i.as_many in

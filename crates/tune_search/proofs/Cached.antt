@@ -17,6 +17,14 @@ cut : {X : Type 0} (n : ℕ) (x : X) (xs : List X) → 0 < n → x ∷ take (n -
 cut zero x xs room = absurd (omega arith)
 cut (suc n) x xs room = let e : suc n - 1 ≡ n = omega arith in ap (λ m. x ∷ take m xs) e
 
+-- a value that is not there has no entry
+no_entry : {K V : Type 0} (test : K → Bool) (es : List (K × V)) → lookup test es ≡ None → lookup_entry test es ≡ None
+no_entry test [] h = refl
+no_entry test (e ∷ es) h = (elim (test e.0) as (λ b. cond b (Some e.1) (lookup test es) ≡ None → cond b (Some e) (lookup_entry test es) ≡ None) [
+  | true ↦ λ t. absurd (cc)
+  | false ↦ λ t. no_entry test es t
+]) h
+
 module _ {K L V : Type 0} (see : K → L) where
   abbrev pub seen : K × V → L × V
   seen e = (see e.0, e.1)
@@ -59,33 +67,18 @@ module _ {K L V : Type 0} (see : K → L) where
     promoted_seen es =
         front es (lookup_entry test es) ∙ ap (λ o. option_map_or (λ e. e ∷ remove_entry seen_test (map seen es)) o (map seen es)) (entry_seen es)
 
-    -- a value that is not there has no entry
-    absent : (es : List (K × V)) → lookup test es ≡ None → lookup_entry test es ≡ None
-    absent [] h = refl
-    absent (e ∷ es) h = (elim (test e.0) as (λ b. cond b (Some e.1) (lookup test es) ≡ None → cond b (Some e) (lookup_entry test es) ≡ None) [
-      | true ↦ λ t. absurd (cc)
-      | false ↦ λ t. absent es t
-    ]) h
-
   -- `put` of a key that is not there
   pub put_seen : (eq : K → K → Bool) (c : LruCache K V) (k : K) (v : V) (seen_test : L → Bool) → ((j : K) → eq k j ≡ seen_test (see j)) →
       lookup seen_test (map seen c.entries) ≡ None → 0 < c.cap → map seen (put_entries eq c k v) ≡ take c.cap ((see k, v) ∷ map seen c.entries)
   put_seen eq c k v seen_test same none room =
-      let no : lookup_entry (eq k) c.entries ≡ None = absent (eq k) seen_test same c.entries (lookup_seen (eq k) seen_test same c.entries ∙ none) in
+      let no : lookup_entry (eq k) c.entries ≡ None = no_entry (eq k) c.entries (lookup_seen (eq k) seen_test same c.entries ∙ none) in
       ap (λ o. map seen (option_map_or (λ e. (e.0, v) ∷ remove_entry (eq k) c.entries) o ((k, v) ∷ take (c.cap - 1) c.entries))) no
       ∙ ap (λ l. seen (k, v) ∷ l) (sym (take-map seen (c.cap - 1) c.entries)) ∙ cut c.cap (see k, v) (map seen c.entries) room
 
 module _ {K V : Type 0} (test : K → Bool) where
-  no_entry : (es : List (K × V)) → lookup test es ≡ None → lookup_entry test es ≡ None
-  no_entry [] h = refl
-  no_entry (e ∷ es) h = (elim (test e.0) as (λ b. cond b (Some e.1) (lookup test es) ≡ None → cond b (Some e) (lookup_entry test es) ≡ None) [
-    | true ↦ λ t. absurd (cc)
-    | false ↦ λ t. no_entry es t
-  ]) h
-
   -- a look-up that finds nothing leaves the entries as they are
   pub promoted_none : (es : List (K × V)) → lookup test es ≡ None → promoted test es ≡ es
-  promoted_none es h = ap (λ o. option_map_or (λ e. e ∷ remove_entry test es) o es) (no_entry es h)
+  promoted_none es h = ap (λ o. option_map_or (λ e. e ∷ remove_entry test es) o es) (no_entry test es h)
 
   value_is : (es : List (K × V)) → lookup test es ≡ option_map (λ e. e.1) (lookup_entry test es)
   value_is [] = refl

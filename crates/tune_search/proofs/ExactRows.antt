@@ -15,7 +15,7 @@ use Rattle.tune_problem.specs.declared.cert.Row.{Row}
 use Rattle.tune_problem.specs.declared.watcher.Best.{Best}
 use Rattle.tune_problem.proofs.CapRows.{row_total, whole}
 use Rattle.tune_problem.proofs.Certificates.{some_is}
-use Rattle.tune_problem.proofs.ListedRanks.{listed_is_cap, up_to}
+use Rattle.tune_problem.proofs.ListedRanks.{listed_is_cap, up_to, lists_range, shown_by}
 use Rattle.tune_search.specs.Visits.{IsFought, visits_before, ranking_after}
 use Rattle.tune_search.specs.Sharing.{HasRowOf}
 use Rattle.tune_search.specs.Findings.{IsCertified, IsFull, IsSearchFor}
@@ -29,15 +29,6 @@ use Rattle.tune_search.proofs.ShownRanks.{ShownBelow, listed_ranks}
 
 -- ---- a row of all fights
 
-lists_range : (n a m : ℕ) (row : List (ℕ × ℕ)) → n ≡ a + m → listed_indices row ≡ range_with_len a m → lists_all n a row ≡ true
-lists_range n a zero [] is h = eq-eqb a n (omega arith)
-lists_range n a zero (e ∷ row) is h = absurd (cc)
-lists_range n a (suc m) [] is h = absurd (cc)
-lists_range n a (suc m) (e ∷ row) is h =
-    let here : e.0 ≡ a = cc in
-    let more : listed_indices row ≡ range_with_len (a + 1) m = cc in
-    and_from _ _ (eq-eqb e.0 a here) (lists_range n (a + 1) m row (omega arith) more)
-
 -- a cap row of as many fights as there are lists all of them
 lists_every : (p : Problem) → IsProblem p → (w : WarriorView) (row : List (ℕ × ℕ)) → IsCapRow p w 0 row → length row ≡ p.fights → lists_all p.fights 0 row ≡ true
 lists_every p laws w row h many = lists_range p.fights 0 p.fights row (omega arith) (whole p laws w p.fights 0 row (omega arith) h many)
@@ -45,9 +36,6 @@ lists_every p laws w row h many = lists_range p.fights 0 p.fights row (omega ari
 shown_if : (b : Bool) (x t : ℕ) → cond b (Some x) None ≡ Some t → b ≡ true
 shown_if true x t e = refl
 shown_if false x t e = absurd (cc)
-
-shown_by : (p : Problem) (fights : List (ℕ × ℕ)) → lists_all p.fights 0 fights ≡ true → shown_total p fights ≡ Some (listed_total p fights)
-shown_by p fights e = ap (λ b. cond b (Some (listed_total p fights)) None) e
 
 -- a setting for which fights are listed has a row
 has_row : (rows : List Row) (v : ℕ) (fights : List (ℕ × ℕ)) → listed_at rows v ≡ Some fights → v < length rows

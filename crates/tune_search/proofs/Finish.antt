@@ -22,13 +22,14 @@ use Rattle.tune_search.specs.Found.{IsSearch, IsWorkOf, is_cap, is_copied}
 use Rattle.tune_problem.specs.Below.{IsRowBelow, cert_with}
 use Rattle.tune_search.specs.Findings.{IsBestFrom, IsCertified, IsSearchFor, found_of}
 use Rattle.tune_search.specs.declared.findings.Findings.{Findings}
-use Rattle.tune_search.specs.State.{HasCopied, IsUnderWay, IsWhole, Progress, is_filled}
+use Rattle.tune_search.specs.State.{HasCopied, IsUnderWay, IsWhole, is_filled}
 use Rattle.tune_problem.specs.declared.watcher.Best.{Best}
 use Rattle.tune_search.proofs.Rankings.{ranking_is, visited_behind, of_all}
 use Rattle.tune_search.proofs.FoughtCaps.{fought_row, own_cases, start_cases}
 use Rattle.tune_search.proofs.Cached.{none_is}
 use Rattle.tune_search.proofs.VisitOrder.{lesser, before_below}
 use Rattle.tune_problem.specs.declared.aim.Aim.{Aim}
+use Rattle.tune_search.specs.declared.fought.Fought.{Fought}
 use Rattle.tune_search.specs.declared.method.Method.{Method}
 use Rattle.tune_problem.specs.Ranking.{contends, IsAim, best_alone, first_of}
 use Rattle.tune_problem.proofs.Ranks.{all_map, Beaten, beaten_later, behind_first}
@@ -237,9 +238,11 @@ blank_length : (n : ℕ) → length (replicate n Refused) ≡ n
 blank_length zero = refl
 blank_length (suc n) = ap suc (blank_length n)
 
-pub starts : (p : Problem) (rules : RulesView) (aim : Aim) (method : Method) → IsUnderWay p rules aim method 0 (record { rows = replicate p.count Refused; ranking = []; order = all_fights p; fights = 0; candidates = 0; copied = None; known = [] })
+pub starts : (p : Problem) (rules : RulesView) (aim : Aim) (method : Method) (version : ℕ) → IsOwnVersion p version →
+    IsUnderWay p rules aim method 0 (record { version = version; ranking = []; rows = replicate p.count Refused; fights = 0; candidates = 0; copied = None }) (all_fights p) []
 unfolding listed_fights ranking_after
-starts p rules aim method = record {
+starts p rules aim method version own = record {
+  version_is = own;
   rows_are = blank_length p.count;
   ranking_is = refl;
   whole = tt;
@@ -268,76 +271,73 @@ own_row (Some u) v b h e = let same : u ≡ v = cc in grind (arith, nat_tests, h
 
 -- after the last
 module _ (p : Problem) (laws : IsProblem p) (start : p.start < p.count) (rules : RulesView) (aim : Aim) (is_aim : IsAim aim) (method : Method)
-    (g : Progress) (s : IsUnderWay p rules aim method p.count g) where
-  all_told : (v : ℕ) → v < p.count → IsExplained p aim method g.rows g.copied v (p.warrior v)
+    (f : Findings) (order : List ℕ) (known : List (List ℕ × Fought)) (s : IsUnderWay p rules aim method p.count f order known) where
+  all_told : (v : ℕ) → v < p.count → IsExplained p aim method f.rows f.copied v (p.warrior v)
   all_told v l = s.explained v l (before_below p.start p.count v start l)
 
-  told_refused : (v : ℕ) (o : Option WarriorView) → o ≡ None → IsExplained p aim method g.rows g.copied v o → slice_get g.rows v ≡ Some Refused
+  told_refused : (v : ℕ) (o : Option WarriorView) → o ≡ None → IsExplained p aim method f.rows f.copied v o → slice_get f.rows v ≡ Some Refused
   told_refused v None e h = h.1
   told_refused v (Some w) e h = absurd (cc)
 
-  told_copied : (v : ℕ) (o : Option WarriorView) → g.copied ≡ Some v → IsExplained p aim method g.rows g.copied v o → o ≢ None
+  told_copied : (v : ℕ) (o : Option WarriorView) → f.copied ≡ Some v → IsExplained p aim method f.rows f.copied v o → o ≢ None
   told_copied v None is h = λ e. h.0 is
   told_copied v (Some w) is h = λ e. cc
 
-  inside_copied : (v : ℕ) (o : Option ℕ) → o ≡ Some v → HasCopied p p.count (first_of g.ranking) o → v < p.count
+  inside_copied : (v : ℕ) (o : Option ℕ) → o ≡ Some v → HasCopied p p.count (first_of f.ranking) o → v < p.count
   inside_copied v None e h = absurd (cc)
   inside_copied v (Some u) e h = let same : u ≡ v = cc in subst (λ (n : ℕ). n < p.count) same h.0
 
-  shares_no_cap : (u v : ℕ) (b : Bool) (list : List (ℕ × ℕ)) → g.copied ≢ Some v → slice_get g.rows v ≡ Some (Cap list) → HasRowOf g.rows g.copied u v b → ⊥
+  shares_no_cap : (u v : ℕ) (b : Bool) (list : List (ℕ × ℕ)) → f.copied ≢ Some v → slice_get f.rows v ≡ Some (Cap list) → HasRowOf f.rows f.copied u v b → ⊥
   shares_no_cap u v true list other at h = other h.0
   shares_no_cap u v false list other at h = let e : Some (Cap list) ≡ Some (Same u) = sym at ∙ h.1 in absurd (cc)
 
-  told_fought : (v : ℕ) (w : WarriorView) (list : List (ℕ × ℕ)) → g.copied ≢ Some v → slice_get g.rows v ≡ Some (Cap list) → IsVisited p aim method g.rows g.copied v w → IsFought p aim method g.rows v w
+  told_fought : (v : ℕ) (w : WarriorView) (list : List (ℕ × ℕ)) → f.copied ≢ Some v → slice_get f.rows v ≡ Some (Cap list) → IsVisited p aim method f.rows f.copied v w → IsFought p aim method f.rows v w
   told_fought v w list other at h = elim h.row [
     | inl h ↦ h.2
     | inr h ↦ absurd (shares_no_cap h.0 v _ list other at h.2.row)
   ]
 
-  told_shared : (v : ℕ) (w : WarriorView) → v < p.count → p.warrior v ≡ Some w → IsVisited p aim method g.rows g.copied v w
-  told_shared v w l is = subst (λ (o : Option WarriorView). IsExplained p aim method g.rows g.copied v o) is (all_told v l)
+  told_shared : (v : ℕ) (w : WarriorView) → v < p.count → p.warrior v ≡ Some w → IsVisited p aim method f.rows f.copied v w
+  told_shared v w l is = subst (λ (o : Option WarriorView). IsExplained p aim method f.rows f.copied v o) is (all_told v l)
 
-  pub finds_none : g.candidates ≡ 0 → (v : ℕ) → v < p.count → IsCandidate p v → ⊥
+  pub finds_none : f.candidates ≡ 0 → (v : ℕ) → v < p.count → IsCandidate p v → ⊥
   unfolding candidates_of
   finds_none e v l (w, is) =
-      let none : count_by (λ u. is_some (p.warrior u)) (range_with_len 0 p.count) ≡ 0 = sym (filled_candidates p aim method g.rows g.copied s.rows_are all_told) ∙ sym s.count ∙ e in
+      let none : count_by (λ u. is_some (p.warrior u)) (range_with_len 0 p.count) ≡ 0 = sym (filled_candidates p aim method f.rows f.copied s.rows_are all_told) ∙ sym s.count ∙ e in
       let at : 0 + v ≡ v = omega arith in
       let refused : p.warrior v ≡ None = none_is (p.warrior v) (ap (λ u. is_some (p.warrior u)) (sym at) ∙ none_passes (λ u. is_some (p.warrior u)) 0 p.count v none l) in
       absurd (cc)
 
-  abbrev found_with : (version : ℕ) → Findings
-  found_with version = record { version = version; ranking = g.ranking; rows = g.rows; fights = g.fights; candidates = g.candidates; copied = g.copied }
-
   -- the rows and the counts are those of the method
-  worked : (version : ℕ) → IsOwnVersion p version → p.count ≤ MOST_SETTINGS → IsWorkOf p aim method (found_with version)
-  worked version own few =
-      let all : length g.rows ≡ p.count = s.rows_are in
+  worked : p.count ≤ MOST_SETTINGS → IsWorkOf p aim method f
+  worked few =
+      let all : length f.rows ≡ p.count = s.rows_are in
       record {
-        version = own;
-        count = s.count ∙ filled_candidates p aim method g.rows g.copied s.rows_are all_told;
+        version = s.version_is;
+        count = s.count ∙ filled_candidates p aim method f.rows f.copied s.rows_are all_told;
         few = omega (arith, all, few);
         refused = λ v i none. told_refused v (p.warrior v) none (all_told v i);
         fought = λ v w i is own.
-            let list = cap_listed (slice_get g.rows v) _ own in
-            told_fought v w list.0 (own_row g.copied v _ own) list.1 (told_shared v w i is);
+            let list = cap_listed (slice_get f.rows v) _ own in
+            told_fought v w list.0 (own_row f.copied v _ own) list.1 (told_shared v w i is);
         shared = told_shared;
         copied = λ v is.
-            let i : v < p.count = inside_copied v g.copied is s.copied_is in
+            let i : v < p.count = inside_copied v f.copied is s.copied_is in
             (i, told_copied v (p.warrior v) is (all_told v i));
         fights = s.fights;
       }
 
   -- what was found is what a search promises
-  pub finds : (version : ℕ) → IsOwnVersion p version → p.count ≤ MOST_SETTINGS → IsSearchFor p aim method (found_with version)
-  finds version own few =
-      let right_ranking : IsRankingBy p aim p.count g.ranking = is_ranking p laws start aim is_aim g.rows g.ranking s.ranking_is in
+  pub finds : p.count ≤ MOST_SETTINGS → IsSearchFor p aim method f
+  finds few =
+      let right_ranking : IsRankingBy p aim p.count f.ranking = is_ranking p laws start aim is_aim f.rows f.ranking s.ranking_is in
       record {
-        ranking = of_all p aim is_aim start g.ranking right_ranking;
+        ranking = of_all p aim is_aim start f.ranking right_ranking;
         full = s.full;
-        best = best_from p start aim is_aim g.ranking right_ranking;
-        certified = certified p laws aim version (own_version p version own) g.rows s.rows_are g.ranking right_ranking
-            (shown p laws start aim is_aim g.rows g.ranking s.ranking_is method g.copied s.rows_are all_told) s.whole;
-        work = worked version own few;
+        best = best_from p start aim is_aim f.ranking right_ranking;
+        certified = certified p laws aim f.version (own_version p f.version s.version_is) f.rows s.rows_are f.ranking right_ranking
+            (shown p laws start aim is_aim f.rows f.ranking s.ranking_is method f.copied s.rows_are all_told) s.whole;
+        work = worked few;
       }
 
 -- without a floor

@@ -1,6 +1,5 @@
 -- The ranking that rows list, if each total that they show is that of its setting.
 use Rattle.std.proofs.Common.{◌≡◌, ℕ, zero, suc, ◌<◌, ◌≤◌, arith, List, Option, Some, None, length, refl, sym, ◌∙◌, ap, ◌⊎◌, inl, inr, subst}
-use Rattle.std.proofs.lemmas.Bool.{cases_lt}
 use Rattle.rc_instr.specs.Warrior.{WarriorView}
 use Rattle.tune_problem.specs.Problem.{Problem}
 use Rattle.tune_problem.specs.Optimum.{total_of}
@@ -9,28 +8,8 @@ use Rattle.tune_problem.specs.Exact.{total_at, ranking_shown, ranking_below, lis
 use Rattle.tune_problem.specs.declared.aim.Aim.{Aim}
 use Rattle.tune_problem.specs.declared.cert.Row.{Row}
 use Rattle.tune_problem.specs.declared.watcher.Best.{Best}
-use Rattle.tune_problem.proofs.Ranks.{all_map, ranking_more}
-
--- one below k + 1 is below k, or is k
-cases_last : (v k : ℕ) → v < suc k → (v < k) ⊎ (v ≡ k)
-cases_last v k l = elim (cases_lt v k) [ inl less ↦ inl less | inr more ↦ inr (omega (arith, l, more)) ]
-
--- the same settings, said otherwise
-same_settings : (p : Problem) (aim : Aim) (among later : ℕ → Type 0) (xs : List Best) → ((v : ℕ) → among v → later v) → ((v : ℕ) → later v → among v)
-    → IsRanking p aim among xs → IsRanking p aim later xs
-same_settings p aim among later xs on back h = record {
-  few = h.few;
-  members = all_map xs (λ x r. record {
-    warrior = r.warrior;
-    inside = r.inside;
-    is_among = on x.vector r.is_among;
-    candidate = r.candidate;
-    scores = r.scores;
-    reaches = r.reaches;
-  }) h.members;
-  order = h.order;
-  others = λ v w l now is. h.others v w l (back v now) is;
-}
+use Rattle.tune_problem.proofs.ListedRanks.{cases_last, same_settings}
+use Rattle.tune_problem.proofs.Ranks.{ranking_more}
 
 -- the settings below k whose totals are shown
 abbrev pub ShownBelow : Problem → List Row → ℕ → ℕ → Type 0

@@ -86,55 +86,35 @@ is_filled Refused = false
 is_filled (Same u) = true
 is_filled (Cap row) = true
 
--- What a search has after some visits.
-pub record Progress : Type 0 where
-  pub rows : List Row
-  -- the first of the ranking of the settings visited
-  pub ranking : List Best
-  -- the fights of the next visit, in their order
-  pub order : List ℕ
-  -- the number of fights played, and of candidates visited
-  pub fights : ℕ
-  pub candidates : ℕ
-  -- the setting with the copied row, if there is one
-  pub copied : Option ℕ
-  -- the cache: load files, each with the fought setting that has it, the last used first
-  pub known : List (List ℕ × Fought)
-
--- A search after k visits.
-pub record IsUnderWay (p : Problem) (rules : RulesView) (aim : Aim) (method : Method) (k : ℕ) (g : Progress) : Type 0 where
-  pub rows_are : length g.rows ≡ p.count
+-- A search after k visits: what it has found, the fights of the next visit in their order, and the
+-- cache, the last used first.
+pub record IsUnderWay (p : Problem) (rules : RulesView) (aim : Aim) (method : Method) (k : ℕ) (f : Findings) (order : List ℕ) (known : List (List ℕ × Fought)) : Type 0 where
+  -- the version is 1 exactly if every fight counts once
+  pub version_is : IsOwnVersion p f.version
+  pub rows_are : length f.rows ≡ p.count
   -- the ranking is that of the settings visited; each has a row with every fight, or one that
   -- refers to such a row, and the lead has a cap row with every fight
-  pub ranking_is : g.ranking ≡ ranking_after p aim k
-  pub whole : IsWhole p g.rows (first_of g.ranking)
-  pub full : AllByRecursion (IsFull p g.rows) g.ranking
+  pub ranking_is : f.ranking ≡ ranking_after p aim k
+  pub whole : IsWhole p f.rows (first_of f.ranking)
+  pub full : AllByRecursion (IsFull p f.rows) f.ranking
   -- the row of each setting visited is what its visit makes, and any other row is `Refused`
-  pub explained : (v : ℕ) → v < p.count → visits_before p.start v < k → IsExplained p aim method g.rows g.copied v (p.warrior v)
-  pub unvisited : (v : ℕ) → v < p.count → k ≤ visits_before p.start v → slice_get g.rows v ≡ Some Refused
+  pub explained : (v : ℕ) → v < p.count → visits_before p.start v < k → IsExplained p aim method f.rows f.copied v (p.warrior v)
+  pub unvisited : (v : ℕ) → v < p.count → k ≤ visits_before p.start v → slice_get f.rows v ≡ Some Refused
   -- the next visit plays its fights by index if it is the first, else in the learned order
-  pub order_is : g.order ≡ order_after p (k == 0) (p.warrior p.start)
+  pub order_is : order ≡ order_after p (k == 0) (p.warrior p.start)
   -- the cache has the recent settings
-  pub recent : IsRecent p (capacity_of method) k (map (λ e. e.1.vector) g.known)
-  pub all_known : AllByRecursion (IsKnown p rules aim method g.rows k) g.known
-  pub copied_is : HasCopied p k (first_of g.ranking) g.copied
+  pub recent : IsRecent p (capacity_of method) k (map (λ e. e.1.vector) known)
+  pub all_known : AllByRecursion (IsKnown p rules aim method f.rows k) known
+  pub copied_is : HasCopied p k (first_of f.ranking) f.copied
   -- every listed fight was played once, except those of the copied row
-  pub fights : g.fights + copied_fights g.rows g.copied ≡ listed_fights g.rows
-  pub count : g.candidates ≡ count_by is_filled g.rows
+  pub fights : f.fights + copied_fights f.rows f.copied ≡ listed_fights f.rows
+  pub count : f.candidates ≡ count_by is_filled f.rows
   -- a bound, so that the count of fights does not wrap around
-  pub room : g.fights ≤ MOST_FIGHTS * k
+  pub room : f.fights ≤ MOST_FIGHTS * k
 
--- How far a search is, by its state.
-abbrev pub progress_of : State → Progress
-progress_of s = record {
-  rows = s.found.rows;
-  ranking = s.found.ranking;
-  order = s.order.items;
-  fights = s.arena.fights;
-  candidates = s.found.candidates;
-  copied = s.found.copied;
-  known = s.cache.known;
-}
+-- The findings of a state, with the arena's count of fights.
+abbrev pub findings_of : State → Findings
+findings_of s = record s.found { fights = s.arena.fights }
 
 -- The state of a search of these inputs after k visits.
 pub record IsState (i : InputsView) (aim : Aim) (method : Method) (k : ℕ) (s : State) : Type 0 where
@@ -144,10 +124,5 @@ pub record IsState (i : InputsView) (aim : Aim) (method : Method) (k : ℕ) (s :
   pub aim_is : s.aim ≡ aim
   pub is_aim : IsAim aim
   pub capacity_is : s.cache.capacity ≡ capacity_of method
-  pub version_is : IsOwnVersion (problem_of i) s.found.version
   pub blank : IsBlank i.rules s.arena
-  pub going : IsUnderWay (problem_of i) i.rules aim method k (progress_of s)
-
--- The findings of a state, with the arena's count of fights.
-abbrev pub findings_of : State → Findings
-findings_of s = record s.found { fights = s.arena.fights }
+  pub going : IsUnderWay (problem_of i) i.rules aim method k (findings_of s) s.order.items s.cache.known

@@ -3,7 +3,7 @@ use Rattle.tune_template.specs.Limits.{MOST_SETTINGS}
 use Rattle.tune_problem.specs.Problem.{problem_of}
 use Rattle.tune_problem.proofs.Scores.{inputs_problem}
 use Rattle.tune_search.specs.Findings.{IsSearchFor}
-use Rattle.tune_search.specs.State.{IsState, progress_of}
+use Rattle.tune_search.specs.State.{IsState, findings_of}
 use Rattle.tune_problem.specs.declared.aim.Aim.{Aim}
 use Rattle.tune_search.specs.declared.findings.Findings.{Findings}
 use Rattle.tune_search.specs.declared.method.Method.{Method}
@@ -37,7 +37,7 @@ returns-then-none_assembles g c =
     let e : c.loop-visits.visits ≡ p.count = omega (arith, c.loop-visits-test.false, c.loop-visits.auto.visits-end, c.part_size-visits-end.ensures.count) in
     let state : IsState i c.args.aim c.args.method p.count s = subst (λ (k : ℕ). IsState i c.args.aim c.args.method k s) e c.loop-visits.invariant.state in
     let none : s.found.candidates ≡ 0 = omega (arith, c.if-none_assembles.true) in
-    λ same. finds_none p (inputs_problem i) state.start_inside i.rules c.args.aim c.requires.aim c.args.method (progress_of s) state.going none
+    λ same. finds_none p (inputs_problem i) state.start_inside i.rules c.args.aim c.requires.aim c.args.method (findings_of s) s.order.items s.cache.known state.going none
 
 pub returns : goal.returns
 returns g c =
@@ -47,6 +47,6 @@ returns g c =
     let e : c.loop-visits.visits ≡ p.count = omega (arith, c.loop-visits-test.false, c.loop-visits.auto.visits-end, c.part_size-visits-end.ensures.count) in
     let state : IsState i c.args.aim c.args.method p.count s = subst (λ (k : ℕ). IsState i c.args.aim c.args.method k s) e c.loop-visits.invariant.state in
     let few : p.count ≤ MOST_SETTINGS = omega (arith, c.part_size-visits-end.ensures.count, c.part_size-visits-end.ensures.few) in
-    let found = finds p (inputs_problem i) state.start_inside i.rules c.args.aim c.requires.aim c.args.method (progress_of s) state.going s.found.version state.version_is few in
+    let found = finds p (inputs_problem i) state.start_inside i.rules c.args.aim c.requires.aim c.args.method (findings_of s) s.order.items s.cache.known state.going few in
     let some : 0 < s.found.candidates = omega (arith, c.if-none_assembles.false) in
     subst (λ (f : Findings). IsSearchFor p c.args.aim c.args.method f × (0 < f.candidates)) (sym c.into_findings.ensures) (found, some)

@@ -15,7 +15,7 @@ use Rattle.tune_search.proofs.VisitOrder.{visited_below}
 use Rattle.tune_search.proofs.Totals.{order_length}
 use Rattle.tune_search.proofs.ListedFights.{order_below}
 use Rattle.tune_search.proofs.Counted.{small_count}
-use Rattle.tune_search.specs.State.{progress_of}
+use Rattle.tune_search.specs.State.{findings_of}
 use Rattle.tune_search.proofs.Visiting.{first_visit, permutes, under_way_along}
 use Rattle.tune_search.proofs.FoughtVisits.{fought_visit}
 use Rattle.tune_search.proofs.state.State.fight.Goals as goal
@@ -30,7 +30,7 @@ play_enough-requires-clause-order g c =
     let v = setting_visited p.start k in
     let inside : v < p.count = visited_below p.start p.count k c.requires.state.start_inside c.requires.visits in
     let once : IsPermutation (all_fights p) s.order.items = permutes p (inputs_problem i) c.requires.state.start_inside i.rules s.aim c.requires.state.is_aim c.args.self.now.method k v refl inside
-    (progress_of s) c.requires.state.going in
+    (findings_of s) s.order.items s.cache.known c.requires.state.going in
     subst (λ (l : List ℕ). IsFightOrder p l) (sym c.deref.ensures.value) (record {
       all = order_length p s.order.items once;
       once = once;
@@ -61,11 +61,10 @@ returns g c =
       aim_is = refl;
       is_aim = c.requires.state.is_aim;
       capacity_is = ap (λ (m : CacheView). m.capacity) c.in_ok-remember.ensures ∙ c.requires.state.capacity_is;
-      version_is = c.requires.state.version_is;
       blank = c.in_ok-bout.ensures.blank;
-      going = under_way_along p i.rules s.aim c.args.self.now.method (k + 1) _ _ _ _ _ _ _ _ _ _ _ _
+      going = under_way_along p i.rules s.aim c.args.self.now.method (k + 1) _ _ _ _ _ _ _ _
           (fought_visit p (inputs_problem i) c.requires.state.start_inside i.rules s.aim c.requires.state.is_aim c.args.self.now.method k v refl inside
-          (progress_of s) c.requires.state.going
+          (findings_of s) s.order.items s.cache.known c.requires.state.going
           e.warrior is.warrior_is bout.listing.items bout.cap c.sort_by_index.result.items
           (c.in_ok-bout.ensures.listing ∙ ap (λ l. played p e.warrior (take (enough p s.method c.aim_at.result e.warrior l e.vector c.as_slice.result.now) l)) in_order
           ∙ ap (λ n. played p e.warrior (take (enough p s.method c.aim_at.result e.warrior s.order.items n c.as_slice.result.now) s.order.items)) own

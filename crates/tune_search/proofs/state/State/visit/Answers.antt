@@ -9,7 +9,7 @@ use Rattle.tune_problem.proofs.Scores.{inputs_problem}
 use Rattle.tune_search.specs.Cache.{CacheView, cache_view, same_text}
 use Rattle.tune_search.specs.Visits.{setting_visited}
 use Rattle.tune_search.specs.Sharing.{copies}
-use Rattle.tune_search.specs.State.{IsCandidateAt, IsUnderWay, progress_of}
+use Rattle.tune_search.specs.State.{IsCandidateAt, IsUnderWay, findings_of}
 use Rattle.tune_search.specs.declared.candidate.Candidate.{Candidate}
 use Rattle.tune_search.proofs.Cached.{promoted_none}
 use Rattle.tune_search.proofs.VisitOrder.{visited_below}
@@ -34,10 +34,9 @@ returns-in_default g c =
       aim_is = refl;
       is_aim = c.requires.state.is_aim;
       capacity_is = c.requires.state.capacity_is;
-      version_is = c.requires.state.version_is;
       blank = c.requires.state.blank;
       going = refused_visit p (inputs_problem i) c.requires.state.start_inside i.rules s.aim c.requires.state.is_aim c.args.self.now.method k v at inside
-          (progress_of s) c.requires.state.going
+          (findings_of s) s.order.items s.cache.known c.requires.state.going
           (subst (λ (o : Option Candidate). IfNone o (p.warrior v ≡ None)) c.in_default.is c.in_ok-entrant.ensures.none);
     }
 
@@ -66,9 +65,8 @@ fight-requires-clause-state g c =
       aim_is = refl;
       is_aim = c.requires.state.is_aim;
       capacity_is = ap (λ (m : CacheView). m.capacity) same ∙ c.requires.state.capacity_is;
-      version_is = c.requires.state.version_is;
       blank = c.requires.state.blank;
-      going = subst (λ (m : CacheView). IsUnderWay p i.rules s.aim s.method c.args.visits (record (progress_of s) { known = m.known })) (sym same) c.requires.state.going;
+      going = subst (λ (m : CacheView). IsUnderWay p i.rules s.aim s.method c.args.visits (findings_of s) s.order.items m.known) (sym same) c.requires.state.going;
     }
 
 pub returns-then-copied : goal.returns-then-copied
@@ -95,11 +93,10 @@ returns-then-copied g c =
       aim_is = refl;
       is_aim = c.requires.state.is_aim;
       capacity_is = ap (λ (m : CacheView). m.capacity) c.in-Some-recall.ensures.known ∙ c.requires.state.capacity_is;
-      version_is = c.requires.state.version_is;
       blank = c.requires.state.blank;
-      going = under_way_along p i.rules s.aim c.args.self.now.method (k + 1) _ _ _ _ _ _ _ _ _ _ _ _
+      going = under_way_along p i.rules s.aim c.args.self.now.method (k + 1) _ _ _ _ _ _ _ _
           (copied_visit p (inputs_problem i) c.requires.state.start_inside i.rules s.aim c.requires.state.is_aim c.args.self.now.method k v at inside
-          (progress_of s) c.requires.state.going
+          (findings_of s) s.order.items s.cache.known c.requires.state.going
           e.warrior is.warrior_is is.rules_hold is.is_warrior is.fits u look row row_of apart)
           (sym c.set.ensures)
           (sym c.in_ok-rank.ensures.ranked)
@@ -130,11 +127,10 @@ returns g c =
       aim_is = refl;
       is_aim = c.requires.state.is_aim;
       capacity_is = ap (λ (m : CacheView). m.capacity) c.in-Some-recall.ensures.known ∙ c.requires.state.capacity_is;
-      version_is = c.requires.state.version_is;
       blank = c.requires.state.blank;
-      going = under_way_along p i.rules s.aim c.args.self.now.method (k + 1) _ _ _ _ _ _ _ _ _ _ _ _
+      going = under_way_along p i.rules s.aim c.args.self.now.method (k + 1) _ _ _ _ _ _ _ _
           (shared_visit p (inputs_problem i) c.requires.state.start_inside i.rules s.aim c.requires.state.is_aim c.args.self.now.method k v at inside
-          (progress_of s) c.requires.state.going
+          (findings_of s) s.order.items s.cache.known c.requires.state.going
           e.warrior is.warrior_is is.rules_hold is.is_warrior is.fits u look apart)
           (sym c.set-2.ensures)
           (sym c.in_ok-rank.ensures.ranked)
