@@ -14,6 +14,7 @@ use std::{fs, io};
 
 // The bytes with which a certificate and a CERT.inputs begin.
 const CERT_BEGINNING: &[u8] = b"cwcert,";
+
 const INPUTS_BEGINNING: &[u8] = b"cwtune inputs";
 
 // A file that a tuning writes.
