@@ -22,12 +22,12 @@ use std::marker::Model;
 
 // The names defined so far, and the lines of the expansion.
 #[derive(Drop)]
-pub(crate) struct LinesSoFar {
-    names: NameTable<()>,
+pub(crate) struct LinesSoFar<'a> {
+    names: NameTable<'a, ()>,
     lines: Vec<Line>,
 }
 
-impl Model for LinesSoFar {
+impl<'a> Model for LinesSoFar<'a> {
     ghost use Rattle.rc_expand.specs.NameTables.{names_in};
     ghost use Rattle.rc_expand.specs.Replace.Lines.{LinesSoFarView};
 
@@ -55,9 +55,9 @@ pub(crate) fn replace_lines(
 }
 
 // Adds a line that was reached. A line that no copy changes is used as the text has it.
-fn replace_reached(
-    out: &mut LinesSoFar,
-    context: &Context,
+fn replace_reached<'a>(
+    out: &mut LinesSoFar<'a>,
+    context: &Context<'a>,
     reached: &Reached,
 ) -> Result<(), ExpandFault>
     ensures { Returns (λ u. out.new) result (line_replaced (seen_context context.now) reached.now out.old) }
@@ -71,7 +71,11 @@ fn replace_reached(
 
 // Defines the names of a line, and adds the line with its EQU names replaced, unless it is an EQU
 // line.
-fn replace_line(out: &mut LinesSoFar, context: &Context, raw: &RawLine) -> Result<(), ExpandFault>
+fn replace_line<'a>(
+    out: &mut LinesSoFar<'a>,
+    context: &Context<'a>,
+    raw: &RawLine,
+) -> Result<(), ExpandFault>
     ensures { Returns (λ u. out.new) result (line_replaced (seen_context context.now) raw.now out.old) }
 {
     let (labels, others) = split_labels(context.alloc, context.source, raw.labels.as_slice())?;
@@ -87,9 +91,9 @@ fn replace_line(out: &mut LinesSoFar, context: &Context, raw: &RawLine) -> Resul
 }
 
 // Defines the names of tokens, one after the other.
-fn define_names(
-    names: &mut NameTable<()>,
-    context: &Context,
+fn define_names<'a>(
+    names: &mut NameTable<'a, ()>,
+    context: &Context<'a>,
     labels: &[Token],
     line: u64,
 ) -> Result<(), ExpandFault>
@@ -105,9 +109,9 @@ fn define_names(
 
 // Defines the name of a token. `DuplicateName` if it is a constant, a predefined name or defined
 // already.
-fn define_name(
-    names: &mut NameTable<()>,
-    context: &Context,
+fn define_name<'a>(
+    names: &mut NameTable<'a, ()>,
+    context: &Context<'a>,
     label: &Token,
     line: u64,
 ) -> Result<(), ExpandFault>
