@@ -14,7 +14,7 @@ LARGE = ";@tune A 0 9999 1 2\n;@tune B 0 9999 1 2\nDAT A, B\n"
 HIDDEN = ";@tune A 0 9 1 0\n;@tune B 0 20 1 0\n"
 PLANE = (";@tune STEP 1 9 2 3\n;@tune aim -4 4 1 4\n        ADD  #STEP, 3\n        MOV  2, @2\n"
          "        JMP  -2\n        DAT  #0, #aim\n")
-FILES = {"plane.red": PLANE, "large.red": LARGE, "dat.red": "DAT 0\n", "imp.red": "MOV 0, 1\n",
+FILES = {"plane.red": PLANE, "large.red": LARGE, "dat.red": "DAT 0, 0\n", "imp.red": "MOV 0, 1\n",
          "s.csv": "opponent,position,first,weight\n0,40,c,1\n1,40,c,3\n",
          "one.csv": "opponent,position,first\n1,40,c\n"}
 WRONG_BUDGETS = [("--fights=999", "argument --fights: 999 is not 1000 or more"),
