@@ -1,4 +1,4 @@
-//! How commands end.
+//! Why a command does not succeed, and its exit status.
 ghost use Rattle.std.specs.Prelude.{◌≡◌};
 ghost use Rattle.command_runs.specs.Commands.{status_of};
 

@@ -17,7 +17,7 @@ pub(crate) fn keep_option<'a>(alloc: Global, help: &'a str) -> Arg<'a> {
 }
 
 // Returns what a tuning, or a check, is asked for beside the optimum. `CHECK_FLOOR` reads the
-// `--floor` of both.
+// floor of `tune` too: both options have one name.
 pub(crate) fn demand_of<'a>(matches: &ArgMatches<'a>) -> Result<Demand, BadValue<'a>> {
     Ok(Demand {
         keep: kept_asked(matches.get_one::<u32>("keep")),

@@ -50,8 +50,8 @@ pub(crate) fn fight_command<'a>(alloc: Global) -> Result<Command<'a>, AllocError
         .arg(explain_option(alloc))
 }
 
-// Makes the command `fight` with two files. They are not required: `fight_request` sees to words
-// with one file or none.
+// Makes the command `fight` with two files. They are not required: without files `fight` reads
+// a fight text, and `fight_request` refuses one file alone.
 pub(crate) fn duel_command<'a>(alloc: Global) -> Result<Command<'a>, AllocError> {
     let candidate = "Redcode source of the candidate, at address 0";
     let opponent = "Redcode source of the opponent";

@@ -106,7 +106,7 @@ fn parsed_request<'a>(alloc: Global, words: &'a [String]) -> Result<Request<'a>,
 }
 
 // Fails with the help of a command, or with that of the program for the empty word. `clap` gets no
-// other words, so that it refuses none of them.
+// other word that it could refuse.
 fn give_help(alloc: Global, command: &str) -> Result<(), Error> {
     let mut words = Vec::new(alloc);
     if !command.is_empty() {

@@ -15,7 +15,8 @@ pub(crate) struct BadValue<'a> {
     pub(crate) why: &'static str,
 }
 
-// Makes the usage error of a bad value for `command`. `name` is the words that call the command.
+// Makes the usage error of a bad value for `command`. `name` is the command as typed, such as
+// `cwtune fight`.
 pub(crate) fn bad_value(
     alloc: Global,
     bad: BadValue<'_>,

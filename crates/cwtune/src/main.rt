@@ -20,7 +20,8 @@ fn words_of(rt: &HostRuntime) -> io::Result<Vec<String>> {
     Ok(env::args(rt)?.skip(1).collect(rt.alloc())?)
 }
 
-// Returns how progress is shown.
+// Returns how progress is shown: at a terminal in one line, and elsewhere, if `--progress` asks for
+// it, in lines of a log.
 fn style_of(words: &[String], at_terminal: bool) -> Style
     ensures { IsTrue at_terminal → result ≡ Style.Line }
 {
@@ -33,7 +34,7 @@ fn style_of(words: &[String], at_terminal: bool) -> Style
     }
 }
 
-// Runs the program. Shows progress and explanations at a terminal, or if options ask for them.
+// Runs `program`. At a terminal, or with `--progress` or `--explain`, its witness is `Progress`.
 fn run<R: Read, W: Write, V: Write>(
     rt: &HostRuntime,
     words: &[String],

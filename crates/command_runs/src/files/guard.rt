@@ -84,7 +84,7 @@ fn is_other_file<'a, F: Files>(
     Ok(false)
 }
 
-// A name without a file is not one: CERT need not be there yet.
+// A name that no file has is no name of the found one: CERT need not be there yet.
 fn is_name_of<'a, F: Files>(rt: &F, name: &'a str, found: &Metadata) -> Result<bool, Barred<'a>> {
     match is_file_at(rt, name, found) {
         Ok(is_same) => Ok(is_same),

@@ -1,4 +1,4 @@
-//! What a run was refused for, as the witness hears of it.
+//! What was refused, with the texts that were read, for the witness.
 
 use command_words::{DuelWords, TuneWords};
 use rc_instr::Rules;

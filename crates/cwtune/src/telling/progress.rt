@@ -48,7 +48,7 @@ impl Style {
     }
 }
 
-// The names of a tuning's files.
+// The template and the opponents, as notes name them.
 #[derive(Drop)]
 struct FileNames {
     template: String,
