@@ -5,6 +5,7 @@ from typing import NamedTuple
 from .endings import Fault
 from .grid import NAME
 from .places import FIELDS, MODES, MODIFIERS, OPCODES, PLACE
+from .slots import STRATEGY
 
 NUMBERS = re.compile(r"(-?[0-9]{1,5}):(-?[0-9]{1,5})(?::([0-9]{1,5}))?")
 FIELD = re.compile(rf"(?:{NAME}|[0-9]+)\.([A-Za-z_-][^.]*)(?:\.[0-9]*)?")
@@ -160,9 +161,11 @@ def as_range(numbers):
 
 
 def free_name(place, text):
-    """Returns a name for the constant of a place, which is no name of the text."""
+    """Returns a name for the constant of a place, which is no name of the text. The line of an
+    earlier tuning does not count."""
     name = re.sub(r"[.-]", "_", f"line{place}" if place[0].isdecimal() else place)
-    taken = set(re.findall(NAME, text))
+    lines = [line for line in text.split("\n") if not line.startswith(STRATEGY)]
+    taken = set(re.findall(NAME, "\n".join(lines)))
     while name in taken:
         name += "_"
     return name

@@ -27,7 +27,8 @@ LONE_LABELS = re.compile(rf"\s*((?:{NAME}(?:\s*:\s*|\s+))+)")
 MODIFIER = re.compile(r"\s*\.\s*(ab|ba|[abfxi])(?![A-Za-z0-9_])", re.I)
 OPERAND = re.compile(rf"\s*([{re.escape(MODES)}]?)\s*(.*?)\s*", re.S)
 PLAIN = re.compile(r"\+?(-?[0-9]+)|\(\s*\+?(-?[0-9]+)\s*\)")
-DECIMAL = re.compile(r"(?<![A-Za-z0-9_])[0-9]+(?![A-Za-z0-9_])")
+# A number in an expression. That in `step-(-2)` is negative.
+NUMBER = re.compile(r"(?<=\()-[0-9]+(?=\))|(?<![A-Za-z0-9_])[0-9]+(?![A-Za-z0-9_])")
 FIRST_NAME = re.compile(rf"\s*({NAME})")
 # More EQU names than `cwtune` replaces one after the other.
 MOST_EQUS = 17
@@ -74,7 +75,7 @@ class Line(NamedTuple):
 
     def decimals(self, field):
         """Returns the spans of all numbers of a field."""
-        spans = [Span(*match.span()) for match in DECIMAL.finditer(self.text, *self.fields[field])]
+        spans = [Span(*match.span()) for match in NUMBER.finditer(self.text, *self.fields[field])]
         return [span for span in spans if self.is_own(span)]
 
     def is_own(self, span):

@@ -18,6 +18,8 @@ from .endings import Fault
 from .grid import KEPT, SLOT, is_range_line
 from .places import HEAD, code_of
 
+# What the line with the values of a setting begins with.
+STRATEGY = ";strategy cwtune: "
 # An operator before a number. A negative number after it gets parentheses.
 OPERATOR = re.compile(r"[-+/%=!&|]\s*$")
 

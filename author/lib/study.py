@@ -200,7 +200,7 @@ def print_end(folder, report):
     if gain and report["winner"]["values"] != report["start"]["values"]:
         print(f"over START: {gain['percent']:+.1f}% +- {gain['error']:.1f}, {gain['words']}")
         if gain["words"] != "a gain":
-            print("keep START: winner.red gains nothing in these fights")
+            print("keep START: these fights show no gain of winner.red")
     else:
         print("the winner is START: nothing better was found")
     for name in ["winner.red", "report.html"]:

@@ -20,6 +20,10 @@ MOST_FIGHTS, MOST_WEIGHT, MOST_OPPONENTS, MOST_KEPT = 10000, 1000, 64, 1000
 LISTED = re.compile(r"[0-9]{1,10}:[013](?: [0-9]{1,10}:[013])*")
 
 
+class TooManySettings(Fault):
+    """A template has more settings than `cwtune` takes."""
+
+
 class Fight(NamedTuple):
     opponent: int
     position: int
@@ -83,7 +87,7 @@ class Template(Grid):
     def __init__(self, path):
         super().__init__(path)
         if self.count() > MOST_SETTINGS:
-            raise Fault(f"{path}: more than {MOST_SETTINGS} settings")
+            raise TooManySettings(f"{path}: more than {MOST_SETTINGS} settings")
         self.values_of_settings = Settings(self.ranges)
         self.start = self.values_of_settings.index(self.start_values)
 

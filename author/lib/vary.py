@@ -19,7 +19,7 @@ from .adapt import adapt, adapted_text, add_as_is
 from .endings import Fault, say
 from .grid import KEPT, is_range_line
 from .openings import constant_of, opening_from
-from .places import FIELDS, OPCODES, code_of, lines_of, spot_of, spots_in
+from .places import FIELDS, OPCODES, Span, code_of, lines_of, spot_of, spots_in
 from .program import load_file_of_bytes, refuse_other_warrior, rules_of
 from .slots import code_of_kept
 from .tuning_files import MOST_CONSTANTS, MOST_SETTINGS
@@ -97,9 +97,11 @@ class Varied:
 
 
 def uses_of(lines, equ):
-    """Returns in how many places other lines use the name of an EQU line."""
+    """Returns in how many places of the author's text other lines use the name of an EQU line."""
     use = re.compile(rf"(?<![A-Za-z0-9_]){equ.labels[-1]}(?![A-Za-z0-9_])")
-    return sum(len(use.findall(code_of(line.text))) for line in lines if line is not equ)
+    spans = [(line, Span(*match.span())) for line in lines if line is not equ
+             for match in use.finditer(code_of(line.text))]
+    return len({line.origin(span) or (line.row, span) for line, span in spans})
 
 
 def spots_of(lines, fields):

@@ -11,19 +11,19 @@ The text is printed only if `cwtune asm` makes the same load file of it as of th
 
 Example: cwtune-warrior my.red my.cert > winner.red
 """
-import argparse, re, sys
+import argparse, pathlib, re, sys
 
 from . import cert_inputs, slots, tuning_files
-from .adapt import adapt, add_as_is, adapted_if_refused
+from .adapt import adapt, add_as_is, adapted_if_refused, read_text, start_of
 from .endings import Fault, say
 from .grid import is_range_line
 from .places import assembled_lines, lines_of
 from .program import load_file_of, refuse_other_warrior, rules_of
 from .put_back import original_lines
+from .slots import STRATEGY
 from .words import FILE_HELP, add_files, add_program, add_rules, command_parser
+from .writing import temporary_folder
 
-# What the line of this command begins with.
-STRATEGY = ";strategy cwtune: "
 # It follows the last line that begins with the first of these words, else with the second, and so
 # on.
 LINES_BEFORE = [";strategy", ";author", ";name", ";redcode"]
@@ -188,7 +188,20 @@ def main():
     if args.cert is not None and args.setting is not None:
         parser.error("give CERT or --setting, and not both")
     with adapted_if_refused(args) as path:
-        print_text(args, path)
+        try:
+            print_text(args, path)
+        except tuning_files.TooManySettings:
+            if args.setting != "start" or args.as_template:
+                raise
+            print_start(args, path)
+
+
+def print_start(args, path):
+    """Prints the text of START of a template of any size, as that of a race."""
+    with temporary_folder() as folder:
+        alone = pathlib.Path(folder, pathlib.Path(path).name)
+        alone.write_bytes(start_of(read_text(path), path))
+        print_text(args, str(alone))
 
 
 def print_text(args, path):

@@ -135,7 +135,7 @@ def equals(place):
     yield compare("what is not written", ["STEP=1 line3_b_mode=-", "STEP=5 line3_b_mode=-"],
                   [line.rpartition(") ")[2] for line in lines[3:5]])
     yield compare("no gain", ["over START: +0.0% +- 0.0, no difference that these fights show",
-                  "keep START: winner.red gains nothing in these fights"], lines[5:7])
+                  "keep START: these fights show no gain of winner.red"], lines[5:7])
 
 
 def typed(place):

@@ -127,6 +127,13 @@ go: line 2, a-mode=# b-mode=< modifier=- opcode=spl
 7: line 7, a-mode=$ b-mode=$ modifier=- opcode=DAT
 10: line 10, a-mode=$ b-mode=$ modifier=- opcode=DAT
 """
+# An EQU that is written out twice.
+USES = "K EQU 5\nbomb EQU spl #K, <K\nbomb\nbomb\n DAT 0, K\n"
+USES_LIST = """K=5: line 1, 3 uses
+5.a=0: line 5
+2: line 2, a-mode=# b-mode=< modifier=- opcode=spl
+5: line 5, a-mode=$ b-mode=$ modifier=- opcode=DAT
+"""
 FORM = (" is not of the form PLACE=LOW:HIGH:STEP or PLACE=VALUE,VALUE, as STEP=5:4000:10 or "
         "throw.b=-40,-25, without blanks")
 MODES = "# $ * @ { < } >"
@@ -195,6 +202,7 @@ def hidden(place):
             ("3.a-mode=<,>", ", line 3: 3.a-mode is in line 1, an EQU line"),
             ("3.b-mode=<,>", ", line 3: 3.b-mode is in line 1, an EQU line")]),
         ("prose.red", PROSE, PROSE_LIST, []),
+        ("uses.red", USES, USES_LIST, []),
         ("old.red", OLD, OLD_LIST, [
             ("go.a=1:9", ", line 2: 0 is not written there, so go.a can have no range"),
             ("8.a=1:9", ", line 8: nothing there can be opened"),
@@ -207,6 +215,24 @@ def hidden(place):
             status, _, err = vary(place, name, word)
             yield compare(f"{word} of {name}", (1, f"refused: {name}{fault}"),
                           (status, err.splitlines()[-1]))
+
+
+def signs(place):
+    """Opens a number for one below 0, and again in the text that comes of it."""
+    text = ";strategy own\nAIM EQU 7-2\n MOV 0, AIM*(-3)\n"
+    place.write("signs.red", text)
+    template = vary(place, "signs.red", "AIM.2=5,3,-9", "3.b.1=-3:3:6").out
+    place.write("t.red", template)
+    own = run("cwtune-warrior", "--program", place.program, "--setting=7", "t.red",
+              folder=place.folder).out
+    yield compare("below 0 and above", ";strategy own\n;strategy cwtune: AIM_2_choice=-9 "
+                  "line3_b_1=3\nAIM EQU 7-(-9)\n MOV 0, AIM*(3)\n", own)
+    place.write("signs.red", own)
+    yield compare("listed", ["AIM.1=7: line 3, 1 use", "AIM.2=-9: line 3, 1 use"],
+                  vary(place, "signs.red").out.split("\n")[:2])
+    status, out, err = vary(place, "signs.red", "AIM.2=5,3,-9")
+    yield compare("opened again", (0, "note: 3 settings\n", 1), (
+        status, err, out.count("AIM EQU 7-([AIM_2_choice:5,3,-9])")))
 
 
 def places(place):
@@ -268,4 +294,4 @@ def refusals(place):
 
 def trials(program):
     return in_folders(lambda folder: Place(program, folder, {}), [
-        templates, hidden, places, refusals])
+        templates, hidden, signs, places, refusals])

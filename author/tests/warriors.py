@@ -88,6 +88,14 @@ def own_texts(place):
         (["--setting=4", "--template"], text.replace("1 0", "1 2"))]:
         yield compare(f"the text by {words}", (0, expected, ""), warrior_of(
             place, *words, "t.red", folder=place.folder))
+    place.write("large.red", ";strategy own\n;@text K EQU [K] ; own\n;@tune K 0 9999 1 7\n"
+                ";@tune L 0 999 1 5\nMOV L, K\n")
+    for words, expected in [
+        (["--setting=start"], (0, ";strategy own\n;strategy cwtune: K=7 L=5\nK EQU 7 ; own\n"
+                               "L EQU 5\nMOV L, K\n", "")),
+        (["--setting=5"], (1, "", "refused: large.red: more than 1000000 settings\n"))]:
+        yield compare(f"many settings, {words}", expected, warrior_of(
+            place, *words, "large.red", folder=place.folder))
     place.write("t.red", ";redcode\n;author A\n;name N\n MOV 0, 1")
     yield compare("a text without a `;strategy` line",
                   (0, ";redcode\n;author A\n;strategy cwtune: -\n;name N\n MOV 0, 1", ""),
