@@ -1,5 +1,5 @@
-//! Lines on standard error: of progress, and explanations, which are indented by two spaces. A write
-//! that fails ends them silently.
+//! Lines on standard error: of progress, and explanations, which are indented by two spaces. A
+//! write that fails ends them silently.
 //!
 //! `refusal` picks the explanation of a fault: `limits` says why the text is refused, `help_lines`
 //! what may have been meant.

@@ -24,7 +24,7 @@ pub struct Finding {
 }
 
 impl Finding {
-    /// Has found nothing yet.
+    /// Makes the finding of a search that has visited no setting.
     pub fn new(alloc: Global) -> Finding {
         Finding {
             alloc,

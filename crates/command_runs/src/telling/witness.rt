@@ -8,8 +8,8 @@ use std::io;
 use tune_cert::{Standing, Watcher};
 use tune_runs::{Inputs, RunFault, TuneTexts};
 
-/// A watcher that also hears what a run reads and why it fails, while the texts are still in memory.
-/// No result depends on it.
+/// A watcher that also hears what a run reads and why it fails, while the texts are still in
+/// memory. No result depends on it.
 pub trait Witness: Watcher {
     /// Returns what a search has found so far.
     fn finding(&self) -> &Finding;
