@@ -1,7 +1,6 @@
 -- The numbers of the instructions that lines give are below the core size.
-use Rattle.std.proofs.Common.{◌≡◌, ℕ, ◌<◌, List, [], ◌∷◌, ◌++◌, length, refl, sym, ◌∙◌, ap, subst, arith, Ok, Err, Some, None}
+use Rattle.std.proofs.Common.{◌≡◌, ℕ, ◌<◌, List, [], ◌∷◌, ◌++◌, length, refl, sym, subst, arith, Ok, Err, Some, None}
 use Rattle.std.specs.Prelude.{ℤ, pos, negsuc, not, Result, Option, All}
-use Rattle.std.specs.Int.{int_rem_euclid}
 use Rattle.std.proofs.lemmas.List.Elements.{All-nil, All-push}
 use Rattle.rc_text.specs.declared.token.Token.{Token}
 use Rattle.rc_text.specs.declared.fault.EvalFault.{EvalFault}
@@ -17,9 +16,9 @@ use Rattle.rc_expand.specs.declared.line.LineWord.TheVariants.{Bare, Code, Org, 
 use Rattle.rc_asm.specs.declared.operand.Operand.{Operand}
 use Rattle.rc_asm.specs.declared.fault.AsmKind.TheVariants.{Value, AssertFailed}
 use Rattle.rc_asm.specs.Words.{mode_in}
-use Rattle.rc_asm.specs.Names.{NameValues, value_at}
-use Rattle.rc_asm.specs.Form.{FormView, form_of}
-use Rattle.rc_asm.specs.Instructions.{natural, core_number, operand, operand_after, operand_at, instruction_of_parts, instruction_of_form, instruction_at}
+use Rattle.rc_asm.specs.Names.{NameValues}
+use Rattle.rc_asm.specs.Form.{form_of}
+use Rattle.rc_asm.specs.Instructions.{core_number, operand, operand_after, operand_at, instruction_of_parts, instruction_of_form, instruction_at}
 use Rattle.rc_asm.specs.Faults.{at_line}
 use Rattle.rc_asm.specs.Lines.{ReadingView, nothing_read, with_instruction, with_org, with_end, line_value, after_word, after_line, after_lines}
 use Rattle.rc_instr.proofs.Chains.{went_on, ok_of}

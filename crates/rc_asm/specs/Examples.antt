@@ -12,7 +12,6 @@ use Rattle.rc_instr.specs.declared.instruction.Modifier.TheVariants as mod'
 use Rattle.rc_instr.specs.declared.instruction.Mode.{Mode}
 use Rattle.rc_instr.specs.declared.instruction.Mode.TheVariants as mode
 use Rattle.rc_text.specs.declared.fault.EvalFault.TheVariants.{UnknownName}
-use Rattle.rc_expand.specs.declared.line.Line.{Line}
 use Rattle.rc_text.specs.NameClasses.{is_opcode_word}
 use Rattle.rc_expand.specs.Names.{given_names, is_taken}
 use Rattle.rc_expand.specs.Read.Lines.{is_free, is_opcode, word_of_name, raw_line_of}

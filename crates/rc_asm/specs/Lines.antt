@@ -1,6 +1,6 @@
 -- What the lines of an expanded text give, one after the other: instructions and the start.
 -- Instructions and ORG are from the 1994 draft, `;assert` and END with a start from pMARS.
-use Rattle.std.specs.Prelude.{ℕ, not, ℤ, pos, List, [], ◌∷◌, ◌++◌, length, Option, Some, None, unwrap_or, Result, Ok, Err}
+use Rattle.std.specs.Prelude.{ℕ, not, ℤ, pos, List, [], ◌∷◌, ◌++◌, length, Some, None, unwrap_or, Result, Ok}
 use Rattle.std.specs.Option.{option_or}
 use Rattle.rc_text.specs.declared.token.Token.{Token}
 use Rattle.rc_text.specs.Values.{is_zero}

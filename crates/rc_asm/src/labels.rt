@@ -19,11 +19,11 @@ pub(crate) struct LineAddress {
 
 // The labels of a text with their addresses.
 #[derive(Drop)]
-pub(crate) struct Labels<'a> {
-    table: NameTable<'a, LineAddress>,
+pub(crate) struct Labels {
+    table: NameTable<LineAddress>,
 }
 
-impl<'a> Model for Labels<'a> {
+impl Model for Labels {
     ghost use Rattle.std.specs.Prelude.{map};
     ghost use Rattle.rc_asm.specs.Names.{Labels};
 
@@ -32,7 +32,7 @@ impl<'a> Model for Labels<'a> {
     ghost view = { λ l. map (λ e. (e.0, e.1.number)) l.table };
 }
 
-impl<'a> Labels<'a> {
+impl Labels {
     ghost use Rattle.std.specs.Prelude.{map, ◌++◌};
     ghost use Rattle.rc_asm.specs.Names.{Labels as LabelList};
     ghost use Rattle.rc_asm.specs.Names.{Agree};
@@ -42,7 +42,7 @@ impl<'a> Labels<'a> {
     fn insert_all(
         &mut self,
         alloc: Global,
-        source: &'a [u8],
+        source: &[u8],
         tokens: &[Token],
         address: usize,
     ) -> Result<(), AllocError>
@@ -59,11 +59,7 @@ impl<'a> Labels<'a> {
     }
 
     // Collects the labels of all lines, each with its address.
-    pub(crate) fn of_lines(
-        alloc: Global,
-        source: &'a [u8],
-        lines: &[Line],
-    ) -> Result<Self, AllocError>
+    pub(crate) fn of_lines(alloc: Global, source: &[u8], lines: &[Line]) -> Result<Self, AllocError>
         ensures { IfOk result (λ labels. Agree labels (labels_of source.now lines.now)) }
     {
         let mut labels = Labels {

@@ -9,9 +9,9 @@ use rc_text::{EvalFault, Names, Token, eval};
 
 // What all lines share: the names that are given, and the labels.
 #[derive(Clone, Copy)]
-pub(crate) struct Context<'a, 't> {
+pub(crate) struct Context<'a> {
     pub(crate) given: &'a GivenNames<'a>,
-    pub(crate) labels: &'a Labels<'t>,
+    pub(crate) labels: &'a Labels,
 }
 
 // What labels stand for in an expression: for their addresses, or for the distances to them from
@@ -24,13 +24,13 @@ pub(crate) enum LabelsAs {
 
 // The names in an expression of the line at `address`.
 #[derive(Drop)]
-struct Scope<'a, 't> {
-    context: Context<'a, 't>,
+struct Scope<'a> {
+    context: Context<'a>,
     address: LineAddress,
     labels_as: LabelsAs,
 }
 
-impl<'a, 't> Names for Scope<'a, 't> {
+impl<'a> Names for Scope<'a> {
     ghost use Rattle.rc_asm.specs.Names.{stands_for};
     ghost use Rattle.rc_asm.specs.Seen.{seen_names};
 

@@ -1,5 +1,5 @@
 -- Lists that are made item by item.
-use Rattle.std.proofs.Common.{◌≡◌, ℕ, ◌+◌, ◌<◌, List, [], ◌∷◌, ◌++◌, get_or, drop, drop-cons, length, refl, sym, ◌∙◌, ap, append_assoc, add-one, Option, Some, None}
+use Rattle.std.proofs.Common.{◌≡◌, ℕ, ◌+◌, ◌<◌, arith, List, [], ◌∷◌, ◌++◌, get_or, drop, drop-cons, length, refl, sym, ◌∙◌, ap, append_assoc, add-one, Option, Some, None}
 use Rattle.std.specs.Prelude.{option_map, option_and_then}
 use Rattle.rc_expand.specs.Unroll.Copies.{all_of}
 
@@ -8,6 +8,12 @@ pub split_at : {A : Type 0} (xs : List A) (i : ℕ) (x : A) → i < length xs �
 split_at xs i x h e =
     let d : drop i xs ≡ get_or xs i x ∷ drop (i + 1) xs = rw add-one (drop-cons xs i x h) in
     d ∙ ap (λ y. y ∷ drop (i + 1) xs) (sym e)
+
+-- two items and what follows them
+pub split_two : {A : Type 0} (xs : List A) (i : ℕ) (x y : A) → i + 1 < length xs → x ≡ get_or xs i x → y ≡ get_or xs (i + 1) y → drop i xs ≡ x ∷ y ∷ drop (i + 2) xs
+split_two xs i x y h e f =
+    let n : i + 1 + 1 ≡ i + 2 = omega arith in
+    split_at xs i x (omega (arith, h)) e ∙ ap (λ r. x ∷ r) (split_at xs (i + 1) y h f ∙ ap (λ k. y ∷ drop k xs) n)
 
 -- one more item is made
 pub more : {A : Type 0} (ys : List A) (y : A) (o : Option (List A)) → option_map (λ r. ys ++ r) (option_map (λ r. y ∷ r) o) ≡ option_map (λ r. (ys ++ (y ∷ [])) ++ r) o

@@ -3,19 +3,12 @@ use Rattle.std.specs.Prelude.{◌≡◌, ℕ, List, [], ◌∷◌, ◌++◌, map
 use Rattle.std.specs.Global.{Vec}
 use Rattle.rc_text.specs.declared.token.Token.{Token}
 use Rattle.rc_text.specs.Symbols.{counter_text}
-use Rattle.rc_expand.specs.declared.name_table.Spelling.{Spelling}
-use Rattle.rc_expand.specs.declared.name_table.Spelling.TheVariants.{Written, Copied}
 use Rattle.rc_expand.specs.Names.{entry_of}
 use Rattle.rc_expand.specs.Equs.{Equs, equ_in}
 
 -- Bytes, then the counters joined to them.
 abbrev pub joined_name : List ℕ → List ℕ → List ℕ
 joined_name bytes counters = bytes ++ flat_map counter_text counters
-
--- The bytes of a name in a table.
-abbrev pub spelled_bytes : Spelling → List ℕ
-spelled_bytes (Written bytes) = bytes.now
-spelled_bytes (Copied bytes) = bytes.items
 
 -- Adds an entry at the end, unless the name is there already.
 abbrev pub with_name : {A : Type 0} → List (List ℕ × A) → List ℕ → A → List (List ℕ × A)

@@ -13,7 +13,7 @@ pub(crate) struct Context<'a> {
     pub(crate) alloc: Global,
     pub(crate) source: &'a [u8],
     pub(crate) given: &'a GivenNames<'a>,
-    pub(crate) equs: &'a NameTable<'static, Equ>,
+    pub(crate) equs: &'a NameTable<Equ>,
     pub(crate) links: &'a [Vec<Option<usize>>],
     ghost linked: { AreLinks source.now equs.now links.now },
 }

@@ -4,7 +4,7 @@ ghost use Rattle.std.specs.Hash as fed;
 ghost use Rattle.std.specs.Str.{bytes_eq};
 ghost use Rattle.rc_text.specs.Symbols.{name_of, counter_text};
 ghost use Rattle.rc_expand.specs.Names.{entry_of};
-ghost use Rattle.rc_expand.specs.NameTables.{joined_name, spelled_bytes, with_name, at_index};
+ghost use Rattle.rc_expand.specs.NameTables.{joined_name, with_name, at_index};
 
 use crate::names::{counter_text, is_joined_name, name_of};
 use indexmap::{Equivalent, IndexMap};
@@ -16,11 +16,11 @@ use std::marker::Model;
 
 /// Names with values, each name once, in the order of insertion.
 #[derive(Drop)]
-pub struct NameTable<'a, V> {
-    entries: IndexMap<KeptName<'a>, V>,
+pub struct NameTable<V> {
+    entries: IndexMap<KeptName, V>,
 }
 
-impl<'a, V> Model for NameTable<'a, V> {
+impl<V> Model for NameTable<V> {
     ghost use Rattle.std.specs.Prelude.{List, ℕ};
 
     ghost Value = { List (List ℕ × V) };
@@ -28,7 +28,7 @@ impl<'a, V> Model for NameTable<'a, V> {
     ghost view = { λ t. t.entries.entries };
 }
 
-impl<'a, V: Drop> NameTable<'a, V> {
+impl<V: Drop> NameTable<V> {
     /// Creates an empty table, without allocating.
     pub fn new(alloc: Global) -> Self
         ensures { result ≡ [] }
@@ -54,7 +54,7 @@ impl<'a, V: Drop> NameTable<'a, V> {
     pub fn add(
         &mut self,
         alloc: Global,
-        source: &'a [u8],
+        source: &[u8],
         token: &Token,
         value: V,
     ) -> Result<bool, AllocError>
@@ -67,9 +67,9 @@ impl<'a, V: Drop> NameTable<'a, V> {
 
     // Adds a name with its value, unless the name is in the table already. Returns whether it is
     // new. Fails only if out of memory; the table then stays as it is.
-    pub(crate) fn insert(&mut self, name: KeptName<'a>, value: V) -> Result<bool, AllocError>
-        ensures added { IfOk result (λ added. added ≡ not (is_some (entry_of self.old name.entry))) }
-        ensures table { OnOk result (self.new ≡ with_name self.old name.entry value) }
+    pub(crate) fn insert(&mut self, name: KeptName, value: V) -> Result<bool, AllocError>
+        ensures added { IfOk result (λ added. added ≡ not (is_some (entry_of self.old name))) }
+        ensures table { OnOk result (self.new ≡ with_name self.old name value) }
         ensures refused { OnErr result (self.new ≡ self.old) }
     {
         let before = self.entries.len();
@@ -103,20 +103,19 @@ impl<'a, V: Drop> NameTable<'a, V> {
 /// A name in a table.
 #[doc(hidden)]
 #[derive(Debug, Drop)]
-pub struct KeptName<'a> {
-    spelling: Spelling<'a>,
+pub struct KeptName {
+    bytes: Vec<u8>,
 }
 
-impl<'a> Model for KeptName<'a> {
+impl Model for KeptName {
     ghost use Rattle.std.specs.Prelude.{List, ℕ};
-    ghost use Rattle.rc_expand.specs.NameTables.{spelled_bytes};
 
     ghost Value = { List ℕ };
 
-    ghost view = { λ n. spelled_bytes n.spelling };
+    ghost view = { λ n. n.bytes.items };
 }
 
-impl<'a> PartialEq for KeptName<'a> {
+impl PartialEq for KeptName {
     ghost use Rattle.std.specs.Str.{bytes_eq};
     ghost use Rattle.std.specs.Cmp.{partial_equiv_from_equiv};
     ghost use Rattle.std.specs.Cmp.Lexicographic.{nat_list_eq_equiv};
@@ -125,18 +124,18 @@ impl<'a> PartialEq for KeptName<'a> {
 
     ghost laws = { partial_equiv_from_equiv nat_list_eq_equiv };
 
-    fn eq(&self, other: &KeptName<'a>) -> bool {
-        self.spelling.bytes() == other.spelling.bytes()
+    fn eq(&self, other: &KeptName) -> bool {
+        self.bytes.as_slice() == other.bytes.as_slice()
     }
 }
 
-impl<'a> Eq for KeptName<'a> {
+impl Eq for KeptName {
     ghost use Rattle.std.specs.Cmp.Lexicographic.{nat_list_eq_equiv};
 
     ghost laws = { nat_list_eq_equiv };
 }
 
-impl<'a> Hash for KeptName<'a> {
+impl Hash for KeptName {
     ghost use Rattle.std.specs.Prelude.{flat_map};
     ghost use Rattle.std.specs.Hash as fed;
     ghost use Rattle.std.proofs.Common.{ap};
@@ -147,56 +146,16 @@ impl<'a> Hash for KeptName<'a> {
     ghost respects_eq = { λ x y h. ap (flat_map fed.u8) ((bytes_decides x y).0 h) };
 
     fn hash<H: Hasher>(&self, state: &mut H) {
-        feed_bytes(self.spelling.bytes(), state);
+        feed_bytes(self.bytes.as_slice(), state);
     }
 }
 
-// The bytes of a name: those in the source, or a copy.
-#[derive(Debug, Drop)]
-enum Spelling<'a> {
-    Written(&'a [u8]),
-    Copied(Vec<u8>),
-}
-
-impl<'a> Spelling<'a> {
-    fn bytes(&self) -> &[u8]
-        ensures { result.now ≡ spelled_bytes self.now }
-    {
-        match self {
-            Spelling::Written(bytes) => bytes,
-            Spelling::Copied(bytes) => bytes.as_slice(),
-        }
-    }
-}
-
-// Copies the name of a token, so that the table outlives the source.
-pub(crate) fn copied_name(
-    alloc: Global,
-    source: &[u8],
-    token: &Token,
-) -> Result<KeptName<'static>, AllocError>
+// Copies the name of a token.
+pub(crate) fn kept_name(alloc: Global, source: &[u8], token: &Token) -> Result<KeptName, AllocError>
     ensures { IfOk result (λ name. name ≡ name_of source.now token.now) }
 {
     let bytes = name_of(alloc, source, token)?;
-    Ok(KeptName {
-        spelling: Spelling::Copied(bytes),
-    })
-}
-
-// Borrows the name of a token from the source. Only a name with joined counters is copied.
-pub(crate) fn kept_name<'a>(
-    alloc: Global,
-    source: &'a [u8],
-    token: &Token,
-) -> Result<KeptName<'a>, AllocError>
-    ensures { IfOk result (λ name. name ≡ name_of source.now token.now) }
-{
-    let spelling = if token.joined.is_empty() {
-        Spelling::Written(text_of(source, token))
-    } else {
-        Spelling::Copied(name_of(alloc, source, token)?)
-    };
-    Ok(KeptName { spelling })
+    Ok(KeptName { bytes })
 }
 
 // A name by its bytes and the counters joined to it, so that a look-up builds no joined name.
@@ -235,7 +194,7 @@ impl<'a> Hash for JoinedName<'a> {
     }
 }
 
-impl<'q, 'a> Equivalent<KeptName<'a>> for JoinedName<'q> {
+impl<'a> Equivalent<KeptName> for JoinedName<'a> {
     ghost use Rattle.std.specs.Prelude.{flat_map};
     ghost use Rattle.std.specs.Str.{bytes_eq};
     ghost use Rattle.std.specs.Hash as fed;
@@ -249,8 +208,8 @@ impl<'q, 'a> Equivalent<KeptName<'a>> for JoinedName<'q> {
 
     ghost respects_eq = { λ n x y. nat_list_eq_equiv.congr (joined_name n.bytes.now n.counters.now) x y };
 
-    fn equivalent(&self, key: &KeptName<'a>) -> bool {
-        is_joined_name(self.bytes, self.counters, key.spelling.bytes())
+    fn equivalent(&self, key: &KeptName) -> bool {
+        is_joined_name(self.bytes, self.counters, key.bytes.as_slice())
     }
 }
 

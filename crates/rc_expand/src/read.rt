@@ -28,7 +28,7 @@ pub(crate) fn first_pass(
     alloc: Global,
     source: &[u8],
     given: &GivenNames,
-) -> Result<(Blocks, NameTable<'static, Equ>), ExpandFault>
+) -> Result<(Blocks, NameTable<Equ>), ExpandFault>
     ensures { Returns (λ p. record { blocks = tree_of p.0.lines.items; equs = p.1 }) result (first_pass source.now (seen_given_names given.now)) }
 {
     let lines = read_lines(alloc, source)?;

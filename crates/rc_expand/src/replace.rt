@@ -22,12 +22,12 @@ use std::marker::Model;
 
 // The names defined so far, and the lines of the expansion.
 #[derive(Drop)]
-pub(crate) struct LinesSoFar<'a> {
-    names: NameTable<'a, ()>,
+pub(crate) struct LinesSoFar {
+    names: NameTable<()>,
     lines: Vec<Line>,
 }
 
-impl<'a> Model for LinesSoFar<'a> {
+impl Model for LinesSoFar {
     ghost use Rattle.rc_expand.specs.NameTables.{names_in};
     ghost use Rattle.rc_expand.specs.Replace.Lines.{LinesSoFarView};
 
@@ -55,9 +55,9 @@ pub(crate) fn replace_lines(
 }
 
 // Adds a line that was reached. A line that no copy changes is used as the text has it.
-fn replace_reached<'a>(
-    out: &mut LinesSoFar<'a>,
-    context: &Context<'a>,
+fn replace_reached(
+    out: &mut LinesSoFar,
+    context: &Context,
     reached: &Reached,
 ) -> Result<(), ExpandFault>
     ensures { Returns (λ u. out.new) result (line_replaced (seen_context context.now) reached.now out.old) }
@@ -71,11 +71,7 @@ fn replace_reached<'a>(
 
 // Defines the names of a line, and adds the line with its EQU names replaced, unless it is an EQU
 // line.
-fn replace_line<'a>(
-    out: &mut LinesSoFar<'a>,
-    context: &Context<'a>,
-    raw: &RawLine,
-) -> Result<(), ExpandFault>
+fn replace_line(out: &mut LinesSoFar, context: &Context, raw: &RawLine) -> Result<(), ExpandFault>
     ensures { Returns (λ u. out.new) result (line_replaced (seen_context context.now) raw.now out.old) }
 {
     let (labels, others) = split_labels(context.alloc, context.source, raw.labels.as_slice())?;
@@ -91,9 +87,9 @@ fn replace_line<'a>(
 }
 
 // Defines the names of tokens, one after the other.
-fn define_names<'a>(
-    names: &mut NameTable<'a, ()>,
-    context: &Context<'a>,
+fn define_names(
+    names: &mut NameTable<()>,
+    context: &Context,
     labels: &[Token],
     line: u64,
 ) -> Result<(), ExpandFault>
@@ -109,9 +105,9 @@ fn define_names<'a>(
 
 // Defines the name of a token. `DuplicateName` if it is a constant, a predefined name or defined
 // already.
-fn define_name<'a>(
-    names: &mut NameTable<'a, ()>,
-    context: &Context<'a>,
+fn define_name(
+    names: &mut NameTable<()>,
+    context: &Context,
     label: &Token,
     line: u64,
 ) -> Result<(), ExpandFault>

@@ -5,6 +5,7 @@ use Rattle.std.specs.Fmt.{decimal}
 use Rattle.std.specs.Str.{bytes_eq}
 use Rattle.std.proofs.lemmas.Slice.Eq.{bytes_eq-Decides}
 use Rattle.std.proofs.lemmas.Bool.{and_parts}
+use Rattle.std.proofs.lemmas.Option.{same_Some}
 use borrow.Author.Tests.{ltb-true, lt-ltb}
 use Rattle.rc_instr.specs.Digits.{read_on, NoDigitFirst}
 use Rattle.rc_instr.specs.LoadReaders.{digit_count, given, if_passes, short_number_at}
@@ -24,12 +25,9 @@ pub record IsShort (bs : List ℕ) (n : ℕ) (rest : List ℕ) : Type 0 where
   pub small : n < 2 ^ 16
   pub ends : NoDigitFirst rest
 
-pub some_is : {A : Type 0} (x y : A) → Some x ≡ Some y → x ≡ y
-some_is x y e = cc
-
 -- what is read passed its test
 pub kept : {A : Type 0} (b : Bool) (x : A) (bytes : List ℕ) (y : A) (rest : List ℕ) → given (if_passes b x) bytes ≡ Some (y, rest) → (b ≡ true) × (x ≡ y) × (bytes ≡ rest)
-kept {A} true x bytes y rest e = let q = some_is (x, bytes) (y, rest) e in (refl, ap (λ (p : A × List ℕ). p.0) q, ap (λ (p : A × List ℕ). p.1) q)
+kept {A} true x bytes y rest e = let q = same_Some (x, bytes) (y, rest) e in (refl, ap (λ (p : A × List ℕ). p.0) q, ap (λ (p : A × List ℕ). p.1) q)
 kept false x bytes y rest e = absurd (cc)
 
 pub short_some : (bs : List ℕ) (n : ℕ) (rest : List ℕ) → short_number_at bs ≡ Some (n, rest) → IsShort bs n rest

@@ -4,6 +4,7 @@ use Rattle.std.specs.Prelude.{Option, ◌&&◌, nat_lt, nat_le, ◌==◌, if◌t
 use Rattle.std.specs.Fmt.{decimal}
 use Rattle.std.proofs.lemmas.Bool.Decides.{leb_tells}
 use Rattle.std.proofs.lemmas.Bool.{and_parts}
+use Rattle.std.proofs.lemmas.Option.{same_Some}
 use borrow.Author.Tests.{ltb-true, lt-ltb, lt-leb, eqb-true}
 use Rattle.rc_instr.specs.Digits.{NoDigitFirst}
 use Rattle.rc_instr.specs.Words.{opcode_text, modifier_text, opcode_of, modifier_of}
@@ -17,7 +18,7 @@ use Rattle.rc_instr.specs.declared.instruction.Modifier.{Modifier}
 use Rattle.rc_instr.specs.declared.instruction.Modifier.TheVariants.{A, B, AB, BA, F, X, I}
 use Rattle.rc_instr.specs.declared.instruction.Mode.{Mode}
 use Rattle.rc_instr.specs.declared.instruction.Mode.TheVariants.{Immediate, Direct, AIndirect, BIndirect, APredecrement, BPredecrement, APostincrement, BPostincrement}
-use Rattle.rc_instr.proofs.LoadNumbers.{short_front, short_some, kept, some_is}
+use Rattle.rc_instr.proofs.LoadNumbers.{short_front, short_some, kept}
 use Rattle.rc_instr.proofs.CheckSteps.{at_most}
 use Rattle.rc_instr.proofs.Numerals.{decimal_first}
 use Rattle.rc_instr.proofs.WordTable.{found_word, opcode_found, modifier_word_is}
@@ -30,14 +31,14 @@ went_on (Some x) f y e = (x.0, x.1, refl, e)
 -- what a table gives is taken from the front
 given_is : {A : Type 0} (o : Option A) (bytes : List ℕ) (x : A) (rest : List ℕ) → given o bytes ≡ Some (x, rest) → (o ≡ Some x) × (bytes ≡ rest)
 given_is None bytes x rest e = absurd (cc)
-given_is {A} (Some y) bytes x rest e = let q = some_is (y, bytes) (x, rest) e in (ap Some (ap (λ (p : A × List ℕ). p.0) q), ap (λ (p : A × List ℕ). p.1) q)
+given_is {A} (Some y) bytes x rest e = let q = same_Some (y, bytes) (x, rest) e in (ap Some (ap (λ (p : A × List ℕ). p.0) q), ap (λ (p : A × List ℕ). p.1) q)
 
 byte_is : (b : ℕ) (bs : List ℕ) (u : Unit {0}) (rest : List ℕ) → this_byte b bs ≡ Some (u, rest) → bs ≡ b ∷ rest
 byte_is b [] u rest e = absurd (cc)
 byte_is b (x ∷ xs) u rest e = by_test (x == b) refl e where
   by_test : (t : Bool) → (x == b) ≡ t → if_passes {A = Unit {0} × List ℕ} t (tt, xs) ≡ Some (u, rest) → x ∷ xs ≡ b ∷ rest
   by_test true h q =
-      let p = some_is (tt, xs) (u, rest) q in
+      let p = same_Some (tt, xs) (u, rest) q in
       let first : x ≡ b = eqb-true x b h in
       let others : xs ≡ rest = ap (λ (p : Unit {0} × List ℕ). p.1) p in
       cc
@@ -98,7 +99,7 @@ modifier_is (a ∷ b ∷ others) m rest e = by_space (b == 32) refl e where
       let g = went_on (given (modifier_of (a ∷ b ∷ [])) others) _ _ q in
       let t = given_is (modifier_of (a ∷ b ∷ [])) others g.0 g.1 g.2 in
       let s = went_on (this_byte 32 g.1) _ _ g.3 in
-      let y = some_is (g.0, s.1) (m, rest) s.3 in
+      let y = same_Some (g.0, s.1) (m, rest) s.3 in
       let n : g.0 ≡ m = ap (λ (p : Modifier × List ℕ). p.0) y in
       let e : s.1 ≡ rest = ap (λ (p : Modifier × List ℕ). p.1) y in
       let w = modifier_word_is (a ∷ b ∷ []) g.0 t.0 in
@@ -125,7 +126,7 @@ mode_is (a ∷ others) m rest e =
 
 -- what a reader gives at its end
 gave : {A : Type 0} (x : A) (bytes : List ℕ) (y : A) (rest : List ℕ) → gives x bytes ≡ Some (y, rest) → (x ≡ y) × (bytes ≡ rest)
-gave {A} x bytes y rest e = let q = some_is (x, bytes) (y, rest) e in (ap (λ (p : A × List ℕ). p.0) q, ap (λ (p : A × List ℕ). p.1) q)
+gave {A} x bytes y rest e = let q = same_Some (x, bytes) (y, rest) e in (ap (λ (p : A × List ℕ). p.0) q, ap (λ (p : A × List ℕ). p.1) q)
 
 -- no decimal begins with a minus sign
 no_minus : (bs : List ℕ) → ((cs : List ℕ) → 45 ∷ cs ≡ bs → ⊥) → this_byte 45 bs ≡ None

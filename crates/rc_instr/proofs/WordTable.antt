@@ -4,7 +4,7 @@ use Rattle.std.specs.Prelude.{◌==◌, codes}
 use Rattle.std.specs.Char.{to_ascii_uppercase}
 use Rattle.std.specs.List.{find, list_all}
 use Rattle.std.specs.Str.{bytes_eq}
-use Rattle.std.proofs.lemmas.Bool.{ne_eqb, and_parts, both_ways}
+use Rattle.std.proofs.lemmas.Bool.{ne_eqb, and_parts, both_ways, false_from_ne_true}
 use Rattle.std.proofs.lemmas.List.{length-map}
 use Rattle.std.proofs.lemmas.Slice.Eq.{bytes_eq-Decides}
 use Rattle.rc_instr.specs.Words.{opcode_text, modifier_text, opcodes, modifiers, opcode_of, modifier_of, opcode_named, modifier_named}
@@ -79,10 +79,6 @@ letters_ahead F rest first second others n e = absurd (n (ap (λ l. get_or l 1 0
 letters_ahead X rest first second others n e = absurd (n (ap (λ l. get_or l 1 0) e))
 letters_ahead I rest first second others n e = absurd (n (ap (λ l. get_or l 1 0) e))
 
-not_true : (b : Bool) → (b ≡ true → ⊥) → b ≡ false
-not_true true h = absurd (h refl)
-not_true false h = refl
-
 -- a word of another length is not among words of this length
 found_none : {X : Type 0} (text : X → List ℕ) (n : ℕ) (xs : List X) (word : List ℕ) → list_all (λ x. length (text x) == n) xs ≡ true → (length word == n) ≡ false
     → find (λ x. bytes_eq word (text x)) xs ≡ None
@@ -90,7 +86,7 @@ found_none text n [] word k h = refl
 found_none text n (x ∷ xs) word k h =
     let p = and_parts (length (text x) == n) (list_all (λ y. length (text y) == n) xs) k in
     let e : bytes_eq word (text x) ≡ false =
-    not_true (bytes_eq word (text x)) (λ s. both_ways (length word == n) h (ap (λ w. length w == n) ((bytes_eq-Decides word (text x)).0 s) ∙ p.0)) in
+    false_from_ne_true (bytes_eq word (text x)) (λ s. both_ways (length word == n) h (ap (λ w. length w == n) ((bytes_eq-Decides word (text x)).0 s) ∙ p.0)) in
     rw e (found_none text n xs word p.1 h)
 
 -- opcodes have three letters
@@ -98,7 +94,7 @@ pub no_opcode : (name : List ℕ) → (length name ≡ 3 → ⊥) → None ≡ o
 no_opcode name h =
     let word = map to_ascii_uppercase name in
     let n : (length word == 3) ≡ false = ne_eqb (length word) 3 (λ e. h (sym (length-map name to_ascii_uppercase) ∙ e)) in
-    let c : bytes_eq word (codes "CMP") ≡ false = not_true _ (λ s. both_ways (length word == 3) n (ap (λ w. length w == 3) ((bytes_eq-Decides word (codes "CMP")).0 s))) in
+    let c : bytes_eq word (codes "CMP") ≡ false = false_from_ne_true _ (λ s. both_ways (length word == 3) n (ap (λ w. length w == 3) ((bytes_eq-Decides word (codes "CMP")).0 s))) in
     sym (rw c (found_none opcode_text 3 opcodes word refl n))
 
 -- an opcode's word names it

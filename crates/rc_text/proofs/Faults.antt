@@ -1,6 +1,7 @@
 -- Where reading ends in a fault, the expression has it.
-use Rattle.std.proofs.Common.{◌≡◌, ℕ, suc, ◌+◌, ◌-◌, ◌≤◌, Bool, true, false, nat_lt, nat_le, List, [], ◌∷◌, refl, sym, ◌∙◌, ap, subst, arith, ◌⊎◌, inl, inr}
-use Rattle.std.specs.Prelude.{Result, Ok, Err, ◌||◌}
+use Rattle.std.proofs.Common.{◌≡◌, ℕ, suc, ◌+◌, ◌-◌, ◌≤◌, true, false, nat_lt, nat_le, List, [], ◌∷◌, refl, sym, ◌∙◌, ap, subst, arith, ◌⊎◌, inl, inr}
+use Rattle.std.specs.Prelude.{Result, Ok, Err}
+use Rattle.std.proofs.lemmas.Bool.{or_left, or_right}
 use Rattle.std.proofs.lemmas.Bool.Decides.{nat_tests}
 use Rattle.rc_text.specs.declared.token.Sign.{Sign}
 use Rattle.rc_text.specs.declared.token.Sign.TheVariants.{Open, Close}
@@ -29,16 +30,6 @@ not_close_of_prefix _ h = refl
 not_open_of_level : (s : Sign) → nat_lt 0 (level_of s) ≡ true → is_open s ≡ false
 not_open_of_level Open h = cc
 not_open_of_level _ h = refl
-
--- one of two that holds is enough
-or_right : (a b : Bool) → b ≡ true → (a || b) ≡ true
-or_right true b h = refl
-or_right false b h = h
-
--- the same on the left
-or_left : (a b : Bool) → a ≡ true → (a || b) ≡ true
-or_left true b h = refl
-or_left false b h = cc
 
 -- a sixty-fifth parenthesis, or a later one
 opened : (s : Sign) (n : ℕ) (ws : List Symbol) → is_open s ≡ true → (DEEPEST ≤ n) ⊎ (opens_too_many (suc n) ws ≡ true) → opens_too_many n (Mark s ∷ ws) ≡ true

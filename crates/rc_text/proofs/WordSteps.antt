@@ -6,7 +6,7 @@ use Rattle.std.proofs.lemmas.List.{length-map, length-take}
 use Rattle.std.specs.Prelude.{◌&&◌, ◌==◌}
 use Rattle.std.specs.List.{list_all, list_any}
 use Rattle.std.specs.Str.{bytes_eq}
-use Rattle.std.proofs.lemmas.Bool.{ne_eqb, and_parts, both_ways}
+use Rattle.std.proofs.lemmas.Bool.{ne_eqb, and_parts, both_ways, false_from_ne_true}
 use Rattle.rc_text.specs.Bytes.{begins_with_word, begins_name, continues_name}
 use Rattle.rc_text.specs.NameClasses.{is_name, is_one_of}
 
@@ -27,10 +27,6 @@ pub name_of_none : (bytes : List ℕ) → length bytes ≡ 0 → is_name bytes �
 name_of_none [] h = refl
 name_of_none (b ∷ rest) h = absurd (omega arith)
 
-not_true : (b : Bool) → (b ≡ true → ⊥) → b ≡ false
-not_true true h = absurd (h refl)
-not_true false h = refl
-
 abbrev has_three : List ℕ → Bool
 has_three w = length w == 3
 
@@ -40,7 +36,7 @@ any_none [] v k h = refl
 any_none (w ∷ ws) v k h =
     let p = and_parts (has_three (map to_ascii_lowercase w)) (list_all (λ w. has_three (map to_ascii_lowercase w)) ws) k in
     let n : bytes_eq (map to_ascii_lowercase w) v ≡ false =
-    not_true (bytes_eq (map to_ascii_lowercase w) v) (λ s. both_ways (has_three v) h (ap has_three (sym ((bytes_eq-Decides (map to_ascii_lowercase w) v).0 s)) ∙ p.0)) in
+    false_from_ne_true (bytes_eq (map to_ascii_lowercase w) v) (λ s. both_ways (has_three v) h (ap has_three (sym ((bytes_eq-Decides (map to_ascii_lowercase w) v).0 s)) ∙ p.0)) in
     rw n (any_none ws v p.1 h)
 
 pub no_word : (words : List (List ℕ)) (name : List ℕ) → list_all (λ w. has_three (map to_ascii_lowercase w)) words ≡ true → (length name ≡ 3 → ⊥) → false ≡ is_one_of words name

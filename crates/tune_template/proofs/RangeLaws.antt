@@ -1,11 +1,11 @@
 -- The ranges of a template are its range lines, in order, and it has a setting.
-use Rattle.std.proofs.Common.{◌≡◌, ℕ, ◌+◌, ◌*◌, ◌/◌, ◌≤◌, ◌<◌, Bool, true, false, ◌&&◌, ◌||◌, not, List, [], ◌∷◌, ◌++◌, length, length-append, map, Option, Some, None, refl, sym, ◌∙◌, ap, arith, append_assoc, subst, nat_lt, drop}
+use Rattle.std.proofs.Common.{◌≡◌, ℕ, ◌+◌, ◌*◌, ◌/◌, ◌≤◌, ◌<◌, Bool, true, false, not, List, [], ◌∷◌, ◌++◌, length, length-append, map, refl, sym, ◌∙◌, ap, arith, append_assoc, subst, nat_lt, drop}
 use Rattle.std.specs.Prelude.{ℤ, ◌-ℤ◌, int_lt, nat_le, Result, Ok, Err, if◌then◌else◌, All}
 use Rattle.std.specs.List.{filter}
 use Rattle.std.specs.Option.{ok_or}
 use Rattle.std.specs.Str.{bytes_eq}
 use Rattle.std.specs.Cmp.Lexicographic.{nat_list_eq_equiv}
-use Rattle.std.proofs.lemmas.Bool.{ltb-true}
+use Rattle.std.proofs.lemmas.Bool.{ltb-true, and_parts, or_parts}
 use Rattle.std.proofs.lemmas.List.{append-nil}
 use Rattle.std.proofs.lemmas.List.Elements.{All-push, All-nil}
 use Rattle.rc_text.specs.NameClasses.{class_of}
@@ -90,16 +90,6 @@ record Good (r : Ranges) : Type 0 where
   few : length r.names ≤ MOST_CONSTANTS
   some : 0 < vector_count r.spans
 
-both_true : (a b : Bool) → (a && b) ≡ true → (a ≡ true) × (b ≡ true)
-both_true true true h = (refl, refl)
-both_true true false h = cc
-both_true false b h = cc
-
-both_false : (a b : Bool) → (a || b) ≡ false → (a ≡ false) × (b ≡ false)
-both_false false false h = (refl, refl)
-both_false false true h = cc
-both_false true b h = cc
-
 not_true : (a : Bool) → not a ≡ true → a ≡ false
 not_true false h = refl
 not_true true h = cc
@@ -107,14 +97,14 @@ not_true true h = cc
 among_push : (ns : List (List ℕ)) (m n : List ℕ) → is_among ns n ≡ false → bytes_eq m n ≡ false → is_among (ns ++ (m ∷ [])) n ≡ false
 among_push [] m n a b = rw b
 among_push (k ∷ ns) m n a b =
-    let p = both_false (bytes_eq k n) (is_among ns n) a in
+    let p = or_parts (bytes_eq k n) (is_among ns n) a in
     rw (p.0, among_push ns m n p.1 b)
 
 distinct_push : (ns : List (List ℕ)) (m : List ℕ) → are_distinct ns ≡ true → is_among ns m ≡ false → are_distinct (ns ++ (m ∷ [])) ≡ true
 distinct_push [] m d s = refl
 distinct_push (n ∷ ns) m d s =
-    let p = both_true (not (is_among ns n)) (are_distinct ns) d in
-    let q = both_false (bytes_eq n m) (is_among ns m) s in
+    let p = and_parts (not (is_among ns n)) (are_distinct ns) d in
+    let q = or_parts (bytes_eq n m) (is_among ns m) s in
     rw (among_push ns m n (not_true (is_among ns n) p.0) (nat_list_eq_equiv.symm m n ∙ q.0), distinct_push ns m p.1 q.1)
 
 one_more : (r : Ranges) (next : List ℕ × Span) (line : List ℕ) → Good r → next_range r line ≡ Ok next → Good (with_range r next) × (next.0 ≡ name_on line)

@@ -1,21 +1,16 @@
 -- The lines of a load file make its warrior.
-use Rattle.std.proofs.Common.{◌≡◌, ℕ, suc, ◌+◌, ◌≤◌, List, [], ◌∷◌, ◌++◌, length, refl, sym, ◌∙◌, ap, arith, append_assoc, append-nil}
+use Rattle.std.proofs.Common.{◌≡◌, ℕ, ◌≤◌, List, [], ◌∷◌, ◌++◌, length, refl, sym, ◌∙◌, ap, append_assoc, append-nil}
 use Rattle.std.specs.Prelude.{pos, All, Ok}
 use Rattle.std.proofs.lemmas.List.Elements.{All-head, All-tail}
 use Rattle.rc_text.specs.Symbols.{name_of, symbol_of_kind}
 use Rattle.rc_text.specs.Reading.{evaluation_of}
 use Rattle.rc_instr.specs.declared.instruction.Instruction.{Instruction}
-use Rattle.rc_instr.specs.Results.{and_then, with_fault}
-use Rattle.rc_instr.specs.Warrior.{IsBelow, WarriorView, warrior_view, IsWarrior, Fits}
-use Rattle.rc_instr.specs.Checks.{warrior_of}
+use Rattle.rc_instr.specs.Warrior.{IsBelow, WarriorView, IsWarrior, Fits}
 use Rattle.rc_instr.proofs.CheckSteps.{warrior_passes}
-use Rattle.rc_expand.specs.declared.line.LineWord.TheVariants.{Code, Org}
-use Rattle.rc_asm.specs.declared.fault.AsmKind.TheVariants.{Value, Warrior}
 use Rattle.rc_asm.specs.declared.scope.LabelsAs.TheVariants.{Addresses}
 use Rattle.rc_asm.specs.Names.{NameValues, stands_for, value_at}
-use Rattle.rc_asm.specs.Faults.{at_line}
-use Rattle.rc_asm.specs.Lines.{ReadingView, nothing_read, with_instruction, with_org, after_word, after_line, after_lines}
-use Rattle.rc_asm.specs.Assembly.{warrior_of_reading, warrior_of_lines, outcome_of_lines}
+use Rattle.rc_asm.specs.Lines.{ReadingView, nothing_read, with_instruction, with_org, after_line, after_lines}
+use Rattle.rc_asm.specs.Assembly.{warrior_of_lines, outcome_of_lines}
 use Rattle.rc_asm.proofs.Outcomes.{lines_make}
 use Rattle.rc_asm.proofs.LoadFile.Printed.{Row, Opening, Printed, ArePrinted, IsStart, IsPrint, code_lines, printed_lines}
 use Rattle.rc_asm.proofs.LoadFile.Instructions.{instruction_there, plain_value}

@@ -4,7 +4,7 @@ use Rattle.std.specs.Prelude.{All, flat_map, codes, nat_le, nat_lt, if◌then◌
 use Rattle.std.specs.Fmt.{decimal}
 use Rattle.std.specs.Char.{is_ascii_digit, to_ascii_lowercase}
 use Rattle.std.specs.Str.{all_ascii_digits}
-use Rattle.std.proofs.lemmas.Bool.{cases_Bool, and_parts, and_from, ltb-false, ne_eqb, both_ways}
+use Rattle.std.proofs.lemmas.Bool.{cases_Bool, and_parts, and_from, and_right, ltb-false, ne_eqb, both_ways}
 use Rattle.std.proofs.lemmas.List.Concat.{flat_map-cons}
 use Rattle.rc_text.specs.declared.header.Extent.{Extent}
 use Rattle.rc_text.specs.Bytes.{LINE_FEED, begins_with_word}
@@ -21,7 +21,6 @@ use Rattle.rc_instr.specs.declared.instruction.Mode.{Mode}
 use Rattle.rc_instr.specs.declared.instruction.Mode.TheVariants as mode
 use Rattle.rc_instr.specs.declared.instruction.Instruction.{Instruction}
 use Rattle.rc_instr.proofs.Numerals.{decimal_all}
-use Rattle.rc_instr.proofs.Same.{both}
 use Rattle.rc_asm.proofs.LoadFile.Pieces.{digit_bounds}
 use Rattle.rc_asm.proofs.LoadFile.Rows.{parts_of_line}
 
@@ -39,11 +38,6 @@ is_quiet (b ∷ bs) = not (b == 59) && is_quiet bs
 not_false : (t : Bool) → not t ≡ true → t ≡ false
 not_false true h = absurd (both_ways (not true) refl h)
 not_false false h = refl
-
--- false on the right is false
-and_no : (t u : Bool) → u ≡ false → (t && u) ≡ false
-and_no true u h = h
-and_no false u h = refl
 
 -- only a semicolon becomes one in small letters
 small_semicolon : (b : ℕ) → (b == 59) ≡ false → (to_ascii_lowercase b == 59) ≡ false
@@ -69,7 +63,7 @@ no_header (b ∷ bs) begins q =
     let p = and_parts (not (b == 59)) (is_quiet bs) q in
     let s : (to_ascii_lowercase b == 59) ≡ false = small_semicolon b (not_false (b == 59) p.0) in
     let n : begins_with_word (codes ";redcode") (b ∷ bs) ≡ false = ap (λ t. t && begins_with_word (codes "redcode") bs) s in
-    let here : (begins && begins_with_word (codes ";redcode") (b ∷ bs)) ≡ false = and_no begins _ n in
+    let here : (begins && begins_with_word (codes ";redcode") (b ∷ bs)) ≡ false = and_right begins _ n in
     ap (λ t. if b == LINE_FEED then (if t then Some (extent 1 1) else further_on 1 1 (header_from bs true false)) else further_on 1 0 (header_from bs false t)) here
     ∙ ap (λ o. if b == LINE_FEED then further_on 1 1 o else further_on 1 0 (header_from bs false false)) (no_header bs true p.1)
     ∙ ap (λ o. if b == LINE_FEED then None else further_on 1 0 o) (no_header bs false p.1)
@@ -84,7 +78,7 @@ quiet_append (a ∷ as') bs p q = let k = and_parts (not (a == 59)) (is_quiet as
 quiet_digits : (ds : List ℕ) → all_ascii_digits ds ≡ true → is_quiet ds ≡ true
 quiet_digits [] h = refl
 quiet_digits (d ∷ ds) h =
-    let q = both (is_ascii_digit d) (all_ascii_digits ds) h in
+    let q = and_parts (is_ascii_digit d) (all_ascii_digits ds) h in
     let g = digit_bounds d q.0 in
     let n : (d == 59) ≡ false = ne_eqb d 59 (λ e. omega (arith, e, g.high)) in
     and_from _ _ (ap not n) (quiet_digits ds q.1)

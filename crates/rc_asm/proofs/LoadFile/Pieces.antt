@@ -13,7 +13,6 @@ use Rattle.rc_text.specs.declared.lexeme.Lexeme.TheVariants.{Token as TokenOf}
 use Rattle.rc_text.specs.Bytes.{LINE_FEED, is_blank, begins_name, decimal_value}
 use Rattle.rc_text.specs.Tokens.{lexeme_of, number_lexeme, tokens_after, tokens_from, with_token, token_of}
 use Rattle.rc_instr.specs.Digits.{read_on, NoDigitFirst}
-use Rattle.rc_instr.proofs.Same.{both}
 use Rattle.rc_instr.proofs.Numerals.{decimal_some, decimal_all, decimal_value as decimal_is}
 
 -- the bytes that belong to a piece are passed over
@@ -74,7 +73,7 @@ digits_len : (ds rest : List ℕ) → all_ascii_digits ds ≡ true → NoDigitFi
 digits_len [] [] p h = refl
 digits_len [] (c ∷ rest) p h = rw h refl
 digits_len (d ∷ ds) rest p h =
-    let q = both (is_ascii_digit d) (all_ascii_digits ds) p in
+    let q = and_parts (is_ascii_digit d) (all_ascii_digits ds) p in
     let i = digits_len ds rest q.1 h in
     rw q.0 (omega (arith, i))
 
@@ -95,7 +94,7 @@ number_fits len n l = let t = lt-ltb n (2 ^ 32) l in rw t refl
 digits_word : (ds rest : List ℕ) (at_line_start : Bool) → 0 < length ds → all_ascii_digits ds ≡ true → NoDigitFirst rest → read_on 0 ds < 2 ^ 32 → lexeme_of at_line_start (ds ++ rest) ≡ TokenOf (length ds) (Number (read_on 0 ds))
 digits_word [] rest at_line_start s p h l = absurd (omega (arith, s))
 digits_word (d ∷ ds) rest at_line_start s p h l =
-    let q = both (is_ascii_digit d) (all_ascii_digits ds) p in
+    let q = and_parts (is_ascii_digit d) (all_ascii_digits ds) p in
     let g = digit_bounds d q.0 in
     let n = digits_len (d ∷ ds) rest p h in
     let v = value_at_front (d ∷ ds) rest p h in

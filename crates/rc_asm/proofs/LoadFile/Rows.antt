@@ -4,7 +4,7 @@ use Rattle.std.specs.Prelude.{nat_le, if◌then◌else◌, ◌==◌, codes}
 use Rattle.std.specs.Fmt.{decimal}
 use Rattle.std.specs.Char.{is_ascii_digit}
 use Rattle.std.specs.Str.{all_ascii_digits}
-use Rattle.std.proofs.lemmas.Bool.{cases_Bool, ne_eqb}
+use Rattle.std.proofs.lemmas.Bool.{cases_Bool, ne_eqb, and_parts}
 use Rattle.std.proofs.Math.Seq.{take-append_seam, drop-append_seam}
 use Rattle.rc_text.specs.declared.token.Sign.TheVariants.{Dot, Comma, Minus}
 use Rattle.rc_text.specs.declared.token.Kind.TheVariants.{Name, Number, LineEnd, Sign as SignOf}
@@ -22,7 +22,6 @@ use Rattle.rc_instr.specs.declared.instruction.Mode.{Mode}
 use Rattle.rc_instr.specs.declared.instruction.Mode.TheVariants as mode
 use Rattle.rc_instr.specs.declared.instruction.Instruction.{Instruction}
 use Rattle.rc_instr.proofs.Numerals.{decimal_some, decimal_all}
-use Rattle.rc_instr.proofs.Same.{both}
 use Rattle.rc_asm.proofs.LoadFile.Printed.{mode_sign, IsWord, AreNumber, Plain, Below, Row, row_tokens, IsPrinted}
 use Rattle.rc_asm.proofs.LoadFile.Pieces.{front, number_word, digit_bounds}
 
@@ -51,7 +50,7 @@ sign_word mode.BPostincrement at_line_start (b ∷ bs) s h = rw h refl
 digits_plain : (ds rest : List ℕ) → 0 < length ds → all_ascii_digits ds ≡ true → IsPlainNext (ds ++ rest)
 digits_plain [] rest s h = absurd (omega (arith, s))
 digits_plain (d ∷ ds) rest s h =
-    let q = both (is_ascii_digit d) (all_ascii_digits ds) h in
+    let q = and_parts (is_ascii_digit d) (all_ascii_digits ds) h in
     let g = digit_bounds d q.0 in
     ne_eqb d 61 (λ e. omega (arith, e, g.high))
 

@@ -6,12 +6,7 @@ use Rattle.rc_text.specs.declared.token.Token.{Token}
 use Rattle.rc_text.specs.declared.class.NameClass.TheVariants.{NoName, Reserved, Predefined, Free}
 use Rattle.rc_text.specs.NameClasses.{is_name, is_reserved, is_predefined, class_of}
 use Rattle.rc_expand.specs.Read.Lines.{is_reserved_class, is_ampersand, is_colon, is_free, label_goes_on, tail_len, begins_label, LabelSplit, label_split, no_labels}
-use Rattle.rc_expand.proofs.Each.{split_at}
-
-split_two : (ts : List Token) (i : ℕ) (u v : Token) → i + 1 < length ts → u ≡ get_or ts i u → v ≡ get_or ts (i + 1) v → drop i ts ≡ u ∷ v ∷ drop (i + 2) ts
-split_two ts i u v h e f =
-    let n : i + 1 + 1 ≡ i + 2 = omega arith in
-    split_at ts i u (omega arith) e ∙ ap (λ r. u ∷ r) (split_at ts (i + 1) v h f ∙ ap (λ k. v ∷ drop k ts) n)
+use Rattle.rc_expand.proofs.Each.{split_at, split_two}
 
 both_true : (a b : Bool) → a && b ≡ true → b ≡ true
 both_true true b h = h

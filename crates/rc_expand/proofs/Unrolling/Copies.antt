@@ -1,23 +1,13 @@
 -- Steps of the copies.
-use Rattle.std.proofs.Common.{◌≡◌, ℕ, ◌+◌, ◌≤◌, ◌<◌, Bool, true, false, List, [], ◌∷◌, ◌++◌, get_or, take, drop, drop-cons, length, length-drop, refl, arith, sym, ◌∙◌, ap, add-one, Option, Some, subst}
+use Rattle.std.proofs.Common.{◌≡◌, ℕ, ◌+◌, ◌≤◌, ◌<◌, Bool, true, false, List, [], ◌∷◌, ◌++◌, get_or, take, drop, length, length-drop, refl, arith, sym, ◌∙◌, ap, Option, Some, subst}
 use Rattle.std.specs.Prelude.{◌&&◌, option_map, option_and_then, nat_lt}
 use Rattle.std.proofs.lemmas.List.{drop-drop}
 use Rattle.std.proofs.lemmas.Bool.Decides.{nat_tests}
 use Rattle.rc_text.specs.declared.token.Token.{Token}
 use Rattle.rc_expand.specs.Limits.{MOST_JOINED}
+use Rattle.rc_expand.proofs.Each.{split_at, split_two}
 use Rattle.rc_expand.specs.Read.Lines.{is_name_token, is_ampersand, has_modifier}
 use Rattle.rc_expand.specs.Unroll.Copies.{NumberingView, is_counter, with_number, joins, with_counter, copied_from, copied_tokens, copied_code}
-
--- an item and what follows it
-pub split_at : {A : Type 0} (xs : List A) (i : ℕ) (x : A) → i < length xs → x ≡ get_or xs i x → drop i xs ≡ x ∷ drop (i + 1) xs
-split_at xs i x h e =
-    let d : drop i xs ≡ get_or xs i x ∷ drop (i + 1) xs = rw add-one (drop-cons xs i x h) in
-    d ∙ ap (λ y. y ∷ drop (i + 1) xs) (sym e)
-
-split_two : (ts : List Token) (i : ℕ) (u v : Token) → i + 1 < length ts → u ≡ get_or ts i u → v ≡ get_or ts (i + 1) v → drop i ts ≡ u ∷ v ∷ drop (i + 2) ts
-split_two ts i u v h e f =
-    let n : i + 1 + 1 ≡ i + 2 = omega arith in
-    split_at ts i u (omega arith) e ∙ ap (λ r. u ∷ r) (split_at ts (i + 1) v h f ∙ ap (λ k. v ∷ drop k ts) n)
 
 module _ (numbering : NumberingView) where
   joins_short_list : (t : Token) (ts : List Token) → length ts ≤ 1 → joins numbering t ts ≡ false

@@ -10,7 +10,7 @@ use Rattle.rc_expand.specs.declared.read.raw_line.RawLine.{RawLine}
 use Rattle.rc_expand.specs.declared.read.raw_line.RawWord.{RawWord}
 use Rattle.rc_expand.specs.declared.read.raw_line.RawWord.TheVariants as word
 use Rattle.rc_expand.specs.Limits.{MOST_JOINED}
-use Rattle.rc_expand.specs.Read.Lines.{choose, is_name_token, is_ampersand, has_modifier}
+use Rattle.rc_expand.specs.Read.Lines.{choose, is_name_token, is_ampersand, is_unjoined, has_modifier}
 
 -- A copy of a block: the counter of the block, if it has one, and the counter's number.
 pub record BlockCopyView : Type 0 where
@@ -109,14 +109,10 @@ module _ (source : List ℕ) where
   line_in [] raw = raw
   line_in (c ∷ cs) raw = line_in cs (line_in_copy c.counter c.number raw)
 
--- No ninth counter can be joined to the token, one of `n` tokens, in however many copies: each
--- counter that is joined takes two tokens away.
-abbrev pub stays_joinable : ℕ → Token → Bool
-stays_joinable n t = nat_le (2 * length t.joined + n) (2 * (MOST_JOINED + 1))
-
--- All of the tokens stay joinable.
+-- No ninth counter can be joined to one of the tokens, in however many copies: none is joined yet,
+-- and each that is joined takes two tokens away.
 abbrev pub is_short : List Token → Bool
-is_short ts = list_all (stays_joinable (length ts)) ts
+is_short ts = nat_le (length ts) (2 * (MOST_JOINED + 1)) && list_all (λ t. is_unjoined t.joined) ts
 
 -- The line is too short for a ninth counter to be joined to a name of it.
 abbrev pub is_short_line : RawLine → Bool

@@ -10,7 +10,7 @@ ghost use Rattle.rc_expand.specs.Names.{entry_of};
 
 use crate::fault::{ExpandFault, ExpandKind, at_line};
 use crate::line::Tokens;
-use crate::name_table::{KeptName, NameTable, copied_name};
+use crate::name_table::{KeptName, NameTable, kept_name};
 use crate::names::{GivenNames, is_taken};
 use crate::read::blocks::BlockSlice;
 use crate::read::labels::plain_token;
@@ -53,7 +53,7 @@ pub(crate) fn collect_equs(
     source: &[u8],
     given: &GivenNames,
     blocks: &BlockSlice,
-) -> Result<NameTable<'static, Equ>, ExpandFault>
+) -> Result<NameTable<Equ>, ExpandFault>
     ensures { Returns (λ t. t) result (equs_of source.now (seen_given_names given.now) (tree_of blocks.now.lines.now)) }
 {
     let mut equs = NameTable::new(alloc);
@@ -72,7 +72,7 @@ fn add_equ(
     alloc: Global,
     source: &[u8],
     given: &GivenNames,
-    equs: &mut NameTable<'static, Equ>,
+    equs: &mut NameTable<Equ>,
     raw: &RawLine,
 ) -> Result<(), ExpandFault>
     ensures { Returns (λ u. equs.new) result (equs_after_line source.now (seen_given_names given.now) raw.now.word raw.now equs.old) }
@@ -91,7 +91,7 @@ fn read_equ(
     given: &GivenNames,
     equs: &NameTable<Equ>,
     raw: &RawLine,
-) -> Result<(KeptName<'static>, Equ), ExpandFault>
+) -> Result<(KeptName, Equ), ExpandFault>
     ensures equ { Returns (λ e. equs.now ++ (e ∷ [])) result (with_equ source.now (seen_given_names given.now) raw.now equs.now) }
     ensures new { IfOk result (λ e. is_some (entry_of equs.now e.0) ≡ false) }
 {
@@ -99,7 +99,7 @@ fn read_equ(
     if is_taken(given, source, token) || equ_line(equs, source, token).is_some() {
         return Err(at_line(raw.number, ExpandKind::DuplicateName));
     }
-    let name = copied_name(alloc, source, token)?;
+    let name = kept_name(alloc, source, token)?;
     let tokens = clone_tokens(alloc, raw.rest.as_slice())?;
     let line = raw.number;
     Ok((name, Equ { tokens, line }))

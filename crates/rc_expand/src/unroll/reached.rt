@@ -1,8 +1,8 @@
 //! Lines that the unrolling has reached: each is kept as a line of the text and the copies that it
 //! is in, and made when it is needed.
 ghost use Rattle.std.specs.Prelude.{◌≡◌, ◌++◌, ◌∷◌, [], IfOk, IfSome};
-ghost use Rattle.rc_expand.specs.Read.Lines.{bare_line};
-ghost use Rattle.rc_expand.specs.Unroll.Copies.{line_in, stays_joinable, is_short, is_short_line};
+ghost use Rattle.rc_expand.specs.Read.Lines.{bare_line, is_unjoined};
+ghost use Rattle.rc_expand.specs.Unroll.Copies.{line_in, is_short, is_short_line};
 ghost use Rattle.rc_expand.specs.Unroll.Openings.{earlier_of};
 ghost use Rattle.rc_expand.specs.Unroll.Reached.{copies_in, have_no_counter, reached_part};
 ghost use Rattle.std.specs.List.{list_all};
@@ -11,6 +11,7 @@ use crate::context::Context;
 use crate::limits::MOST_JOINED;
 use crate::line::Tokens;
 use crate::read::raw_line::{RawLine, clone_raw_line};
+use crate::tokens::is_unjoined;
 use crate::unroll::copy::Numbering;
 use crate::unroll::opening::earlier_labels;
 use rc_text::Token;
@@ -202,19 +203,18 @@ fn are_short(labels: &[Tokens]) -> bool
     labels.iter().all(|label| is_short(label.as_slice()))
 }
 
+// The most tokens among which no ninth counter can be joined to a name: each that is joined takes
+// two tokens away, itself and its `&`.
+const MOST_SHORT: usize = 2 * (MOST_JOINED + 1);
+
 fn is_short(tokens: &[Token]) -> bool
     ensures { result ≡ is_short tokens.now }
 {
-    tokens.iter().all(|t| stays_joinable(t, tokens.len()))
+    tokens.len() <= MOST_SHORT && are_unjoined(tokens)
 }
 
-// The most tokens among which no ninth counter can be joined to a name without counters.
-const MOST_SHORT: usize = 2 * (MOST_JOINED + 1);
-
-// Checks that no ninth counter can be joined to `token`, one of `len` tokens: each counter that is
-// joined takes two tokens away.
-fn stays_joinable(token: &Token, len: usize) -> bool
-    ensures { result ≡ stays_joinable len token.now }
+fn are_unjoined(tokens: &[Token]) -> bool
+    ensures { result ≡ list_all (λ t. is_unjoined t.joined) tokens.now }
 {
-    len <= MOST_SHORT && 2 * token.joined.len() + len <= MOST_SHORT
+    tokens.iter().all(|t| is_unjoined(t))
 }

@@ -27,17 +27,17 @@ fn joined(token: Token, counter: u16) -> Token {
 }
 
 // Adds the first `hi` bytes of `source` to `table`. Returns whether the name is new.
-fn add_front<'a>(
+fn add_front(
     alloc: Global,
-    table: &mut NameTable<'a, u64>,
-    source: &'a [u8],
+    table: &mut NameTable<u64>,
+    source: &[u8],
     hi: usize,
     value: u64,
 ) -> Result<bool, Fail> {
     Ok(table.add(alloc, source, &name_token(hi), value)?)
 }
 
-fn value_of(table: &NameTable<'_, u64>, source: &[u8], token: &Token) -> Option<u64> {
+fn value_of(table: &NameTable<u64>, source: &[u8], token: &Token) -> Option<u64> {
     table.get(source, token).copied()
 }
 
@@ -81,11 +81,11 @@ fn a_name_keeps_its_first_value(rt: HostRuntime) -> Result<(), Fail> {
 }
 
 // Adds `source` with each of 1000 counters. Each such name is new.
-fn add_thousand<'a, A: Abort>(
+fn add_thousand<A: Abort>(
     rt: &A,
     alloc: Global,
-    table: &mut NameTable<'a, u64>,
-    source: &'a [u8],
+    table: &mut NameTable<u64>,
+    source: &[u8],
 ) -> Result<(), Fail> {
     for i in 0..1000_u16 {
         let token = joined(name_token(1), i);
