@@ -1,6 +1,6 @@
 //! The program, apart from `main`: words and three streams in, an exit status out.
 ghost use Rattle.std.specs.Prelude.{◌≡◌, ◌≢◌, ◌⊎◌, map, false, string_bytes, IfErr};
-ghost use Rattle.command_words.specs.CommandLine.{MentionsHelp};
+ghost use Rattle.command_words.specs.Help.{MentionsHelp};
 ghost use Rattle.command_runs.specs.Commands.{IsEnded};
 ghost use Rattle.command_runs.specs.Program.{IsProgramRun};
 
