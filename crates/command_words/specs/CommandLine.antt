@@ -1,5 +1,5 @@
 -- What the words of a command line ask for.
-use Rattle.std.specs.Prelude.{if◌then◌else◌, ◌≡◌, ℕ, ◌≤◌, ◌<◌, ◌^◌, ◌||◌, ◌&&◌, nat_le, Bool, Option, Some, None, List, [], ◌∷◌, ◌++◌, codes}
+use Rattle.std.specs.Prelude.{if◌then◌else◌, ◌≡◌, ℕ, ◌≤◌, ◌<◌, ◌^◌, ◌||◌, ◌&&◌, nat_le, Bool, false, Option, Some, None, List, [], ◌∷◌, ◌++◌, codes}
 use Rattle.std.specs.Option.{unwrap_or}
 use Rattle.std.specs.Str.{byte, bytes_eq}
 use Rattle.std.specs.Fmt.{decimal}
@@ -29,6 +29,11 @@ abbrev pub is_command : List ℕ → Bool
 is_command word =
     bytes_eq word (codes "fight") || (bytes_eq word (codes "asm") || (bytes_eq word (codes "settings")
     || (bytes_eq word (codes "tune") || bytes_eq word (codes "check"))))
+
+-- The flag is among the words before `--`.
+abbrev pub is_given : (flag : List ℕ) → List (List ℕ) → Bool
+is_given flag [] = false
+is_given flag (word ∷ words) = if bytes_eq word (codes "--") then false else (bytes_eq word flag || is_given flag words)
 
 -- The command of a request.
 abbrev pub command_word : Request → List ℕ

@@ -1,7 +1,8 @@
 //! The options that several commands have, and what each command is given.
-ghost use Rattle.std.specs.Prelude.{◌≡◌, IfOk};
+ghost use Rattle.std.specs.Prelude.{◌≡◌, IfOk, map, string_bytes};
 ghost use Rattle.std.specs.Option.{unwrap_or};
 ghost use Rattle.clap.specs.Matches.{found_of};
+ghost use Rattle.command_words.specs.CommandLine.{is_given};
 ghost use Rattle.command_words.specs.Options.{AreRules};
 
 use crate::aim_options::demand_of;
@@ -18,14 +19,18 @@ use tune_cert::{Demand, Share};
 use tune_runs::{Part, RawRules, WhichSetting};
 
 /// Returns whether a flag is among the words before `--`. After it they are files.
-pub fn is_given(words: &[String], flag: &str) -> bool {
-    for word in words {
+pub fn is_given(words: &[String], flag: &str) -> bool
+    ensures { result ≡ is_given flag.now (map string_bytes words.now) }
+{
+    let mut rest = words;
+    while let Some((word, after)) = rest.split_first() {
         if word.as_str() == "--" {
             return false;
         }
         if word.as_str() == flag {
             return true;
         }
+        rest = after;
     }
     false
 }
