@@ -13,7 +13,7 @@ Example: cwtune-landscape my.red my.cert totals.png --effects effects.png
 import contextlib, itertools, math, os, sys
 
 from . import cert_inputs, tuning_files
-from .endings import Fault
+from .endings import Fault, quoted
 from .mean_error import error_of_mean
 from .watching import watched
 from .words import add_files, command_parser
@@ -40,7 +40,7 @@ def load_pyplot():
             import matplotlib.pyplot
     except ModuleNotFoundError:
         raise Fault("no matplotlib for this Python; on Debian: apt-get install "
-                    f"python3-matplotlib, then /usr/bin/python3 {sys.argv[0]} ..", 3) from None
+                    f"python3-matplotlib, then /usr/bin/python3 {quoted(sys.argv[0])} ..", 3) from None
     except ImportError as error:
         raise Fault(f"matplotlib cannot be loaded: {error}", 3) from None
     matplotlib.rcParams.update({"svg.hashsalt": "cwtune", "svg.fonttype": "none",
