@@ -1,10 +1,9 @@
 """Draws the totals of a tuning over its constants, as an SVG or a PNG file by the name's end.
 
-One constant is a line, two are a map of colours, more are a map for each choice of the constants
-beside the two axes. A setting that was dropped has no total, so it is grey: a square of a map,
-lighter if its total can be greater, or a triangle on a line, as high as its total can be at most.
-The best setting is a star, and START a ring; a setting that does not assemble is left white. A
-second picture shows for each constant the mean total of each of its values, with its standard
+Of one constant it is a line, of two a map of colours, of more a map for each choice of the others.
+The best setting is a star, and START a ring. A setting that does not assemble is left white. One
+that was dropped is grey: in a map a square, lighter if its total can be greater, on a line a
+triangle, as high as its total can be at most. A second picture shows for each constant the mean total of each of its values, with its standard
 error, to one scale; it needs every total, so a certificate of `cwtune tune --all`. Needs matplotlib
 (Debian: python3-matplotlib).
 
