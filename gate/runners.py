@@ -19,10 +19,11 @@ ROOMS = ["author", "bench", "gate", "pmars", "release"]
 # The end of a module that can be run.
 MAIN = '\nif __name__ == "__main__":\n'
 # The steps of the gate that take no program, and the other modules that are only asked for help.
-OTHER_STEPS = [EDITS, "gate.runners", "gate.refuse.growth"]
-HELPED = ["gate.gate", "gate.answers", EDITS, "gate.runners", "release.dist", "release.manual"]
-# The modules of gate that are no step of it.
-NO_STEPS = {"gate.gate", "gate.answers"}
+OTHER_STEPS = ["gate.edits_trials", "gate.runners", "gate.refuse.growth"]
+HELPED = ["gate.gate", "gate.answers", EDITS, "gate.edits_trials", "gate.runners", "release.dist",
+          "release.manual"]
+# The modules of gate that are no step after the proofs.
+NO_STEPS = {"gate.gate", "gate.answers", EDITS}
 # The others, which take a program as their last word, by the command that builds it.
 REFUSED = {
     "make build": [*(step for step in STEPS if step not in OTHER_STEPS),
