@@ -5,7 +5,8 @@ another. The edits of a crate are tried in rounds, at most one for each function
 that call one another. One check judges a round: it asks for the edited functions alone, and the
 proof of every other function is a hole, unless it calls itself or is in a cycle of calls. An edit
 is refused if a goal of the function that it changes stays open, or if one of that function's proof
-files fails, and not only because the edit took a name away, or for a premise of a call that it adds.
+files fails; but not if only a premise of a call that the edit adds stays open, or if the proof file
+fails only because the edit took a name away.
 
 A goal that stays open shows what the clause refuses. A proof file that fails shows only that this
 proof is not one of the wrong body: another one might be. So such an edit needs a line

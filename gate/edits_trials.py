@@ -1,4 +1,4 @@
-"""Tries `gate.edits`, and `gate.gate` up to its steps after the proofs, with a stand-in for the kit:
+"""Tries `gate.edits`, and the gate without its steps after the proofs, with a stand-in for the kit:
 how edits are judged, and when their rounds begin beside `rt ci`."""
 import os, pathlib, queue, shutil, subprocess, sys, tempfile, time, types
 
@@ -11,7 +11,8 @@ from .tally import compare, tally
 ROOT = pathlib.Path(__file__).resolve().parent.parent
 # A crate with an edit, the kit that checks it, and its `rt ci`.
 FILES = {
-    "tree/crates/low/src/lib.rt": "fn first() -> u64 {\n    1\n}\n\nfn second() -> u64 {\n    2\n}\n",
+    "tree/crates/low/src/lib.rt":
+        "fn first() -> u64 {\n    1\n}\n\nfn second() -> u64 {\n    2\n}\n",
     "tree/crates/low/must-fail/it.edit":
         "function: low::first\nfile: src/lib.rt\nold:     1\nnew:     one(2)\n",
     "tree/gate/harmless/low.edit":
@@ -119,9 +120,10 @@ def gates(room):
     status, lines = room.run(*words)
     yield compare("a gate: `rt ci` fails beside an edit", (1, "1 passed, 1 failed"),
                   (status, lines[-1]))
+    number = begun.read_text().strip() if begun.exists() else "self"
     # A process that is killed has no words, and then no folder.
-    check = pathlib.Path("/proc", begun.read_text().strip() if begun.exists() else "self", "cmdline")
-    yield compare("the words of its check", b"", check.read_bytes() if check.exists() else b"")
+    words = pathlib.Path("/proc", number, "cmdline")
+    yield compare("the words of its check", b"", words.read_bytes() if words.exists() else b"")
 
 
 def beside():
