@@ -38,11 +38,12 @@ REFUSED = {
 FAILING = "/bin/false"
 TALLY = "from gate.tally import *; exit(tally([('a', []), ('b', LeftOut('no x'))]))"
 # What a case says that is refused, and what is said of it.
-CASES = {'words = "asm $smal dat.red"\nstatus = 0': "no words for `$smal`\n",
-         'words = "asm \'dat.red"\nstatus = 0': "`words`: No closing quotation\n",
-         'words = "asm dat.red"': "no key `status`\n",
-         'words = "asm dat.red"\nstatus = 0\nstate = 1': "unknown key `state`\n",
-         'words = "asm dat.red"\nstatus = "0"': "`status` is of type str, not int\n"}
+CASES = {'words = "asm $smal dat.red"': "no words for `$smal`\n",
+         'words = "asm \'dat.red"': "`words`: No closing quotation\n",
+         "status = 0": "`words` is missing\n",
+         'words = "asm dat.red"\nstate = 1': "unknown key `state`\n",
+         'words = "asm dat.red"\nstatus = "0"': "`status` is of type str, not int\n",
+         'words = "asm dat.red"\nreport = ["1"]': "`report` has six values, in place of `out`\n"}
 
 
 def run(*words):
