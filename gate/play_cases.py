@@ -66,7 +66,7 @@ def variants(case, key):
 
 def fill(text, names):
     """Puts in what names stand for, which may have names in turn, up to three deep."""
-    for _ in range(3 if names else 0):
+    for _ in range(3):
         text = string.Template(text).safe_substitute(names)
     return text
 
@@ -149,7 +149,7 @@ def read_cases(path):
         case["shared_words"] = inputs.WORDS | table.get("words", {})
         case["files"] = table.get("files", {}) | case.get("files", {})
         case["folders"] = table.get("folders", []) + case.get("folders", [])
-        case = {"fill": {}, "long": {}} | case
+        case = {"long": {}} | case | {"fill": inputs.TEXTS | case.get("fill", {})}
         tables = [one for run in variants(case, "runs") for one in variants(run, "each")]
         cases += [way for one in tables for way in ways(filled(one))]
     if len({case["name"] for case in cases}) < len(cases):
