@@ -7,6 +7,7 @@ gate             runs all of it, on a copy of the tree
 answers          which answers the prover does without (run by hand)
 edits            wrong bodies (crates/*/must-fail/) that the prover has to refuse, and for each
                  crate a body (harmless/) that it must not refuse
+edits_trials     how edits are judged, and begun beside `rt ci`, with a stand-in for the kit
 play_cases       the cases: runs of the program as data (cases/)
 documents        what README.md and docs/ show: commands with their output, and tables of runs
 pipes            pipes, closed streams, links, kills
@@ -27,7 +28,7 @@ refuse.two_devices
 
 `author.tests.run` and `release.try_release` try the commands for authors and the release.
 Their libraries: `play` starts the program in a folder, `inputs` has the files that runs share
-(inputs.toml), `tally` counts, `functions` is of `edits`, `cert_inputs` of `cert_inputs_trials` and
-`play`, `ranking_model` of `ranking_trials`, and `refuse.runs` and `refuse.once_each` are of
-`refuse`. `prove.sh` is `make prove`.
+(inputs.toml), `tally` counts, `functions` and `lib.lanes` are of `edits`, `cert_inputs` of
+`cert_inputs_trials` and `play`, `ranking_model` of `ranking_trials`, and `refuse.runs` and
+`refuse.once_each` are of `refuse`. `prove.sh` is `make prove`.
 """

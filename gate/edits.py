@@ -5,7 +5,8 @@ another. The edits of a crate are tried in rounds, at most one for each function
 that call one another. One check judges a round: it asks for the edited functions alone, and the
 proof of every other function is a hole, unless it calls itself or is in a cycle of calls. An edit
 is refused if a goal of the function that it changes stays open, or if one of that function's proof
-files fails, and not only because the edit took a name away.
+files fails; but not if only a premise of a call that the edit adds stays open, or if the proof file
+fails only because the edit took a name away.
 
 A goal that stays open shows what the clause refuses. A proof file that fails shows only that this
 proof is not one of the wrong body: another one might be. So such an edit needs a line
@@ -17,21 +18,21 @@ the function. Each `old:` text occurs once in its file, in the name's line or in
 function. Each round has the crate's edit in gate/harmless/, too, which must not be refused. With
 --control each round is also checked without any edit, and then every function has to be proved.
 
-The libraries under the crates must be built. A round that was judged as it should be is kept in
-~/.cache by a checksum of all that the verdict depends on, and not tried again without --anew.
+The libraries under the crates must be built, but for those that an `rt ci` builds meanwhile: with
+--beside a round waits for them, and takes only what processors and memory are left. A round that
+was judged as it should be is kept in ~/.cache by a checksum of all that the verdict depends on, and
+not tried again without --anew.
 """
-import concurrent.futures, hashlib, importlib.util, os, pathlib, re, shutil, subprocess
-import sys, tempfile
+import collections, hashlib, importlib.util, os, pathlib, re, shutil, subprocess, sys, tempfile
 
 from author.lib.endings import Fault, run_tool
 from author.lib.words import module_parser, number_from
 
 from .functions import functions_of
+from .lib.lanes import Proofs, in_lanes, lanes
 
 ROOT = pathlib.Path(__file__).resolve().parent.parent
 PARTS = ("src", "specs", "proofs")
-# The most memory that the check of a round has been seen to take, in kB.
-ROOM = 4_000_000
 HOLE = """use Rattle.{crate}.proofs.{module}.Statement.{{statement}}
 
 pub {name}_spec : {{M : Type 1}} → statement M
@@ -40,12 +41,13 @@ pub {name}_spec : {{M : Type 1}} → statement M
 
 # What a check says of a function: that a goal of its own is open, that a proof file failed, or that
 # it is proved but for the holes and the functions that it calls.
-OPEN = re.compile(r"no proof: expected answers in ")
+OPEN = re.compile(r"no proof: expected answers in (?:[^;]*; `search` did not prove ([^;]*))?")
 FAILED = re.compile(r"not proved")
 CLOSED = re.compile(r"no holes|depends on a hole in")
 CALLS = re.compile(r"no proof: it calls ")
 ERROR = re.compile(r"(?m)^(?:\./)?([^\s:]+)(?::\d+:\d+)?: error(?:\[[\w-]+\])?: "
                    r"(?:`([^`]*)`: )?(.*)")
+CALL = re.compile(r"(\w+)(?:::<[^()]*>)?\(")
 # Such an error says that the edit took a name away, and nothing of the contract.
 LOST_NAME = re.compile(r"is not in scope|has no field|can be named from here|was not checked")
 # Such an error is of a hole for a function that the check calls by another name.
@@ -204,11 +206,24 @@ def is_refused(edit, said, errors):
     return bool(FAILED.match(words)) and not all(LOST_NAME.search(it) for it in own)
 
 
+def open_premises(edit, said):
+    """Returns the goals that stay open if all of them are premises of calls that the edit adds, so
+    that they show nothing of the contract."""
+    calls = [collections.Counter(CALL.findall(" ".join(it))) for it in zip(*edit.pairs)]
+    added = "|".join(calls[1] - calls[0])
+    found = OPEN.match(words_on(edit, said))
+    goals = re.findall("`([^`]*)`", found and found[1] or "")
+    is_premise = re.compile(rf"(.*-)?({added})-requires(-.*)?").fullmatch
+    return goals if added and all(is_premise(it) for it in goals) else []
+
+
 def faults_of(crate, edits, text):
     """Returns what is wrong with a round by what its check said: edits, and errors beside them."""
     said, errors = read_check(text)
     faults = [f"{edit.name}: NOT REFUSED: {edit.function.path}: {words_on(edit, said)}"
               for edit in edits if not is_refused(edit, said, errors)]
+    faults += [f"{edit.name}: refused only for a premise of a call that it adds: {goals}"
+               for edit in edits if (goals := " ".join(open_premises(edit, said)))]
     words = words_on(crate.harmless, said)
     if not CLOSED.match(words) and not CALLS.match(words):
         faults.append(f"{crate.harmless.function.path}: a harmless edit was refused: {words}")
@@ -266,8 +281,9 @@ def judge(crate, number, edits, options):
     every = [*edits, crate.harmless]
     text = check(crate, every, every, log)
     faults += faults_of(crate, edits, text)
-    said = read_check(text)[0]
-    by_proofs = [edit for edit in edits if not OPEN.match(words_on(edit, said))]
+    said, errors = read_check(text)
+    by_proofs = [edit for edit in edits if is_refused(edit, said, errors)
+                 and not OPEN.match(words_on(edit, said))]
     faults += [f"{edit.name}: a proof file refused it: add a line `breaks: CASE` that says in "
                "which case it breaks the contract" for edit in by_proofs if not edit.breaks]
     by_proofs = [edit.name for edit in by_proofs]
@@ -302,19 +318,7 @@ def crates_of(kit, names):
     if unknown:
         raise Fault(f"no crate is called {min(unknown)}", 2)
     crates = [Crate(kit, it) for it in every if not names or it.name in names]
-    crates = [it for it in crates if it.edits]
-    for crate in crates:
-        unbuilt = [it.name for it in crate.made.below() if not os.path.isdir(it.rlib)]
-        if unbuilt:
-            raise Fault(f"{unbuilt[0]} is not built (`make build` builds it)", 2)
-    return crates[::-1]
-
-
-def lanes():
-    """Returns how many checks run side by side: by the processors and the free memory."""
-    with open("/proc/meminfo") as it:
-        free = next(int(line.split()[1]) for line in it if line.startswith("MemAvailable"))
-    return max(1, min(len(os.sched_getaffinity(0)), free // ROOM))
+    return [it for it in crates if it.edits][::-1]
 
 
 def words():
@@ -322,6 +326,8 @@ def words():
     parser.add_argument("crates", nargs="*", metavar="CRATE",
                         help="whose edits are tried [default: every crate]")
     parser.add_argument("--anew", action="store_true", help="try what was judged before, too")
+    parser.add_argument("--beside", action="store_true", help="read what a running `rt ci` prints "
+                        "from standard input, and run beside it at a low priority")
     parser.add_argument("--control", action="store_true",
                         help="check each round without its edits, too")
     parser.add_argument("--jobs", type=number_from(1), default=lanes(), metavar="N",
@@ -338,14 +344,14 @@ def main():
     crates = crates_of(load_kit(), options.crates)
     if options.logs:
         os.makedirs(options.logs, exist_ok=True)
-    rounds = [(crate, *it) for crate in crates for it in enumerate(crate.rounds(), 1)]
+    rounds = [(crate, *it, options) for crate in crates for it in enumerate(crate.rounds(), 1)]
+    if options.beside:
+        os.nice(19)
     passed = failed = 0
-    with concurrent.futures.ThreadPoolExecutor(options.jobs) as pool:
-        tried = [pool.submit(judge, *it, options) for it in rounds]
-        for one in concurrent.futures.as_completed(tried):
-            count, faults, label = one.result()
-            print("\n".join([label, *(f"  {it}" for it in faults)]), flush=True)
-            passed, failed = passed + max(count - len(faults), 0), failed + len(faults)
+    proofs = Proofs(sys.stdin.readline if options.beside else None)
+    for count, faults, label in in_lanes(rounds, judge, options.jobs, proofs):
+        print("\n".join([label, *(f"  {it}" for it in faults)]), flush=True)
+        passed, failed = passed + max(count - len(faults), 0), failed + len(faults)
     print(f"{passed} passed, {failed} failed")
     return 1 if failed or not passed else 0
 

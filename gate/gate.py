@@ -1,21 +1,22 @@
 """Runs the whole gate on a copy of the tree outside the checkout, as `make test` does.
 
 First `rt ci` proves and tests every crate, without the edits in must-fail/, which it would try one
-by one. Then edits.py judges the edits over the libraries that `rt ci` built, and the other modules
-try the program. The last line sums the steps up, after the lines of the trials that were left out
-since a tool is not installed. If `rt ci` fails, nothing else is run.
+by one. Beside it edits.py judges them, over the libraries that `rt ci` has built, as far as
+processors and memory are left. Then the other modules try the program. The last line sums the steps
+up, after the lines of the trials that were left out since a tool is not installed. If `rt ci`
+fails, nothing else counts or is run.
 """
-import os, pathlib, re, resource, shutil, subprocess, sys, tempfile, time
+import contextlib, os, pathlib, re, resource, shutil, signal, subprocess, sys, tempfile, time
 
 from author.lib.endings import run_tool
 from author.lib.words import module_parser
 
 ROOT = pathlib.Path(__file__).resolve().parent.parent
 EDITS = "gate.edits"
-STEPS = [EDITS, "author.tests.run", "gate.documents",
-         "gate.play_cases", "gate.pipes", "gate.terminals", "gate.cert_inputs_trials",
-         "gate.cuts", "gate.shares", "gate.ranking_trials", "gate.races_trials", "gate.scripts",
-         "gate.runners", "release.try_release", "gate.refuse.two_devices", "gate.refuse.memory",
+STEPS = ["gate.edits_trials", "author.tests.run", "gate.documents", "gate.play_cases", "gate.pipes",
+         "gate.terminals", "gate.cert_inputs_trials", "gate.cuts", "gate.shares",
+         "gate.ranking_trials", "gate.races_trials", "gate.scripts", "gate.runners",
+         "release.try_release", "gate.refuse.two_devices", "gate.refuse.memory",
          "gate.refuse.writes", "gate.refuse.growth"]
 # Ends a step and its children after an hour, with a traceback of where it was. The edits are not
 # ended: a round of those of command_runs is one long check on one processor.
@@ -31,25 +32,51 @@ def copy_tree(to, *left_out):
     shutil.copytree(ROOT, to, ignore=ignored, dirs_exist_ok=True)
 
 
-def run(words, folder, left_out):
-    """Runs a step and prints what it prints. Returns the numbers that passed and failed, and adds
-    the lines of what was left out to `left_out`."""
-    last = ""
+def begin(words, folder, **how):
+    """Begins a step, whose lines are then followed."""
     print(f"{time.strftime('%H:%M:%S')} {' '.join(words)}", flush=True)
-    with subprocess.Popen(words, cwd=folder, env=ENVIRONMENT, stdout=subprocess.PIPE,
-                          encoding="utf-8", errors="replace") as step:
+    return subprocess.Popen(words, cwd=folder, stdout=subprocess.PIPE, encoding="utf-8",
+                            errors="replace", **{"env": ENVIRONMENT, **how})
+
+
+def follow(step, left_out, edits=None):
+    """Prints what a step prints, and passes the lines of `rt` on to `edits`. Returns the numbers
+    that passed and failed, and adds the lines of what was left out to `left_out`."""
+    last = ""
+    with step:
         try:
             for line in step.stdout:
                 print(line, end="", flush=True)
                 last = line
                 if line.startswith("left out: "):
                     left_out.append(line)
+                if edits and line.startswith("rt: "):
+                    with contextlib.suppress(BrokenPipeError):
+                        print(line, end="", file=edits.stdin, flush=True)
         except KeyboardInterrupt:
             step.terminate()
             raise
     count = re.search(r"(\d+) passed, (\d+) failed", last)
     passed, failed = (int(it) for it in count.groups()) if count else (0, 0)
     return passed, max(failed, int(step.returncode != 0 or not count))
+
+
+@contextlib.contextmanager
+def edits_beside(tree, proved, anew):
+    """Begins the edits in a second copy of the tree, which has must-fail/, over the libraries that
+    `rt ci` builds in the copy `proved`. Kills what is left of them at the end, but for temporary
+    files, which are beside the copies."""
+    copy_tree(tree)
+    for crate in (proved / "crates").iterdir():
+        (tree / "crates" / crate.name / "out").symlink_to(crate / "out")
+    edits = begin([sys.executable, "-m", EDITS, "--beside", *anew], tree, stdin=subprocess.PIPE,
+                  process_group=0, env={**ENVIRONMENT, "TMPDIR": str(tree.parent)})
+    try:
+        yield edits
+    finally:
+        if edits.poll() is None:
+            os.killpg(edits.pid, signal.SIGKILL)
+            edits.wait()
 
 
 def minutes(seconds):
@@ -65,18 +92,22 @@ def main():
     with tempfile.TemporaryDirectory(prefix="cwtune-gate-") as name:
         copy = pathlib.Path(name, "cwtune")
         copy_tree(copy, "must-fail")
-        passed, failed = run(["rt", "ci", *anew], copy, left_out)
-        if not failed:
+        with edits_beside(pathlib.Path(name, "edits"), copy, anew) as edits:
+            counts = [follow(begin(["rt", "ci", *anew], copy), left_out, edits)]
+            is_proved = not counts[0][1]
+            if is_proved:
+                with contextlib.suppress(BrokenPipeError):
+                    edits.stdin.close()
+                counts.append(follow(edits, left_out))
+        if is_proved:
             copy_tree(copy)
-        for step in STEPS if not failed else []:
-            words = step.split() + (anew if step == EDITS else [])
-            python = [sys.executable] if step == EDITS else WATCHED
-            counts = run([*python, "-m", *words], copy, left_out)
-            passed, failed = passed + counts[0], failed + counts[1]
+        for step in STEPS if is_proved else []:
+            counts.append(follow(begin([*WATCHED, "-m", step], copy), left_out))
     used = resource.getrusage(resource.RUSAGE_CHILDREN)
     print(f"The gate took {minutes(time.monotonic() - began)}, and "
           f"{minutes(used.ru_utime + used.ru_stime)} of processor time.")
     print(*left_out, sep="", end="")
+    passed, failed = map(sum, zip(*counts))
     print(f"{passed} passed, {failed} failed")
     return 1 if failed else 0
 

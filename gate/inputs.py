@@ -7,7 +7,7 @@ WARRIORS = HERE.parent / "examples" / "warriors"
 SHARED = tomllib.loads((HERE / "inputs.toml").read_text("utf-8"))
 FILES = SHARED["files"] | {path.with_suffix(".red").name: path.read_text("ascii")
                            for path in sorted(WARRIORS.glob("*.load"))}
-WORDS = SHARED["words"]
+WORDS, TEXTS = SHARED["words"], SHARED["texts"]
 RULES = WORDS["small"].split()
 
 

@@ -1,6 +1,6 @@
 """Plays cases of input and output.
 
-gate/cases/README.md says what a case has. One that says anything else, or no `status`, is refused.
+gate/cases/README.md says what a case has. One that says anything else, or no `name`, is refused.
 """
 import concurrent.futures, os, pathlib, re, shlex, string, tempfile, tomllib
 
@@ -14,17 +14,21 @@ from .play import Place, end
 from .tally import tally
 
 FILLED = ["stdin", "out", "err", "err_begins"]
-NEEDED = {"name": str, "status": int}
+NEEDED = {"name": str}
 OPTIONAL = {
+    "status": int,
     "files": dict, "folders": list, "stdin": str, "stdin_from": str, "out_to": str, "cert": str,
-    "each": list, "out": str, "out_begins": str, "out_contains": list, "out_is": str,
+    "each": list, "out": str, "report": list, "out_begins": str, "out_contains": list, "out_is": str,
     "err": str, "err_begins": str, "words": str, "runs": list, "fill": dict,
     "long": dict, "accepted": bool, "terminal": bool, "seconds": int, "megabytes": int,
 }
 # what the tables of `runs` and `each` may say
 MERGED = {**OPTIONAL, **NEEDED, "runs": None, "each": None}
 LONG = {"head": str, "text": str, "times": int, "tail": str}
-SHARED = {"files": dict, "folders": list, "words": dict, "case": list}
+SHARED = {"files": dict, "folders": list, "words": dict, "usual": str, "case": list}
+REPORT = "vectors {}\ncandidates {}\nbest {}\nconstants {}\ntotal {}\nfights {}\n"
+# The exit status of a run that writes a line with such a first word.
+STATUSES = {"refused": 1, "rejected": 1, "error": 2, "failed": 3}
 SECONDS = 120
 PROGRESS_AT_TERMINAL = rb"\r\x1b\[\?7l[^\r\n]*\x1b\[K\x1b\[\?7h|\r\x1b\[K"
 PROGRESS = rb"(?m)^\d+% .*\n"
@@ -62,7 +66,7 @@ def variants(case, key):
 
 def fill(text, names):
     """Puts in what names stand for, which may have names in turn, up to three deep."""
-    for _ in range(3 if names else 0):
+    for _ in range(3):
         text = string.Template(text).safe_substitute(names)
     return text
 
@@ -96,8 +100,20 @@ def filled(case):
         files[name] = long_text(long)
     if "out_is" in case and case["out_is"] not in files:
         raise Fault(f"{case['name']}: no file {case['out_is']}")
+    if "report" in case:
+        if "out" in case or len(case["report"]) != 6:
+            raise Fault(f"{case['name']}: `report` has six values, in place of `out`")
+        case = case | {"out": REPORT.format(*case["report"])}
     made = {key: fill(case[key], names) for key in FILLED if key in case}
-    return case | made | {"files": files, "words": words}
+    case = case | made | {"files": files, "words": words}
+    return case | {"status": status_of(case)}
+
+
+def status_of(case):
+    """Returns the exit status of a case, which its verdict or its fault says."""
+    texts = "\n".join(case.get(key, "") for key in ("out", "err", "err_begins"))
+    said = re.search(rf"(?m)^({'|'.join(STATUSES)})\b", texts)
+    return case.get("status", STATUSES[said[1]] if said else 0)
 
 
 def ways(case):
@@ -128,10 +144,12 @@ def read_cases(path):
         name = f"{path}: {case.get('name')}"
         check_keys(case, NEEDED | OPTIONAL, NEEDED, name)
         case["name"] = name
+        if "usual" in table:
+            case.setdefault("words", table["usual"])
         case["shared_words"] = inputs.WORDS | table.get("words", {})
         case["files"] = table.get("files", {}) | case.get("files", {})
         case["folders"] = table.get("folders", []) + case.get("folders", [])
-        case = {"fill": {}, "long": {}} | case
+        case = {"long": {}} | case | {"fill": inputs.TEXTS | case.get("fill", {})}
         tables = [one for run in variants(case, "runs") for one in variants(run, "each")]
         cases += [way for one in tables for way in ways(filled(one))]
     if len({case["name"] for case in cases}) < len(cases):

@@ -19,10 +19,11 @@ ROOMS = ["author", "bench", "gate", "pmars", "release"]
 # The end of a module that can be run.
 MAIN = '\nif __name__ == "__main__":\n'
 # The steps of the gate that take no program, and the other modules that are only asked for help.
-OTHER_STEPS = [EDITS, "gate.runners", "gate.refuse.growth"]
-HELPED = ["gate.gate", "gate.answers", EDITS, "gate.runners", "release.dist", "release.manual"]
-# The modules of gate that are no step of it.
-NO_STEPS = {"gate.gate", "gate.answers"}
+OTHER_STEPS = ["gate.edits_trials", "gate.runners", "gate.refuse.growth"]
+HELPED = ["gate.gate", "gate.answers", EDITS, "gate.edits_trials", "gate.runners", "release.dist",
+          "release.manual"]
+# The modules of gate that are no step after the proofs.
+NO_STEPS = {"gate.gate", "gate.answers", EDITS}
 # The others, which take a program as their last word, by the command that builds it.
 REFUSED = {
     "make build": [*(step for step in STEPS if step not in OTHER_STEPS),
@@ -37,11 +38,12 @@ REFUSED = {
 FAILING = "/bin/false"
 TALLY = "from gate.tally import *; exit(tally([('a', []), ('b', LeftOut('no x'))]))"
 # What a case says that is refused, and what is said of it.
-CASES = {'words = "asm $smal dat.red"\nstatus = 0': "no words for `$smal`\n",
-         'words = "asm \'dat.red"\nstatus = 0': "`words`: No closing quotation\n",
-         'words = "asm dat.red"': "no key `status`\n",
-         'words = "asm dat.red"\nstatus = 0\nstate = 1': "unknown key `state`\n",
-         'words = "asm dat.red"\nstatus = "0"': "`status` is of type str, not int\n"}
+CASES = {'words = "asm $smal dat.red"': "no words for `$smal`\n",
+         'words = "asm \'dat.red"': "`words`: No closing quotation\n",
+         "status = 0": "`words` is missing\n",
+         'words = "asm dat.red"\nstate = 1': "unknown key `state`\n",
+         'words = "asm dat.red"\nstatus = "0"': "`status` is of type str, not int\n",
+         'words = "asm dat.red"\nreport = ["1"]': "`report` has six values, in place of `out`\n"}
 
 
 def run(*words):

@@ -1,0 +1,168 @@
+"""Tries `gate.edits`, and the gate without its steps after the proofs, with a stand-in for the kit:
+how edits are judged, and when their rounds begin beside `rt ci`."""
+import os, pathlib, queue, shutil, subprocess, sys, tempfile, time, types
+
+from author.lib.endings import run_tool
+from author.lib.words import module_parser
+
+from .lib import lanes
+from .tally import compare, tally
+
+ROOT = pathlib.Path(__file__).resolve().parent.parent
+# A crate with an edit, the kit that checks it, and its `rt ci`.
+FILES = {
+    "tree/crates/low/src/lib.rt":
+        "fn first() -> u64 {\n    1\n}\n\nfn second() -> u64 {\n    2\n}\n",
+    "tree/crates/low/must-fail/it.edit":
+        "function: low::first\nfile: src/lib.rt\nold:     1\nnew:     one(2)\n",
+    "tree/gate/harmless/low.edit":
+        "function: low::second\nfile: src/lib.rt\nold:     2\nnew:     1 + 1\n",
+    "kit/rtlib.py": """import os, types
+RATTLE = os.path.join(os.path.dirname(__file__), "rattle")
+def crates_below(top):
+    folder = os.path.join(top, "crates", "low")
+    return [types.SimpleNamespace(name="low", folder=folder, below=lambda: [],
+                                  words=lambda flags, keeps: flags)]
+""",
+    "kit/rattle": '#!/bin/sh\n. "${0%/*}/said"\n',
+    "kit/rt": '#!/bin/sh\necho "rt: low proved"\n. "${0%/*}/ends"\n',
+}
+HARMLESS, ERROR = "fn low::second: no holes", "proofs/first/Answers.antt:1:1: error: "
+OPEN = "fn low::first: no proof: expected answers in it; `search` did not prove "
+NOT_PROVED, ASKS = "fn low::first: not proved", "add a line `breaks: CASE` that says in which case "
+# What a check says of the edit, and what is wrong with its verdict.
+VERDICTS = [
+    ([OPEN + "`returns`", HARMLESS], ""),
+    ([OPEN + "`returns`, `one-requires`; it calls `low::one`", HARMLESS], ""),
+    ([OPEN + "`two-requires`", HARMLESS], ""),
+    ([OPEN + "`one-requires`, `in-Ok-one-requires-clause-found`", HARMLESS],
+     "it: refused only for a premise of a call that it adds: "
+     "one-requires in-Ok-one-requires-clause-found"),
+    (["fn low::first: no holes", HARMLESS], "it: NOT REFUSED: low::first: no holes"),
+    ([HARMLESS], "it: NOT REFUSED: low::first: the check does not name it"),
+    ([ERROR + "`returns`: it differs", NOT_PROVED, HARMLESS],
+     f"it: a proof file refused it: {ASKS}it breaks the contract"),
+    ([ERROR + "`c.gone` is not in scope", NOT_PROVED, HARMLESS],
+     "it: NOT REFUSED: low::first: not proved"),
+    ([OPEN + "`returns`", "fn low::second: not proved"],
+     "low::second: a harmless edit was refused: not proved"),
+    (["proofs/Lib.antt:1:1: error: it differs", OPEN + "`returns`", HARMLESS],
+     "proofs/Lib.antt: an error that no edit explains: it differs"),
+]
+
+
+class Room:
+    """A folder with a tree of one crate, the modules of the gate and a stand-in for the kit."""
+
+    def __init__(self, name):
+        self.folder = pathlib.Path(name)
+        for part in ("gate", "author/lib"):
+            shutil.copytree(ROOT / part, self.folder / "tree" / part)
+        for path, text in FILES.items():
+            self.write(path, text)
+        # No round waits for memory here.
+        file = self.folder / "tree/gate/lib/lanes.py"
+        file.write_text(file.read_text().replace("SETTLED = 4_000_000,", "SETTLED = 1,"))
+
+    def write(self, path, text):
+        file = self.folder / path
+        file.parent.mkdir(parents=True, exist_ok=True)
+        file.write_text(text)
+        file.chmod(0o755)
+
+    def check_says(self, lines):
+        self.write("kit/said", "".join(f"echo '{it}'\n" for it in lines))
+
+    def run(self, *words):
+        """Runs Python, with the kit on the PATH. Returns the status and the lines."""
+        kit, cache = self.folder / "kit", self.folder / "cache"
+        done = subprocess.run(
+            [sys.executable, *words], cwd=self.folder / "tree", stdout=subprocess.PIPE, text=True,
+            env={**os.environ, "PATH": f"{kit}:{os.environ['PATH']}", "XDG_CACHE_HOME": str(cache)})
+        return done.returncode, done.stdout.split("\n")[:-1]
+
+
+def verdicts(room):
+    """Has `gate.edits` judge what a check says."""
+    for said, wrong in VERDICTS:
+        room.check_says(said)
+        status, lines = room.run("-m", "gate.edits", "--anew")
+        faults = [it.removeprefix("  ") for it in lines if it.startswith("  ")]
+        yield compare(f"a verdict on {said}", (bool(wrong), [wrong] if wrong else []),
+                      (status, faults))
+
+
+def kept(room):
+    """Has a round judged until its verdict is right, which is kept."""
+    for at, before in [(4, ""), (0, ""), (4, " judged before,")]:
+        room.check_says(VERDICTS[at][0])
+        yield compare(f"a round,{before or ' anew'}",
+                      f"low, round 1: 1 edits,{before} 0 refused by a proof file",
+                      room.run("-m", "gate.edits")[1][0])
+
+
+def gates(room):
+    """Runs the gate without its steps after the proofs. An `rt ci` that fails ends the edits."""
+    words = ["-c", "import sys, gate.gate as it; it.STEPS = []; sys.exit(it.main())", "--anew"]
+    passes = "echo 3 passed, 0 failed"
+    for name, at, ends, expected in [
+            ("all is right", 0, passes, (0, "5 passed, 0 failed")),
+            ("an edit is not refused", 4, passes, (1, "4 passed, 1 failed")),
+            ("`rt ci` fails", 0, f"{passes}; exit 1", (1, "3 passed, 1 failed"))]:
+        room.check_says(VERDICTS[at][0])
+        room.write("kit/ends", ends + "\n")
+        status, lines = room.run(*words)
+        yield compare(f"a gate: {name}", expected, (status, lines[-1]))
+    begun = room.folder / "kit/begun"
+    room.write("kit/said", f"echo $$ >'{begun}.new'; mv '{begun}.new' '{begun}'; exec sleep 60\n")
+    room.write("kit/ends", f"for one in $(seq 100); do [ -e '{begun}' ] && echo 1 passed, 1 failed "
+               "&& exit 1; sleep 0.1; done\n")
+    status, lines = room.run(*words)
+    yield compare("a gate: `rt ci` fails beside an edit", (1, "1 passed, 1 failed"),
+                  (status, lines[-1]))
+    number = begun.read_text().strip() if begun.exists() else "self"
+    # A process that is killed has no words, and then no folder.
+    words = pathlib.Path("/proc", number, "cmdline")
+    yield compare("the words of its check", b"", words.read_bytes() if words.exists() else b"")
+
+
+def beside():
+    """Begins the rounds of three crates, one upon another, beside an `rt ci`, one at a time."""
+    begun, said = [], queue.SimpleQueue()
+    proofs, below = lanes.Proofs(lambda: said.get(timeout=20)), []
+    crates = []
+    for name in ("low", "middle", "high"):
+        made = types.SimpleNamespace(name=name, rlib="none", below=lambda it=[*below]: it)
+        below.append(made)
+        crates.insert(0, types.SimpleNamespace(made=made))
+
+    def judge(crate):
+        begun.append(crate.made.name)
+        is_middle = crate.made.name == "middle"
+        said.put("rt: middle is kept: an earlier run proved it\n" if is_middle else "")
+        while is_middle and "middle" not in proofs.names:
+            time.sleep(0.01)
+        return crate.made.name
+
+    said.put("rt: low: its tests are proved\n")
+    said.put("rt: low proved\n")
+    came = list(lanes.in_lanes([(it,) for it in crates], judge, 1, proofs))
+    yield compare("rounds beside `rt ci`", (["middle", "high", "low"],) * 2, (begun, came))
+
+
+def trials():
+    with tempfile.TemporaryDirectory(prefix="cwtune-edits-trials-") as name:
+        room = Room(name)
+        yield from kept(room)
+        yield from verdicts(room)
+        yield from gates(room)
+    yield from beside()
+
+
+def main():
+    module_parser("gate.edits_trials", __doc__).parse_args()
+    return tally(trials())
+
+
+if __name__ == "__main__":
+    run_tool(main)

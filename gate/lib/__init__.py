@@ -1,0 +1,1 @@
+"""What the modules of the gate are made of."""

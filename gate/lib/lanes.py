@@ -1,0 +1,76 @@
+"""Begins the rounds of edits: as many side by side as there are processors and memory for, and
+beside an `rt ci` each round when the libraries that it needs are proved."""
+import concurrent.futures, os, re, time
+
+from author.lib.endings import Fault
+
+# The most memory that the check of a round has been seen to take, in kB, and the seconds after
+# which a check shows how much it takes.
+ROOM, SETTLED = 4_000_000, 30
+PROVED = re.compile(r"rt: (\w+) (?:proved$|is kept: )")
+
+
+def free_memory():
+    """Returns the free memory in kB."""
+    with open("/proc/meminfo") as it:
+        return next(int(line.split()[1]) for line in it if line.startswith("MemAvailable"))
+
+
+def lanes():
+    """Returns how many checks run side by side: by the processors and the free memory."""
+    return max(1, min(len(os.sched_getaffinity(0)), free_memory() // ROOM))
+
+
+class Proofs:
+    """The crates that an `rt ci` has proved, by the lines that it prints, of which `lines` reads
+    one. Without such a run all libraries have to be there."""
+
+    def __init__(self, lines=None):
+        self.lines, self.names, self.are_over = lines, set(), lines is None
+
+    def read(self):
+        line = self.lines()
+        if found := PROVED.match(line):
+            self.names.add(found[1])
+        self.are_over = not line
+
+    def allow(self, crate):
+        """Returns whether the crate's rounds may begin. None does before `rt ci` has proved a
+        crate: it plans by the memory that is free when it starts."""
+        below = crate.made.below()
+        unbuilt = [it.name for it in below if not os.path.isdir(it.rlib)]
+        if self.are_over and unbuilt:
+            raise Fault(f"{unbuilt[0]} is not built (`make build` builds it)", 2)
+        return self.are_over or self.names and self.names.issuperset(it.name for it in below)
+
+
+def has_room(begun):
+    """Returns whether a round has memory beside `rt ci`, which may still take as much, and beside
+    the rounds that were begun at these times."""
+    young = sum(time.monotonic() - it < SETTLED for it in begun)
+    return free_memory() > (2 + young) * ROOM
+
+
+def in_lanes(rounds, judge, jobs, proofs):
+    """Yields what `judge` returns of each round, `jobs` side by side. A round, whose first item is
+    its crate, begins before those after it if `proofs` allow it."""
+    left, running = [*rounds], {}
+    with concurrent.futures.ThreadPoolExecutor(jobs + 1) as pool:
+        reading = None
+        while left or running:
+            if not reading and not proofs.are_over:
+                reading = pool.submit(proofs.read)
+            allowed = [it for it in left if proofs.allow(it[0])]
+            if allowed and len(running) < jobs and (proofs.are_over or has_room(running.values())):
+                left.remove(allowed[0])
+                running[pool.submit(judge, *allowed[0])] = time.monotonic()
+                continue
+            done, _ = concurrent.futures.wait(
+                [*running, *([reading] if reading else [])], SETTLED,
+                concurrent.futures.FIRST_COMPLETED)
+            for it in done:
+                if it == reading:
+                    reading = it.result()
+                else:
+                    del running[it]
+                    yield it.result()
