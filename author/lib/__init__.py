@@ -19,8 +19,8 @@ vary and warrior. Several commands use
 - series, holdout, landscape and vary: commands of which `cwtune-study` imports functions;
 - adapt: texts of pMARS as `cwtune` reads them.
 
-To adapt a text, pmars_tokens, pmars_values, pmars_text and pmars_code read it as pMARS does and make
-its load file. adapt_changes collects meanwhile what has to be written otherwise, expressions by
+To adapt a text, pmars_tokens, pmars_values, pmars_text and pmars_code read it as pMARS does and
+make its load file. adapt_changes collects meanwhile what has to be written otherwise, expressions by
 adapt_values and CURLINE by adapt_counts. adapt_passes writes it, in lines that know where they come
 from (traced), and pmars_program runs pMARS itself.
 

@@ -134,6 +134,16 @@ def say(word, message, status):
     return status
 
 
+def note(text):
+    """Writes a note on standard error."""
+    say("note", text, 0)
+
+
+def tell(line):
+    """Writes a line on standard error."""
+    print(line, file=sys.stderr, flush=True)
+
+
 def status_of(returncode):
     """Returns the status of a command whose `cwtune` has no result: its `returncode` if that is 1
     or 2, else 3, since it then was killed, or ended with 0 where it had to refuse something."""

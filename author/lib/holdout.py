@@ -149,6 +149,11 @@ def gain_numbers(difference):
             "words": gain_words(difference)}
 
 
+def gain_text(gain):
+    """Returns the text of a gain, given its numbers."""
+    return f"{gain['percent']:+.1f}% +- {gain['error']:.1f}, {gain['words']}"
+
+
 class Holdout:
     """The settings of a certificate, and what they make in fresh fights."""
 
@@ -218,8 +223,7 @@ class Holdout:
             print(f"START, setting {start}: does not assemble")
         if points:
             gain = self.fresh_points(self.cert.best).minus(points)
-            print(f"over {other}, setting {self.cert.best}: {gain.mean():+.1f}% +- "
-                  f"{gain.error():.1f}, {gain_words(gain)}")
+            print(f"over {other}, setting {self.cert.best}: {gain_text(gain_numbers(gain))}")
 
     def print_dropped(self):
         """Prints how far the ranking is exact, if settings were dropped."""

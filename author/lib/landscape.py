@@ -3,9 +3,9 @@
 Of one constant it is a line, of two a map of colours, of more a map for each choice of the others.
 The best setting is a star, and START a ring. A setting that does not assemble is left white. One
 that was dropped is grey: in a map a square, lighter if its total can be greater, on a line a
-triangle, as high as its total can be at most. A second picture shows for each constant the mean total of each of its values, with its standard
-error, to one scale; it needs every total, so a certificate of `cwtune tune --all`. Needs matplotlib
-(Debian: python3-matplotlib).
+triangle, as high as its total can be at most. A second picture shows for each constant the mean
+total of each of its values, with its standard error, to one scale; it needs every total, so a
+certificate of `cwtune tune --all`. Needs matplotlib (Debian: python3-matplotlib).
 
 Example: cwtune-landscape my.red my.cert totals.png --effects effects.png
 """
@@ -38,8 +38,8 @@ def load_pyplot():
             matplotlib.use("Agg")
             import matplotlib.pyplot
     except ModuleNotFoundError:
-        raise Fault("no matplotlib for this Python; on Debian: apt-get install "
-                    f"python3-matplotlib, then /usr/bin/python3 {quoted(sys.argv[0])} ..", 3) from None
+        raise Fault("no matplotlib for this Python; on Debian: apt-get install python3-matplotlib, "
+                    f"then /usr/bin/python3 {quoted(sys.argv[0])} ..", 3) from None
     except ImportError as error:
         raise Fault(f"matplotlib cannot be loaded: {error}", 3) from None
     matplotlib.rcParams.update({"svg.hashsalt": "cwtune", "svg.fonttype": "none",

@@ -5,10 +5,10 @@ side by side. What was played is a list of records, which a study keeps in a fil
 begun again with these takes the points from them, up to where it was stopped.
 """
 import argparse, concurrent.futures, operator, os, pathlib, random, resource, shutil
-import subprocess, sys, time
+import subprocess, time
 from typing import NamedTuple
 
-from .endings import Fault, fault_of
+from .endings import Fault, fault_of, tell
 from .program import NO_CANDIDATE, reading_output, rules_of
 from .race_hosts import Hosts, points_of
 from .spread_hosts import read_hosts, refuse_missing_tools
@@ -225,20 +225,19 @@ class Arena:
     def tell_estimate(self, what):
         """Prints about how long the budget lasts, by the fights so far."""
         if not self.seconds_of_jobs:
-            print(f"{what}: goes on where it was stopped", file=sys.stderr, flush=True)
+            tell(f"{what}: goes on where it was stopped")
             return
         rate = self.args.jobs * self.fights / self.seconds_of_jobs
         limits = [self.budget.seconds, self.budget.fights and self.budget.fights / rate]
         seconds = min(filter(None, limits))
-        print(f"{what}: about {round(seconds * rate, -2):.0f} fights in {duration(seconds)} on "
-              f"{counted(self.args.jobs, 'processor')}", file=sys.stderr, flush=True)
+        tell(f"{what}: about {round(seconds * rate, -2):.0f} fights in {duration(seconds)} on "
+             f"{counted(self.args.jobs, 'processor')}")
 
     def tell_progress(self):
         """Prints how far the race is, if some seconds have passed since the last line."""
         if time.monotonic() - self.told_at > PROGRESS_SECONDS:
             self.told_at = time.monotonic()
-            print(f"{100 * self.used():.0f}%: {self.news}, {self.fights} fights", file=sys.stderr,
-                  flush=True)
+            tell(f"{100 * self.used():.0f}%: {self.news}, {self.fights} fights")
 
 
 def joined(pieces):

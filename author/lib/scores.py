@@ -8,7 +8,7 @@ Example: cwtune-scores my.cert
 import concurrent.futures, os
 
 from . import cert_inputs, tuning_files
-from .endings import Fault, say
+from .endings import Fault, note
 from .program import assemble, rules_of
 from .watching import watched
 from .words import (add_files, add_json, add_program, add_rules, command_parser, counted,
@@ -81,7 +81,7 @@ class Warriors:
             try:
                 self.read_load_files(args)
             except Fault as fault:
-                say("note", str(fault), 0)
+                note(str(fault))
 
     def read_load_files(self, args):
         """Assembles each setting whose row does not name another one with an equal warrior."""

@@ -22,7 +22,7 @@ Example: cwtune-spread --jobs 4 my.red fights.csv my.cert dwarf.red scanner.red
 import contextlib, os, shutil, sys, time
 
 from . import cert_inputs, spread_parts, spread_shares, tuning_files
-from .endings import Fault, end_as
+from .endings import Fault, end_as, tell
 from .program import EXPLAIN, reading_output, rules_of, run_program
 from .regular import refuse_endless
 from .spread_folder import SpreadFolder
@@ -132,7 +132,7 @@ def explaining_stop(folder, progress):
         if not stop.args and isinstance(folder, SpreadFolder):
             how = ("repeat the command" if folder.is_removed
                    else how_to_go_on(folder, progress))
-            print(f"stopped: {how}", file=sys.stderr)
+            tell(f"stopped: {how}")
         raise KeyboardInterrupt("said") from None
 
 
@@ -190,8 +190,9 @@ def refuse_floors(parts):
     for part in filter(Part.is_below, parts):
         floor = int(part.report["total"].split()[1])
         if floor - 1 > greatest or floor - 1 == greatest and part.first < best_setting:
-            raise Fault(f"the part from setting {part.first} on says only that it is below {floor}, "
-                        f"and no other total is above {max(greatest, 0)}: it may hide the best", 2)
+            raise Fault(f"the part from setting {part.first} on says only that it is below {floor}"
+                        f", and no other total is above {max(greatest, 0)}: it may hide the best",
+                        2)
 
 
 def refuse_ranking(args, cert):
@@ -224,7 +225,7 @@ def finish(args, folder, progress, notes):
     printed, status = check(args, folder.setting_count, notes, whole) if args.check else ("", 0)
     if status:
         print(printed, end="", flush=True)
-        print(f"{args.cert} is not written, and the parts stay", file=sys.stderr)
+        tell(f"{args.cert} is not written, and the parts stay")
         return status
     verdict, checked_ranks = printed.splitlines()[:1], printed.splitlines()[1:]
     if verdict and checked_ranks != ranks:
@@ -268,8 +269,8 @@ def print_start(args, whole):
     cert, template = tuning_files.Certificate(whole), tuning_files.Template(args.template)
     total = cert.total_of(template.start, tuning_files.read_schedule(args.schedule))
     if total is not None:
-        print(f"  START, setting {template.start}, total {total} "
-              f"{template.constants(template.start)}", file=sys.stderr)
+        tell(f"  START, setting {template.start}, total {total} "
+             f"{template.constants(template.start)}")
 
 
 def tune(args, setting_count, notes):

@@ -10,7 +10,7 @@ from a copy of their file. What is for all pieces, as that copy, has the number 
 """
 import contextlib, hashlib, os, pathlib, re, shlex, shutil, socket, subprocess, sys, tarfile
 
-from .endings import Fault, escaped
+from .endings import Fault, escaped, tell
 from .watching import rewrite
 from .writing import naming
 
@@ -78,7 +78,7 @@ def tell_left_out(reasons):
     for line in lines:
         if sys.stderr.isatty():  # which may show the progress
             rewrite()
-        print(escaped(line), file=sys.stderr)
+        tell(escaped(line))
 
 
 class HostJobs:

@@ -1,6 +1,7 @@
 """Keeps which pieces of `cwtune-spread` are done, and prints the line that says so."""
 import sys, time
 
+from .endings import tell
 from .spread_parts import settings_of
 from .spread_report import best_of, index_of, summed
 from .watching import rewrite
@@ -35,7 +36,7 @@ class Progress:
                 rewrite(line)
             self.shown = line
         elif self.in_log and time.monotonic() - self.last_line_at >= PAUSE:
-            print(self.line(), file=sys.stderr, flush=True)
+            tell(self.line())
             self.last_line_at = time.monotonic()
 
     def clear(self):

@@ -23,7 +23,9 @@ import contextlib, json, os, pathlib, sys
 
 from . import study_fresh, study_inputs, study_report
 from .adapt import add_as_is
+from .endings import tell
 from .grid import Grid
+from .holdout import gain_text
 from .program import Rules, rules_of
 from .race import Contender
 from .race_fights import Arena, Budget, add_budget
@@ -198,7 +200,7 @@ def print_end(folder, report):
     gain = report["gain"]
     print_raced(report) if report["race"] else print_tuned(report)
     if gain and report["winner"]["values"] != report["start"]["values"]:
-        print(f"over START: {gain['percent']:+.1f}% +- {gain['error']:.1f}, {gain['words']}")
+        print(f"over START: {gain_text(gain)}")
         if gain["words"] != "a gain":
             print("keep START: these fights show no gain of winner.red")
     else:
@@ -258,6 +260,6 @@ def main():
         with study.folder.reading("report.json") as report:
             print_json(report) if args.json else print_end(study.folder, report)
     except KeyboardInterrupt:
-        print(f"stopped: what is done is kept in {study.folder.given_path}: repeat the command to "
-              "go on", file=sys.stderr)
+        tell(f"stopped: what is done is kept in {study.folder.given_path}: repeat the command to "
+             "go on")
         raise

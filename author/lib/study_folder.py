@@ -21,8 +21,8 @@ AUTHOR = pathlib.Path(__file__).resolve().parents[1]
 # The names that a study gives in its folder, in its rooms, and those that cwtune-spread gives in
 # the rooms that it makes beside best.cert. `opponents` has the names of the opponents.
 NAMES = {
-    "": r"(original|template|warrior|start|box|found|winner)\.red|schedule\.csv|best\.(cert(\.inputs)?|txt)|"
-        r"(race|challenge)\.jsonl|report\.(json|html)|log\.txt",
+    "": r"(original|template|warrior|start|box|found|winner)\.red|schedule\.csv|log\.txt|"
+        r"best\.(cert(\.inputs)?|txt)|(race|challenge)\.jsonl|report\.(json|html)",
     "fresh": r"(\d+|start)(-\d+)?\.(red|cert|cert\.inputs|csv|report|fault)(\.unfinished-\d+)?",
     **{f"best.cert.{name}": rf"spread\.json|{kind.OWN_FILES}|{kind.UNFINISHED_FILES}"
        for name, kind in [("parts", spread_parts.Parts), ("shares", spread_shares.Shares)]},

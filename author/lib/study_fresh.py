@@ -8,9 +8,9 @@ of heat H), and the certificates (W-H.cert).
 
 The points of a player are a text for each opponent, with a digit for each fight.
 """
-import itertools, sys, time
+import itertools, time
 
-from .endings import end_as
+from .endings import end_as, tell
 from .program import rules_of
 from .race_fights import PROGRESS_SECONDS
 from .spread_jobs import LocalJobs
@@ -48,8 +48,8 @@ class Heat:
     def play(self, players):
         """Plays all fights. Returns the points of each player."""
         shown = "the winner and START" if START in players else f"{len(players)} settings"
-        print(f"fresh fights, heat {self.number}: {shown}, "
-              f"{self.fights * len(self.study.opponents)} each", file=sys.stderr, flush=True)
+        tell(f"fresh fights, heat {self.number}: {shown}, "
+             f"{self.fights * len(self.study.opponents)} each")
         jobs, seconds = LocalJobs(self.study.args, self, players), {}
         told_at = time.monotonic()
         try:
@@ -59,8 +59,7 @@ class Heat:
                     seconds[player] = time.monotonic() - self.began_at[player]
                 if time.monotonic() - told_at > PROGRESS_SECONDS:
                     told_at = time.monotonic()
-                    print(f"heat {self.number}: {len(seconds)} of {len(players)} have played",
-                          file=sys.stderr, flush=True)
+                    tell(f"heat {self.number}: {len(seconds)} of {len(players)} have played")
                 time.sleep(0.01)
         finally:
             jobs.stop()

@@ -5,8 +5,9 @@ first of the box's ranking then play against the winner. The best of these takes
 only if further fights, which picked nothing, show that it is better. What was played is kept in
 `race.jsonl` and `challenge.jsonl`, so that a race that was stopped goes on.
 """
-import contextlib, math, sys, time
+import contextlib, math, time
 
+from .endings import tell
 from .holdout import gain_of, is_gain
 from .race import Race
 from .race_fights import Arena, budget_of
@@ -102,7 +103,7 @@ class RaceOfStudy:
         folder, began_at, winner = self.folder, time.monotonic(), race["winner"]
         ranges, rounds = self.grid.box(winner, self.reach()), self.rounds(race["fights"])
         settings = math.prod(map(len, ranges))
-        print(f"the {settings} settings around the winner are tuned", file=sys.stderr, flush=True)
+        tell(f"the {settings} settings around the winner are tuned")
         folder.write("box.red", self.grid.text(ranges, winner))
         with self.arena("challenge.jsonl", race) as arena:
             fights = sorted(fight for block in arena.new_blocks(rounds) for fight in block)

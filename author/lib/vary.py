@@ -16,7 +16,7 @@ import itertools, math, re, sys
 from typing import NamedTuple
 
 from .adapt import adapt, adapted_text, add_as_is
-from .endings import Fault, say
+from .endings import Fault, note
 from .grid import ADAPTED, KEPT, is_range_line
 from .openings import constant_of, opening_from
 from .places import FIELDS, OPCODES, Span, code_of, lines_of, spot_of, spots_in
@@ -55,12 +55,12 @@ class Varied:
         lines = source.lines()
         for opening in openings:
             spot = spot_of(path, lines, opening.place)
-            constant, note = constant_of(spot, opening, source.text)
+            constant, why = constant_of(spot, opening, source.text)
             twins = spot.twins(lines)
             for twin in twins:
                 self.refuse_twice(twin)
             self.opened += [Opened(twin, constant, twin is twins[0]) for twin in twins]
-            self.notes += [note] * bool(note)
+            self.notes += [why] * bool(why)
         self.constants = [opened.constant for opened in self.opened if opened.has_range]
 
     def refuse_twice(self, spot):
@@ -178,8 +178,8 @@ def source_of(parser, args):
         raise Fault(f"{args.warrior}: it has range lines, so it is a template already")
     read, said = adapted_text(args, args.warrior, text)
     if said:
-        say("note", f"{args.warrior} is adapted to what cwtune reads, as by cwtune-adapt; places "
-            f"and lines are those of {args.warrior}; {said}", 0)
+        note(f"{args.warrior} is adapted to what cwtune reads, as by cwtune-adapt; places and "
+             f"lines are those of {args.warrior}; {said}")
     adapted = None if read == text else adapt(args.warrior, text, rules_of(args), args.program)
     return Source(read.decode("latin-1"), adapted)
 
@@ -209,6 +209,5 @@ def main():
     sys.stdout.buffer.write(varied.template())
     settings = varied.count()
     excess = ": too many for `cwtune tune`; cwtune-study and cwtune-seek have them race"
-    for note in [*varied.notes, counted(settings, "setting")
-                 + (excess if settings > MOST_SETTINGS else "")]:
-        print(f"note: {note}", file=sys.stderr)
+    for text in [*varied.notes, counted(settings, "setting") + excess * (settings > MOST_SETTINGS)]:
+        note(text)

@@ -15,7 +15,7 @@ import argparse, itertools, pathlib, re, sys
 
 from . import cert_inputs, slots, tuning_files
 from .adapt import adapt, add_as_is, adapted_if_refused, read_text, start_of
-from .endings import Fault, say
+from .endings import Fault, note
 from .grid import ADAPTED, is_range_line
 from .openings import place_named
 from .places import assembled_lines, lines_of, spots_in
@@ -148,11 +148,10 @@ def print_pmars_notes(text):
     for number, line in enumerate(text.split(b"\n"), 1):
         code = line.partition(b";")[0]
         if len(line) > MOST_LINE_BYTES:
-            print(f"note: pMARS cuts line {number} at {MOST_LINE_BYTES} bytes", file=sys.stderr)
+            note(f"pMARS cuts line {number} at {MOST_LINE_BYTES} bytes")
         elif match := re.fullmatch(rb"(?i)(?:.*\s)?(nop|dat)\s*", code):
             opcode = match[1].decode().upper()
-            print(f"note: pMARS refuses line {number}: {opcode} without an operand",
-                  file=sys.stderr)
+            note(f"pMARS refuses line {number}: {opcode} without an operand")
 
 
 def checked_text(args, template, setting, totals):
@@ -180,7 +179,7 @@ def text_put_back(args, template, setting, totals, load_file):
     except Fault as fault:
         if fault.status != 1:
             raise
-        say("note", f"{fault}, so this is the adapted text", 0)
+        note(f"{fault}, so this is the adapted text")
         return None
 
 
@@ -216,7 +215,7 @@ def main():
                 raise
             print_start(args, path)
         if not (args.original or args.as_template) and (path != args.template or has_mark(path)):
-            say("note", "this is the adapted text: --original FILE puts the values into yours", 0)
+            note("this is the adapted text: --original FILE puts the values into yours")
 
 
 def has_mark(path):

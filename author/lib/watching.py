@@ -1,6 +1,8 @@
 """Says on standard error how far a command is."""
 import os, sys, time
 
+from .endings import tell
+
 
 def rewrite(line=""):
     """Rewrites the line of the terminal, cut to its width. Without a new one it is cleared."""
@@ -25,7 +27,7 @@ class Watch:
         if cls.at_terminal:
             rewrite(line)
         else:
-            print(line, file=sys.stderr, flush=True)
+            tell(line)
         return True
 
 
