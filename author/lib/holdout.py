@@ -131,22 +131,13 @@ def gain_of(points, weights):
     return first.minus(second) if first.by_opponent else None
 
 
-def is_gain(difference):
-    """Returns whether differences of points are a gain: by more than two standard errors."""
-    return difference.mean() > 2 * difference.error()
-
-
-def gain_words(difference):
-    """Returns words that say whether differences of points are a gain."""
-    if abs(difference.mean()) > 2 * difference.error():
-        return "a gain" if difference.mean() > 0 else "a loss"
-    return "no difference that these fights show"
-
-
 def gain_numbers(difference):
-    """Returns a gain in percentage points with its error, and what it is in words."""
-    return {"percent": difference.mean(), "error": difference.error(),
-            "words": gain_words(difference)}
+    """Returns a gain in percentage points with its error, and what it is in words: a gain or a loss
+    is more than two standard errors."""
+    percent, error = difference.mean(), difference.error()
+    words = ("no difference that these fights show" if abs(percent) <= 2 * error
+             else "a gain" if percent > 0 else "a loss")
+    return {"percent": percent, "error": error, "words": words}
 
 
 def gain_text(gain):

@@ -32,7 +32,7 @@ from .race_fights import Arena, Budget, add_budget
 from .series import series_fights
 from .study_folder import StudyFolder
 from .study_race import RaceOfStudy
-from .study_result import report_numbers
+from .study_result import raced_numbers, tuned_numbers
 from .tuning_files import MOST_FIGHTS, MOST_SETTINGS, Certificate, read_schedule, schedule_text
 from .words import add_json, add_program, add_rules, command_parser, number_from, print_json
 from .writing import temporary_folder
@@ -56,13 +56,6 @@ class Study:
     def author_words(self, name, *words):
         """Returns the words of a command for authors that takes the program and the rules."""
         return [name, *words, f"--program={self.args.program}", *self.rules]
-
-    def spread_words(self, *words):
-        """Returns the words by which cwtune-spread tunes the box."""
-        hosts = [f"--hosts={self.args.hosts}"] if self.args.hosts else []
-        return self.author_words("cwtune-spread", *words, *hosts, f"--jobs={self.args.jobs}",
-                                 "--progress", "box.red", "schedule.csv", "best.cert",
-                                 *self.opponents)
 
     def write_series(self, seed, rounds, name):
         """Writes the schedule that `cwtune-series` writes, which the log has."""
@@ -99,10 +92,12 @@ class Study:
         """Makes box.red, the settings that are tuned: here all of the template."""
         self.folder.run(["cat", "template.red"], "box.red")
 
-    def tune_all(self):
-        """Plays every fight of the box, and has the certificate checked. Returns how many fights
-        that were, and the line of the check."""
-        self.folder.run(self.spread_words("--all", "--check"), "best.txt", logs_messages=False)
+    def tune_box(self, *words):
+        """Tunes the box. Returns how many fights that took, and the last line, that of a check."""
+        hosts = [f"--hosts={self.args.hosts}"] if self.args.hosts else []
+        self.folder.run(self.author_words(
+            "cwtune-spread", *words, *hosts, f"--jobs={self.args.jobs}", "--progress", "box.red",
+            "schedule.csv", "best.cert", *self.opponents), "best.txt", logs_messages=False)
         lines = (self.folder.path / "best.txt").read_text().splitlines()
         fights = next(line.split()[1] for line in lines if line.startswith("fights "))
         return {"fights": int(fights), "check": lines[-1]}
@@ -132,7 +127,7 @@ class Study:
         print(f"all {grid.count()} settings are tuned: their ranking is exact", flush=True)
         if "best" not in self.folder.mark.stages:
             self.tell_estimate(grid)
-        tuning = stage("best", self.tune_all, "best.cert", "best.txt")
+        tuning = stage("best", lambda: self.tune_box("--all", "--check"), "best.cert", "best.txt")
         winner, points, last_points = study_fresh.find_winner(self, self.first_settings())
         stage("winner", lambda: self.write_winner(winner, "box.red"), "winner.red")
         return {"tuning": tuning, "winner": winner, "points": points, "last_points": last_points}
@@ -155,7 +150,7 @@ class Study:
 
     def write_report(self, results):
         """Writes report.json and report.html."""
-        report = report_numbers(self, results)
+        report = (raced_numbers if "race" in results else tuned_numbers)(self, results)
         self.folder.write("report.json", (json.dumps(report, indent=1) + "\n").encode())
         self.folder.write("report.html", study_report.html_of(report).encode(errors="replace"))
 

@@ -55,7 +55,11 @@ class Heat:
         try:
             while jobs.keep_running():
                 for player, status in jobs.take_ended():
-                    self.refuse_failed(player, status)
+                    if status:
+                        end_as(self.study.args.program, status,
+                               self.file(player, "fault").read_bytes())
+                    for kind in ["report", "fault"]:
+                        self.file(player, kind).unlink()
                     seconds[player] = time.monotonic() - self.began_at[player]
                 if time.monotonic() - told_at > PROGRESS_SECONDS:
                     told_at = time.monotonic()
@@ -66,13 +70,6 @@ class Heat:
         for player in players:
             self.study.folder.log_command(self.words(player), "", seconds[player])
         return {player: self.points(player) for player in players}
-
-    def refuse_failed(self, player, status):
-        """Ends as the run of a player did if it has no result. Else removes what it printed."""
-        if status:
-            end_as(self.study.args.program, status, self.file(player, "fault").read_bytes())
-        for kind in ["report", "fault"]:
-            self.file(player, kind).unlink()
 
     def points(self, player):
         """Returns the points of a player, which are in its certificate."""
@@ -108,13 +105,6 @@ def play_heat(study, number, players, fights):
                         *(f"fresh/{player}.red" for player in new_players))
 
 
-def better_half(players, points, weights):
-    """Returns the better half of the players, two at least. Of equal ones the first go on."""
-    ranked = sorted(players, key=lambda player: -total_of(points[player], weights))
-    better = ranked[:max(2, (len(players) + 1) // 2)]
-    return [player for player in players if player in better]
-
-
 def total_of(points, weights):
     return sum(weight * sum(map(int, text)) for text, weight in zip(points, weights))
 
@@ -129,7 +119,9 @@ def halve(study, settings):
             points[player] = [text + new_text for text, new_text in zip(before, new_points)]
         if len(players) <= 2:
             return number, points
-        players = better_half(players, points, study.args.weights)
+        ranked = sorted(players, key=lambda player: -total_of(points[player], study.args.weights))
+        better = ranked[:max(2, (len(players) + 1) // 2)]
+        players = [player for player in players if player in better]
 
 
 def find_winner(study, settings):
@@ -139,7 +131,6 @@ def find_winner(study, settings):
     fights_of = {player: len(texts[0]) for player, texts in points.items()}
     most_fights = max(fights_of.values())
     finalists = [player for player in points if fights_of[player] == most_fights]
-    winner = max(finalists, key=lambda player: total_of(points[player],
-                                                                study.args.weights))
+    winner = max(finalists, key=lambda player: total_of(points[player], study.args.weights))
     fights = min(most_fights, MOST_FIGHTS // len(study.opponents))
     return winner, points, play_heat(study, heats + 1, [winner, START], fights)

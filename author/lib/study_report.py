@@ -23,10 +23,16 @@ ERROR_NOTE = "± is one standard error."
 def html_of(report):
     """Returns the page of a report, a string that UTF-8 can hold."""
     return page(f"{report['title']}: a study by cwtune", [
-        *opening(report), *exactness(report), *comparison(report), *opponents(report),
+        *opening(report),
+        *section("What is proved, and what is measured", "<ul>", *(
+            f"<li>{item}</li>"
+            for item in (raced_items if report["race"] else tuned_items)(report)), "</ul>"),
+        *comparison(report), *opponents(report),
         *(landscape(report) if report["landscape"] else ()),
         *(finalists(report) if report["race"] else ranking(report)),
-        *making(report), *winner_text(report)])
+        *making(report),
+        *section(f"The winner’s text: <code>{WINNER_FILE}</code>",
+                 source(f"The text of {WINNER_FILE}", report["winner_text"]))])
 
 
 def section(heading, *pieces):
@@ -54,13 +60,6 @@ def opening(report):
     if start["values"] == winner["values"]:
         notes.insert(0, "The winner is START itself.")
     return [title, paragraph(sentence, "lead"), paragraph(" ".join(notes), "soft")]
-
-
-def exactness(report):
-    """Returns what is proved, and what is measured."""
-    items = raced_items(report) if report["race"] else tuned_items(report)
-    return section("What is proved, and what is measured",
-                   f"<ul>{''.join(f'<li>{item}</li>' for item in items)}</ul>")
 
 
 def tuned_items(report):
@@ -344,9 +343,3 @@ def making(report):
                    paragraph("Each can be typed in the folder of this report.", "soft"),
                    commands(report["commands"]), "<h3>Digests</h3>",
                    digests("Opponents", report["opponents"]), digests("Files", report["files"]))
-
-
-def winner_text(report):
-    """Returns the text of the winner, by the name of its file."""
-    return section(f"The winner’s text: <code>{WINNER_FILE}</code>",
-                   source(f"The text of {WINNER_FILE}", report["winner_text"]))

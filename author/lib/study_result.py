@@ -159,8 +159,3 @@ def raced_numbers(study, results):
         middle = found.template.values_of_settings.index(tuple(race["winner"]))
         report |= {"landscape": found.landscape(middle), "effects": found.effects()}
     return report
-
-
-def report_numbers(study, results):
-    """Returns the report, of what the stages of the study found."""
-    return (raced_numbers if "race" in results else tuned_numbers)(study, results)
