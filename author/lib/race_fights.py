@@ -11,7 +11,7 @@ from typing import NamedTuple
 from .endings import Fault, fault_of, tell
 from .program import NO_CANDIDATE, reading_output, rules_of
 from .race_hosts import Hosts, points_of
-from .spread_hosts import read_hosts, refuse_missing_tools
+from .spread.hosts import read_hosts, refuse_missing_tools
 from .tuning_files import Fight, schedule_text
 from .words import counted, number_from
 

@@ -9,7 +9,7 @@ from typing import NamedTuple
 from .endings import Fault, fault_of
 from .program import reading_output
 from .race import SETTINGS_AT_ONCE
-from .spread_hosts import HostJobs, read_hosts
+from .spread.hosts import HostJobs, read_hosts
 from .tuning_files import MOST_FIGHTS, schedule_text
 
 # Hosts play what takes longer than that here; for one of their processors it is a piece.

@@ -3,7 +3,7 @@
 import argparse, os
 from unittest import mock
 
-from author.lib.spread_hosts import HostJobs
+from author.lib.spread.hosts import HostJobs
 from gate.inputs import RULES
 
 from .spread_trial import DECOY, RANKED, SpreadTrial, left_over

@@ -243,7 +243,8 @@ class Refusals(Trial):
                 "only the first of the ranking is exact; cwtune tune --keep 10 makes the first 10 "
                 "exact", "setting 1: total 4"]),
             ("two-exact.cert two.csv --top=2", [
-                "the first 2 of the ranking are exact", "setting 1: total 4", "setting 0: total 3"]),
+                "the first 2 of the ranking are exact", "setting 1: total 4",
+                "setting 0: total 3"]),
         ]:
             output = self.call(f"cwtune-scores {words}").out
             self.same(f"the ranking of {words}", [

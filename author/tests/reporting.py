@@ -2,8 +2,8 @@
 import copy, html.parser, re
 from xml.etree import ElementTree
 
-from author.lib import study_charts, study_map, study_page
-from author.lib.study_report import html_of
+from author.lib.study import charts, maps, page as pieces
+from author.lib.study.report import html_of
 
 from .report_samples import HOSTILE, REPORTS
 from .trial import Trial
@@ -199,26 +199,26 @@ class Reporting(Trial):
         spellings = [plain_list, plain_list | {"totals": [[5], [None], [7]]},
                      plain_list | {"totals": [[5, None, 7]]}]
         self.same("totals of one constant", 3 * [[[5, None, 7]]],
-                  [study_map.read_landscape(spelling, {}).totals for spelling in spellings])
-        landscape = study_map.Landscape(["A", "B"], [[1, 2, 3], [4, 5]],
+                  [maps.read_landscape(spelling, {}).totals for spelling in spellings])
+        landscape = maps.Landscape(["A", "B"], [[1, 2, 3], [4, 5]],
                                         [[1, 2], [3, None], [None, None]])
-        step, thin = study_map.thinned(landscape, 2)
+        step, thin = maps.thinned(landscape, 2)
         self.same("thinned", (2, [[3], [None]], [[1, 3], [4]]), (step, thin.totals, thin.ranges))
         self.same("places", [(1, 1), None],
                   [landscape.place({"A": 2, "B": 5}), landscape.place({"A": 9, "B": 5})])
         self.same("shades", [0, 3, 6],
-                  [study_map.shade_of(total, 10, 80) for total in (10, 45, 80)])
+                  [maps.shade_of(total, 10, 80) for total in (10, 45, 80)])
 
     def test_numbers(self):
         """Spells numbers and texts."""
-        self.same("escaped", "&lt;&amp;&quot;&#x27;\ufffd\n", study_page.escaped("<&\"'\udcff\r\n"))
+        self.same("escaped", "&lt;&amp;&quot;&#x27;\ufffd\n", pieces.escaped("<&\"'\udcff\r\n"))
         self.same("counts", ["–", "0", "9999", "10,000", "-20"],
-                  list(map(study_page.integer, [None, 0, 9999, 10000, -20])))
+                  list(map(pieces.integer, [None, 0, 9999, 10000, -20])))
         self.same("decimals", ["–", "–", "0.0", "-1.5", "12,345.7"],
-                  list(map(study_page.decimal, [None, float("nan"), 0, -1.5, 12345.67])))
+                  list(map(pieces.decimal, [None, float("nan"), 0, -1.5, 12345.67])))
         # Of 3, 3, 1 and 0 points the variance is 2.25, and the error of the mean 0.75.
-        self.same("an error", "25.0", study_page.decimal(
-            study_charts.error_of({"wins": 2, "ties": 1, "losses": 1})))
+        self.same("an error", "25.0", pieces.decimal(
+            charts.error_of({"wins": 2, "ties": 1, "losses": 1})))
         self.same("ticks", [[3000, 3020, 3040], [0.5], [-1, 0, 1]],
-                  [study_charts.Scale(*ends, 0, 9).ticks()
+                  [charts.Scale(*ends, 0, 9).ticks()
                    for ends in [(2990, 3055), (0.5, 0.5), (-1.2, 1.9)]])

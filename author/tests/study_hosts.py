@@ -4,7 +4,7 @@ import argparse, contextlib, io
 from unittest import mock
 
 from author.lib import grid, race, race_fights, race_hosts
-from author.lib.spread_jobs import LocalJobs
+from author.lib.spread.jobs import LocalJobs
 from author.lib.writing import temporary_folder
 
 from .hosts import NOTHING, OnHosts

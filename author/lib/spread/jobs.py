@@ -5,7 +5,7 @@ what it reads, `words` is what it runs in `path`, and `file` where each kind of 
 """
 import subprocess
 
-from .endings import end_with_parent
+from ..endings import end_with_parent
 
 
 class LocalJobs:

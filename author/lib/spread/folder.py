@@ -15,11 +15,11 @@ written once the piece has a result, so neither a kill nor a crash leaves half o
 import dataclasses, json, os, shutil
 from typing import Annotated, NamedTuple
 
-from .endings import Fault
-from .own_folder import OwnFolder
-from .regular import open_regular, sha256_of
-from .schema import Malformed, NotJson
-from .tuning_files import MOST_SETTINGS
+from ..endings import Fault
+from ..own_folder import OwnFolder
+from ..regular import open_regular, sha256_of
+from ..schema import Malformed, NotJson
+from ..tuning_files import MOST_SETTINGS
 
 # What the jobs of pieces have: their output, and on other hosts their archives, the inputs of all
 # pieces, the hosts, what rsync has not ended, and what GNU parallel keeps while it runs.

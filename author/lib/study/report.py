@@ -5,8 +5,8 @@ computed from it: an opponent's standard error comes from its wins, ties and los
 """
 import math
 
-from . import study_charts, study_map
-from .study_page import (DASH, decimal, escaped, folded, fresh_percent, integer, name_list, page,
+from . import charts, maps
+from .page import (DASH, decimal, escaped, folded, fresh_percent, integer, name_list, page,
                          source, table, with_error)
 
 WINNER_FILE = "winner.red"
@@ -158,7 +158,7 @@ def opponents(report):
                    key=lambda line: -line[0]["percent"])
     heads = ["opponent", "gain", START, WINNER, *OUTCOMES, *OUTCOMES]
     rows = [opponent_row(gain, sides) for gain, sides in lines]
-    bars = study_charts.draw_bars(*zip(*(sides for _, sides in lines)))
+    bars = charts.draw_bars(*zip(*(sides for _, sides in lines)))
     return section(
         "Opponent by opponent", f"<figure>{bars}</figure>",
         table("Fresh fights against each opponent", heads, rows,
@@ -170,17 +170,17 @@ def opponents(report):
 
 def landscape(report):
     """Returns the totals of the box, and what each constant does to them."""
-    box = study_map.read_landscape(report["landscape"], lists_of(report))
+    box = maps.read_landscape(report["landscape"], lists_of(report))
     start_values, winner_values = (report[side]["values"] for side in ("start", "winner"))
     is_small = box.count() <= MOST_CELLS
-    step, picture = study_map.draw_landscape(box, start_values, winner_values, is_small)
+    step, picture = maps.draw_landscape(box, start_values, winner_values, is_small)
     notes = [f"{escaped(name)} is held at {escaped(value)}, the winner's value."
              for name, value in shown_values(report, winner_values).items()
              if name not in box.names]
     if step > 1:
         shown = "point" if len(box.names) == 1 else "square"
         notes.append(f"Each {shown} is the greatest total among {step} values of each constant.")
-    if study_map.is_outside(start_values, winner_values, box):
+    if maps.is_outside(start_values, winner_values, box):
         shown = values_text(shown_values(report, start_values))
         notes.append(f"START is not in this picture: {shown}.")
     if all(opponent["weight"] == 1 for opponent in report["opponents"]):
@@ -223,7 +223,7 @@ def effects(report):
         return []
     pictures = "".join(
         f"<figure>{picture}</figure>"
-        for picture in study_charts.draw_effects(of_constants, report["winner"]["values"], lists))
+        for picture in charts.draw_effects(of_constants, report["winner"]["values"], lists))
     pieces = ["<h3>What each constant does</h3>", paragraph(
         "The mean tuned total of each value, over all settings of the box that have it, with its "
         f"standard error. A filled mark is the winner's value. {ERROR_NOTE}"),

@@ -8,11 +8,11 @@ the line that the check of share I printed.
 import csv, re
 from typing import Annotated
 
-from .endings import Fault
-from .program import rules_of
-from .regular import read_regular, sha256_of
-from .spread_folder import JOB_FILES, Copy, SpreadFolder, copies_of
-from .spread_parts import COUNT, MOST_REPORT_BYTES, RANK, fault_of_job
+from ..endings import Fault
+from ..program import rules_of
+from ..regular import read_regular, sha256_of
+from .folder import JOB_FILES, Copy, SpreadFolder, copies_of
+from .parts import COUNT, MOST_REPORT_BYTES, RANK, fault_of_job
 
 ACCEPTED = re.compile(rf"accepted share ({COUNT})/({COUNT}) best ({COUNT}) total ({COUNT})\n"
                       rf"(?P<ranks>({RANK})*)")

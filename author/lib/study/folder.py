@@ -10,14 +10,15 @@ of a stage that is done has to stay as it was.
 import contextlib, dataclasses, json, os, pathlib, re, subprocess, sys, time
 from typing import Annotated, Any, TypedDict
 
-from . import spread_parts, spread_shares
-from .endings import Fault, end_with_parent, ended_with, quoted, shown, status_of
-from .own_folder import OwnFolder, real_parent
-from .program import DEFAULT
-from .schema import Malformed, checked
-from .writing import naming
+from ..endings import Fault, end_with_parent, ended_with, quoted, shown, status_of
+from ..own_folder import OwnFolder, real_parent
+from ..program import DEFAULT
+from ..schema import Malformed, checked
+from ..spread.parts import Parts
+from ..spread.shares import Shares
+from ..writing import naming
 
-AUTHOR = pathlib.Path(__file__).resolve().parents[1]
+AUTHOR = pathlib.Path(__file__).resolve().parents[2]
 # The names that a study gives in its folder, in its rooms, and those that cwtune-spread gives in
 # the rooms that it makes beside best.cert. `opponents` has the names of the opponents.
 NAMES = {
@@ -25,7 +26,7 @@ NAMES = {
         r"best\.(cert(\.inputs)?|txt)|(race|challenge)\.jsonl|report\.(json|html)",
     "fresh": r"(\d+|start)(-\d+)?\.(red|cert|cert\.inputs|csv|report|fault)(\.unfinished-\d+)?",
     **{f"best.cert.{name}": rf"spread\.json|{kind.OWN_FILES}|{kind.UNFINISHED_FILES}"
-       for name, kind in [("parts", spread_parts.Parts), ("shares", spread_shares.Shares)]},
+       for name, kind in [("parts", Parts), ("shares", Shares)]},
 }
 # How notes on the adapted text begin. The author was told that it is adapted, by the name of the
 # file that was given.
@@ -70,7 +71,7 @@ class Stage(TypedDict):
 
 
 class Fingerprint(TypedDict):
-    """The fingerprint of what a study depends on; `study_inputs` says what else it has."""
+    """The fingerprint of what a study depends on; `inputs` says what else it has."""
 
     opponents: list[tuple[Annotated[str, re.compile(r"(?!\.\.?$)[^/\0\n]+")], str]]
 

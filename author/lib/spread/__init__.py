@@ -21,19 +21,20 @@ Example: cwtune-spread --jobs 4 my.red fights.csv my.cert dwarf.red scanner.red
 """
 import contextlib, os, shutil, sys, time
 
-from . import cert_inputs, spread_parts, spread_shares, tuning_files
-from .endings import Fault, end_as, tell
-from .program import EXPLAIN, reading_output, rules_of, run_program
-from .regular import refuse_endless
-from .spread_folder import SpreadFolder
-from .spread_hosts import HostJobs
-from .spread_jobs import LocalJobs
-from .spread_parts import Part
-from .spread_progress import PartsProgress, SharesProgress
-from .spread_report import best_of, index_of, ranks_of, report_lines, write_whole
-from .spread_words import MOST_PIECES, add_options, refuse_idle
-from .words import command_parser
-from .writing import naming, whole_file
+from .. import cert_inputs, tuning_files
+from ..endings import Fault, end_as, tell
+from ..program import EXPLAIN, reading_output, rules_of, run_program
+from ..regular import refuse_endless
+from ..words import command_parser
+from ..writing import naming, whole_file
+from .folder import SpreadFolder
+from .hosts import HostJobs
+from .jobs import LocalJobs
+from .parts import ClusterParts, Part, Parts
+from .progress import PartsProgress, SharesProgress
+from .report import best_of, index_of, ranks_of, report_lines, write_whole
+from .shares import ClusterShares, Shares, keep_words, verdict_of
+from .words import MOST_PIECES, add_options, refuse_idle
 
 NO_SUCH_PART = b"error: --part I/K: the template has fewer than K settings\n"
 
@@ -70,7 +71,7 @@ def tune_part(args, part):
 def tune_options(args):
     """Returns the rules, the method and the ranking of the tuning as options of `tune`."""
     return [*rules_of(args).words(), "--all" if args.all else f"--cache={args.cache}",
-            *spread_shares.keep_words(args.keep)]
+            *keep_words(args.keep)]
 
 
 def method_of(args):
@@ -97,7 +98,7 @@ def rejection_by_form(args, cert, notes):
     The first of 4294967295 shares has no setting, so nothing else is looked at.
     """
     completed = run_program(args.program, "check", f"--share=1/{MOST_PIECES}",
-                            *explain_words(args), *spread_shares.keep_words(args.keep),
+                            *explain_words(args), *keep_words(args.keep),
                             *rules_of(args).words(), "--", args.template, args.schedule, cert,
                             *args.opponent)
     new_stderr = completed.stderr.removeprefix(notes)
@@ -112,13 +113,13 @@ def check(args, setting_count, notes, cert):
     if line := rejection_by_form(args, cert, notes):
         return line, 1
     merges = args.check_only and args.merge
-    shares = (spread_shares.ClusterShares(args, setting_count) if merges
-              else spread_shares.Shares(args, setting_count, cert))
+    shares = (ClusterShares(args, setting_count) if merges
+              else Shares(args, setting_count, cert))
     progress = SharesProgress(shares, args.progress)
     with explaining_stop(shares, progress):
         refuse_missing(shares, progress, run_jobs(args, shares, progress))
         shares.refuse_changed_inputs()
-        verdict = spread_shares.verdict_of(progress.done(), cert)
+        verdict = verdict_of(progress.done(), cert)
         shares.clean_up()
     return verdict, 0 if verdict.startswith("accepted") else 1
 
@@ -277,8 +278,8 @@ def tune(args, setting_count, notes):
     """Tunes in parts, or puts together what the jobs of a cluster wrote. Returns the status."""
     if args.merge and args.merge > setting_count:
         raise Fault(f"--merge {args.merge}: the template has fewer than {args.merge} settings", 2)
-    folder = (spread_parts.ClusterParts(args, setting_count) if args.merge
-              else spread_parts.Parts(args, setting_count, tune_options(args)))
+    folder = (ClusterParts(args, setting_count) if args.merge
+              else Parts(args, setting_count, tune_options(args)))
     progress = PartsProgress(folder, args.progress)
     for number in range(1, (args.merge or 0) + 1):
         part = f"{number}/{args.merge}"

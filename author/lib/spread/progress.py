@@ -1,10 +1,10 @@
 """Keeps which pieces of `cwtune-spread` are done, and prints the line that says so."""
 import sys, time
 
-from .endings import tell
-from .spread_parts import settings_of
-from .spread_report import best_of, index_of, summed
-from .watching import rewrite
+from ..endings import tell
+from ..watching import rewrite
+from .parts import settings_of
+from .report import best_of, index_of, summed
 
 # Seconds from a line in a log to the next.
 PAUSE = 20

@@ -2,15 +2,15 @@
 import argparse, hashlib, json, math, os, pathlib
 from typing import NamedTuple
 
-from . import vary
-from .adapt import adapted_for, adapted_opponents, read_text
-from .endings import Fault, fault_of, quoted
-from .grid import Grid, is_range_line
-from .openings import opening_from
-from .program import EXPLAIN, rules_of, run_program
-from .series import refuse_distance, refuse_fights, refuse_seed
-from .tuning_files import MOST_OPPONENTS, MOST_WEIGHT
-from .writing import temporary_folder
+from .. import vary
+from ..adapt import adapted_for, adapted_opponents, read_text
+from ..endings import Fault, fault_of, quoted
+from ..grid import Grid, is_range_line
+from ..openings import opening_from
+from ..program import EXPLAIN, rules_of, run_program
+from ..series import refuse_distance, refuse_fights, refuse_seed
+from ..tuning_files import MOST_OPPONENTS, MOST_WEIGHT
+from ..writing import temporary_folder
 
 # The options that a study depends on.
 OPTIONS = ["rounds", "seed", "exact", "box", "fresh", "fights", "minutes", "certify"]
@@ -126,7 +126,7 @@ def settle_options(parser, args):
     refuse_fights(parser, "--fresh", args.fresh, len(args.opponents))
 
 
-def read(parser, args):
+def read_inputs(parser, args):
     """Reads the files that the words name, and refuses those that make no study."""
     sort_words(parser, args)
     settle_options(parser, args)

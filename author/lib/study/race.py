@@ -7,14 +7,14 @@ only if further fights, which picked nothing, show that it is better. What was p
 """
 import contextlib, math, time
 
-from .endings import tell
-from .holdout import gain_of
-from .race import Race
-from .race_fights import Arena, budget_of
-from .race_journal import Journal
-from .study_fresh import FIRST_HEAT_PLAYERS
-from .tuning_files import Template, schedule_text
-from .writing import temporary_folder
+from ..endings import tell
+from ..holdout import gain_of
+from ..race import Race
+from ..race_fights import Arena, budget_of
+from ..race_journal import Journal
+from ..tuning_files import Template, schedule_text
+from ..writing import temporary_folder
+from .fresh import FIRST_HEAT_PLAYERS
 
 # The budget, if a box may follow the race. Which part is used when the race ends, when the best of
 # the box's first is picked, and when it was compared with the race's winner. The box itself takes

@@ -21,21 +21,23 @@ Example: cwtune-study --minutes 10 my.red opponents/ STEP=5:7995:10 GATE=-3500:-
 """
 import contextlib, json, os, pathlib, sys
 
-from . import study_fresh, study_inputs, study_report
-from .adapt import add_as_is
-from .endings import tell
-from .grid import Grid
-from .holdout import gain_text
-from .program import Rules, rules_of
-from .race import Contender
-from .race_fights import Arena, Budget, add_budget
-from .series import series_fights
-from .study_folder import StudyFolder
-from .study_race import RaceOfStudy
-from .study_result import raced_numbers, tuned_numbers
-from .tuning_files import MOST_FIGHTS, MOST_SETTINGS, Certificate, read_schedule, schedule_text
-from .words import add_json, add_program, add_rules, command_parser, number_from, print_json
-from .writing import temporary_folder
+from ..adapt import add_as_is
+from ..endings import tell
+from ..grid import Grid
+from ..holdout import gain_text
+from ..program import Rules, rules_of
+from ..race import Contender
+from ..race_fights import Arena, Budget, add_budget
+from ..series import series_fights
+from ..tuning_files import MOST_FIGHTS, MOST_SETTINGS, Certificate, read_schedule, schedule_text
+from ..words import add_json, add_program, add_rules, command_parser, number_from, print_json
+from ..writing import temporary_folder
+from .folder import StudyFolder
+from .fresh import FIRST_HEAT_PLAYERS, find_winner
+from .inputs import read_inputs
+from .race import RaceOfStudy
+from .report import html_of, shown_values
+from .result import raced_numbers, tuned_numbers
 
 fight_count = number_from(1, MOST_FIGHTS)
 
@@ -106,7 +108,7 @@ class Study:
         """Returns the first settings of the ranking of the box."""
         cert = Certificate(self.folder.path / "best.cert")
         ranking = cert.ranked(read_schedule(self.folder.path / "schedule.csv"))
-        return [setting for _, setting in ranking.full[:study_fresh.FIRST_HEAT_PLAYERS]]
+        return [setting for _, setting in ranking.full[:FIRST_HEAT_PLAYERS]]
 
     def go(self):
         """Goes through all stages."""
@@ -128,7 +130,7 @@ class Study:
         if "best" not in self.folder.mark.stages:
             self.tell_estimate(grid)
         tuning = stage("best", lambda: self.tune_box("--all", "--check"), "best.cert", "best.txt")
-        winner, points, last_points = study_fresh.find_winner(self, self.first_settings())
+        winner, points, last_points = find_winner(self, self.first_settings())
         stage("winner", lambda: self.write_winner(winner, "box.red"), "winner.red")
         return {"tuning": tuning, "winner": winner, "points": points, "last_points": last_points}
 
@@ -152,12 +154,12 @@ class Study:
         """Writes report.json and report.html."""
         report = (raced_numbers if "race" in results else tuned_numbers)(self, results)
         self.folder.write("report.json", (json.dumps(report, indent=1) + "\n").encode())
-        self.folder.write("report.html", study_report.html_of(report).encode(errors="replace"))
+        self.folder.write("report.html", html_of(report).encode(errors="replace"))
 
 
 def print_fresh(name, player, report):
     """Prints what a player made in its fresh fights, and its values."""
-    fresh, values = player["fresh"], study_report.shown_values(report, player["values"])
+    fresh, values = player["fresh"], shown_values(report, player["values"])
     constants = " ".join(f"{constant}={value}" for constant, value in values.items())
     print(f"fresh: {name}: {fresh['points']} of {3 * fresh['fights']} ({fresh['percent']:.1f}% "
           f"+- {fresh['error']:.1f}) {constants}")
@@ -247,7 +249,7 @@ def make_parser():
 def main():
     parser = make_parser()
     args = parser.parse_mixed()
-    study = Study(args, study_inputs.read(parser, args))
+    study = Study(args, read_inputs(parser, args))
     try:
         # Standard output is for the object alone.
         with contextlib.redirect_stdout(sys.stderr if args.json else sys.stdout):

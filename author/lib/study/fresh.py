@@ -10,11 +10,11 @@ The points of a player are a text for each opponent, with a digit for each fight
 """
 import itertools, time
 
-from .endings import end_as, tell
-from .program import rules_of
-from .race_fights import PROGRESS_SECONDS
-from .spread_jobs import LocalJobs
-from .tuning_files import MOST_FIGHTS, Certificate
+from ..endings import end_as, tell
+from ..program import rules_of
+from ..race_fights import PROGRESS_SECONDS
+from ..spread.jobs import LocalJobs
+from ..tuning_files import MOST_FIGHTS, Certificate
 
 # How many of the ranking play in the first heat.
 FIRST_HEAT_PLAYERS = 10

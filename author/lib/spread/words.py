@@ -1,8 +1,8 @@
 """Adds the options of `cwtune-spread` to its parser, and refuses those that do not fit together."""
 import os
 
-from .tuning_files import MOST_KEPT, MOST_SETTINGS
-from .words import add_files, add_program, add_rules, number_from
+from ..tuning_files import MOST_KEPT, MOST_SETTINGS
+from ..words import add_files, add_program, add_rules, number_from
 
 # The most parts and the most shares that the program takes; more than settings do nothing.
 MOST_PIECES = 2 ** 32 - 1

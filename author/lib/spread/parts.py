@@ -13,13 +13,13 @@ settings reaches its floor, its report and its certificate say so.
 import contextlib, dataclasses, os, pathlib, re, subprocess
 from typing import Annotated, NamedTuple
 
-from .endings import STATUS_WORDS, Fault, end_with_parent, shown
-from .grid import NAME
-from .program import NO_CANDIDATE, rules_of
-from .regular import read_regular, sha256_of
-from .schema import Sha256
-from .spread_folder import JOB_FILES, SpreadFolder, copies_of
-from .tuning_files import MOST_BYTES, Template
+from ..endings import STATUS_WORDS, Fault, end_with_parent, shown
+from ..grid import NAME
+from ..program import NO_CANDIDATE, rules_of
+from ..regular import read_regular, sha256_of
+from ..schema import Sha256
+from ..tuning_files import MOST_BYTES, Template
+from .folder import JOB_FILES, SpreadFolder, copies_of
 
 # A count that `cwtune` prints, and the values of a setting.
 COUNT, CONSTANTS = r"\d{1,20}", rf"{NAME}=-?\d{{1,5}}(?: {NAME}=-?\d{{1,5}})*"

@@ -1,11 +1,11 @@
 """Puts the parts of a tuning together: the report and the certificate of the whole template."""
 import contextlib
 
-from .endings import Fault
-from .regular import open_regular, read_regular
-from .spread_parts import MOST_REPORT_BYTES, Part
-from .words import counted
-from .writing import naming
+from ..endings import Fault
+from ..regular import open_regular, read_regular
+from ..words import counted
+from ..writing import naming
+from .parts import MOST_REPORT_BYTES, Part
 
 # The most that `cwtune check` reads of a certificate.
 MOST_CERT_BYTES = 1 << 30

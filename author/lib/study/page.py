@@ -5,7 +5,7 @@ with `<`, or with bytes that are not UTF-8, is shown and never read as a tag.
 """
 import html, itertools, math, re
 
-from .study_style import STYLE
+from .style import STYLE
 
 # The characters that no page may hold, or that turn the order of the text around.
 UNSHOWN = re.compile(r"[\x00-\x08\x0b-\x1f\x7f-\x9f\u202a-\u202e\u2066-\u2069\ud800-\udfff\ufffe"

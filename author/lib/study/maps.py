@@ -8,8 +8,8 @@ that is an index of a list in the author's text the pictures show what is in the
 """
 from typing import NamedTuple
 
-from . import study_charts as charts
-from .study_page import integer
+from . import charts
+from .page import integer
 
 SHADES = 7
 MOST_SQUARES = 10000
