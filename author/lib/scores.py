@@ -118,15 +118,15 @@ def idle_text(constant):
 def constants_of(template, warriors):
     """Returns for each constant how many choices of the others there are, and in how many all its
     values make the same warrior."""
-    count, constants = len(template.values_of_settings), []
-    for name, values, step in zip(template.names, template.ranges, template.strides()):
-        block = step * len(values)
+    count, block, constants = len(template.values_of_settings), 1, []
+    for name, values in reversed(list(zip(template.names, template.ranges))):
+        step, block = block, block * len(values)
         groups = (range(first, first + block, step) for start in range(0, count, block)
                   for first in range(start, start + step))
         alike = [warriors.are_one(group)
                  for group in watched(groups, count // len(values), f"choices beside {name}")]
-        constants.append({"name": name, "values": len(values), "choices": len(alike),
-                          "same": alike.count(True), "not_known": alike.count(None)})
+        constants.insert(0, {"name": name, "values": len(values), "choices": len(alike),
+                             "same": alike.count(True), "not_known": alike.count(None)})
     return constants
 
 

@@ -20,7 +20,7 @@ from .endings import Fault, note
 from .grid import ADAPTED, KEPT, is_range_line
 from .openings import constant_of, opening_from
 from .places import FIELDS, OPCODES, Span, code_of, lines_of, spot_of, spots_in
-from .program import load_file_of_bytes, refuse_other_warrior, rules_of
+from .program import assemble_bytes, load_file_of, refuse_other_warrior, rules_of
 from .slots import code_of_kept
 from .tuning_files import MOST_CONSTANTS, MOST_SETTINGS
 from .words import add_program, add_rules, command_parser, counted
@@ -148,8 +148,8 @@ def lines_of_others(lines):
 
 def load_file_of_source(args, source):
     """Returns the load file of a text. Refuses one that does not assemble."""
-    return load_file_of_bytes(args.program, args.warrior, source.text.encode("latin-1"),
-                              *rules_of(args).words())
+    return load_file_of(args.warrior, assemble_bytes(
+        args.program, source.text.encode("latin-1"), *rules_of(args).words()))
 
 
 def make_parser():

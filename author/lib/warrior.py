@@ -19,7 +19,7 @@ from .endings import Fault, note
 from .grid import ADAPTED, is_range_line
 from .openings import place_named
 from .places import assembled_lines, lines_of, spots_in
-from .program import load_file_of, refuse_other_warrior, rules_of
+from .program import assemble, load_file_of, refuse_other_warrior, rules_of
 from .put_back import original_lines
 from .slots import STRATEGY
 from .words import FILE_HELP, add_files, add_program, add_rules, command_parser
@@ -157,8 +157,8 @@ def print_pmars_notes(text):
 def checked_text(args, template, setting, totals):
     """Returns the author's text with a setting's values. Refuses one of another warrior."""
     rules = rules_of(args).words()
-    load_file = load_file_of(args.program, f"setting {setting}", *rules, f"--setting={setting}",
-                             "--", template.path)
+    load_file = load_file_of(f"setting {setting}", assemble(
+        args.program, *rules, f"--setting={setting}", "--", template.path))
     if args.original and (text := text_put_back(args, template, setting, totals, load_file)):
         return text
     text = text_of(template, setting, totals)

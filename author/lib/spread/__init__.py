@@ -51,7 +51,7 @@ def refuse_faults(args):
     A template has at most a million settings. So if nothing else is wrong, `tune` looks at all
     inputs, says that there is no such part, and plays no fight.
     """
-    completed = tune_part(args, f"1/{MOST_PIECES}")
+    completed = run(args, "tune", args.cert, f"--part=1/{MOST_PIECES}", *tune_options(args))
     if NO_SUCH_PART not in completed.stderr:
         end_as(args.program, completed.returncode, completed.stderr)
 
@@ -61,11 +61,10 @@ def explain_words(args):
     return ["--explain"] if args.explain or EXPLAIN else []
 
 
-def tune_part(args, part):
-    """Runs the tuning of a part as `tune` alone does."""
-    return run_program(args.program, "tune", f"--part={part}", *explain_words(args),
-                       *tune_options(args), "--", args.template, args.schedule, args.cert,
-                       *args.opponent)
+def run(args, command, cert, *options):
+    """Runs `tune` or `check` on the inputs as they are."""
+    return run_program(args.program, command, *options, *explain_words(args), "--", args.template,
+                       args.schedule, cert, *args.opponent)
 
 
 def tune_options(args):
@@ -97,10 +96,8 @@ def rejection_by_form(args, cert, notes):
 
     The first of 4294967295 shares has no setting, so nothing else is looked at.
     """
-    completed = run_program(args.program, "check", f"--share=1/{MOST_PIECES}",
-                            *explain_words(args), *keep_words(args.keep),
-                            *rules_of(args).words(), "--", args.template, args.schedule, cert,
-                            *args.opponent)
+    completed = run(args, "check", cert, f"--share=1/{MOST_PIECES}", *keep_words(args.keep),
+                    *rules_of(args).words())
     new_stderr = completed.stderr.removeprefix(notes)
     if completed.returncode != 0 and not completed.stdout:
         end_as(args.program, completed.returncode, new_stderr)
@@ -112,8 +109,7 @@ def check(args, setting_count, notes, cert):
     """Checks a certificate in shares. Returns what the whole check prints, and its status."""
     if line := rejection_by_form(args, cert, notes):
         return line, 1
-    merges = args.check_only and args.merge
-    shares = (ClusterShares(args, setting_count) if merges
+    shares = (ClusterShares(args, setting_count) if args.check_only and args.merge
               else Shares(args, setting_count, cert))
     progress = SharesProgress(shares, args.progress)
     with explaining_stop(shares, progress):
@@ -131,9 +127,8 @@ def explaining_stop(folder, progress):
         yield
     except KeyboardInterrupt as stop:
         if not stop.args and isinstance(folder, SpreadFolder):
-            how = ("repeat the command" if folder.is_removed
-                   else how_to_go_on(folder, progress))
-            tell(f"stopped: {how}")
+            tell("stopped: " + ("repeat the command" if folder.is_removed
+                                else how_to_go_on(folder, progress)))
         raise KeyboardInterrupt("said") from None
 
 
@@ -190,10 +185,10 @@ def refuse_floors(parts):
     greatest, best_setting = (best.total(), index_of(best)) if best else (-1, 0)
     for part in filter(Part.is_below, parts):
         floor = int(part.report["total"].split()[1])
-        if floor - 1 > greatest or floor - 1 == greatest and part.first < best_setting:
-            raise Fault(f"the part from setting {part.first} on says only that it is below {floor}"
-                        f", and no other total is above {max(greatest, 0)}: it may hide the best",
-                        2)
+        first = part.settings.start
+        if floor - 1 > greatest or floor - 1 == greatest and first < best_setting:
+            raise Fault(f"the part from setting {first} on says only that it is below {floor}, and "
+                        f"no other total is above {max(greatest, 0)}: it may hide the best", 2)
 
 
 def refuse_ranking(args, cert):
@@ -206,18 +201,14 @@ def refuse_ranking(args, cert):
                         f"were they tuned with --keep {args.keep}?", 2)
 
 
-def end_without_candidate(args, folder, notes):
-    """Ends as `tune` ends if no setting assembles. The notes were shown before."""
-    folder.clean_up()
-    completed = tune_part(args, f"1/{folder.piece_count}")
-    end_as(args.program, completed.returncode, completed.stderr.removeprefix(notes))
-
-
 def finish(args, folder, progress, notes):
     """Puts the parts together, writes CERT and prints the report. Returns the status."""
     parts, whole = progress.done(), folder.whole()
-    if not any(part.report for part in parts):
-        end_without_candidate(args, folder, notes)
+    if not any(part.report for part in parts):  # no setting assembles, and `tune` says so
+        folder.clean_up()
+        completed = run(args, "tune", args.cert, f"--part=1/{folder.piece_count}",
+                        *tune_options(args))
+        end_as(args.program, completed.returncode, completed.stderr.removeprefix(notes))
     refuse_floors(parts)
     with naming(folder.given_path):
         write_whole(folder, progress.results)
@@ -231,18 +222,13 @@ def finish(args, folder, progress, notes):
     verdict, checked_ranks = printed.splitlines()[:1], printed.splitlines()[1:]
     if verdict and checked_ranks != ranks:
         raise Fault("the check names another ranking than the parts", 3)
-    write_cert(args, whole)
+    with whole.open() as source, whole_file(args.cert) as file:
+        shutil.copyfileobj(source, file)
+    write_inputs(args)
     print_start(args, whole)
     print(*report_lines(parts, folder.setting_count), *ranks, *verdict, sep="\n", flush=True)
     folder.clean_up()
     return 0
-
-
-def write_cert(args, whole):
-    """Copies the certificate of the whole template to CERT, and writes CERT.inputs."""
-    with whole.open() as source, whole_file(args.cert) as file:
-        shutil.copyfileobj(source, file)
-    write_inputs(args)
 
 
 def write_inputs(args):

@@ -3,7 +3,6 @@ import sys, time
 
 from ..endings import tell
 from ..watching import rewrite
-from .parts import settings_of
 from .report import best_of, index_of, summed
 
 # Seconds from a line in a log to the next.
@@ -59,7 +58,7 @@ class PartsProgress(Progress):
     """The parts of a tuning."""
 
     def settings_done(self):
-        return sum(part.count for part in self.done())
+        return sum(len(part.settings) for part in self.done())
 
     def line(self):
         parts, folder = self.done(), self.folder
@@ -75,8 +74,7 @@ class SharesProgress(Progress):
     """The shares of a check."""
 
     def settings_done(self):
-        folder = self.folder
-        return sum(len(settings_of(number, folder.piece_count, folder.setting_count))
+        return sum(len(self.folder.settings(number))
                    for number, verdict in self.results.items() if verdict)
 
     def line(self):

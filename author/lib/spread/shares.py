@@ -10,9 +10,9 @@ from typing import Annotated
 
 from ..endings import Fault
 from ..program import rules_of
-from ..regular import read_regular, sha256_of
-from .folder import JOB_FILES, Copy, SpreadFolder, copies_of
-from .parts import COUNT, MOST_REPORT_BYTES, RANK, fault_of_job
+from ..regular import sha256_of
+from .folder import JOB_FILES, ClusterPieces, Copy, SpreadFolder, copies_of
+from .parts import COUNT, RANK
 
 ACCEPTED = re.compile(rf"accepted share ({COUNT})/({COUNT}) best ({COUNT}) total ({COUNT})\n"
                       rf"(?P<ranks>({RANK})*)")
@@ -75,42 +75,30 @@ def same_rows(cert):
         return {index for index, record in enumerate(records) if record[0] == "same"}
 
 
-class ClusterShares:
-    """The shares that the jobs of a cluster have written beside CERT.
-
-    Job I writes CERT.I.check: the SHA-256 digest of CERT, what the check prints, and the digest
-    again.
-    """
+class ClusterShares(ClusterPieces):
+    """Shares. Job I writes CERT.I.check: the SHA-256 digest of CERT, what the check prints, and the
+    digest again."""
 
     PIECE = "share"
 
     def __init__(self, args, setting_count):
-        self.given_path, self.piece_count = args.cert, args.merge
-        self.setting_count, self.keep = setting_count, args.keep
+        super().__init__(args, setting_count)
         self.digest = sha256_of(args.cert)
 
     def result(self, number):
         """Returns what a share printed, or None if its job left nothing for this certificate."""
         try:
-            text = read_regular(MOST_REPORT_BYTES, f"{self.given_path}.{number}.check").decode()
+            lines = self.read(number, "check").splitlines(keepends=True)
         except (FileNotFoundError, ValueError):
             return None
-        lines = text.splitlines(keepends=True)
         if len(lines) < 3 or lines[0] != lines[-1] or not lines[0].startswith(self.digest):
             return None
         return verdict_in("".join(lines[1:-1]), number, self.piece_count, self.keep)
 
     def fault(self, number):
         """Returns why a share has no result."""
-        check = f"{self.given_path}.{number}.check"
-        return fault_of_job(f"{check}.fault", f"{check} is cut, or of another certificate, number "
-                            "of shares or --keep")
-
-    def refuse_changed_inputs(self):
-        """Does nothing: `result` takes only what is between two digests of CERT as it is now."""
-
-    def clean_up(self):
-        """Leaves the files of the jobs where they are."""
+        return self.fault_in(f"{number}.check.fault", f"{self.given_path}.{number}.check is cut, "
+                             "or of another certificate, number of shares or --keep")
 
 
 class Shares(SpreadFolder):
