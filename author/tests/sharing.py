@@ -146,12 +146,12 @@ class Sharing(SpreadTrial):
         no_memory = f"""case "$*" in *share=2/3*) echo "failed: OutOfMemory" >&2; exit 3;;
 *) {self.program} "$@";; esac\n"""
         other_share = f"""{self.program} "$@" | sed 's/share 2/share 1/'\n"""
-        no_result = "no result for share 2 of 3 (failed: {})\n" + left_over(2, 3, "shares")
+        no_result = "no result for share 2 of 3 ({})\n" + left_over(2, 3, "shares")
         for name, script, fault in [
             ("another total", other_total, "the shares name different best settings\n"),
             ("no memory", no_memory, no_result.format("OutOfMemory")),
             ("the line of another share", other_share,
-             no_result.format("it ended with status 0")),
+             no_result.format("cwtune ended with status 0")),
         ]:
             self.write_program("liar", script)
             self.same(name, (3, "", f"failed: {fault}"), self.spread(

@@ -216,7 +216,7 @@ for word in "$@"; do case $word in [0-9]*.cert) sed -i '$d' $word;; esac; done; 
 case $1 in tune) {self.program} "$@" | head -c -5;; *) {self.program} "$@";; esac"""
         for name, script, words, expected in [
             ("reports that are cut", cut_report, ["--parts=2"], (
-                3, "", "failed: no result for parts 1, 2 of 2 (failed: its report is cut, or not a "
+                3, "", "failed: no result for parts 1, 2 of 2 (its report is cut, or not a "
                 "report)\n" + left_over(0, 2, "parts"))),
             ("a row too few", row_too_few, ["--parts=1"], (
                 3, "", "failed: the certificate of part 1 has 3 rows, and the part has 4 "

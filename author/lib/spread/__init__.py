@@ -134,7 +134,7 @@ def explaining_stop(folder, progress):
 
 def run_jobs(args, folder, progress):
     """Runs the pieces that are not done, if they are not those of a cluster. Returns for each its
-    fault, or None if it has a result."""
+    fault or a text that says why it has no result, or None if it has one."""
     if not isinstance(folder, SpreadFolder):
         return {number: folder.fault(number) for number in progress.numbers_left()}
     faults, jobs = {}, None
@@ -167,13 +167,12 @@ def refuse_missing(folder, progress, faults):
     missing = progress.numbers_left()
     if not missing:
         return
-    messages = [faults[number] for number in missing if faults.get(number)]
-    for message in messages:
-        if message.startswith(("refused: ", "error: ")):
-            word, fault = message.split(": ", 1)
-            raise Fault(fault.strip(), 1 if word == "refused" else 2)
+    known = [faults[number] for number in missing if faults.get(number)]
+    for fault in known:
+        if isinstance(fault, Fault) and fault.status < 3:
+            raise fault
     numbers = f"{'s' * (len(missing) > 1)} {', '.join(map(str, missing))} of {folder.piece_count}"
-    why = f" ({messages[0].strip()})" if messages else ""
+    why = f" ({known[0]})" if known else ""
     hint = f"\n{how_to_go_on(folder, progress)}" if isinstance(folder, SpreadFolder) else ""
     raise Fault(f"no result for {folder.PIECE}{numbers}{why}{hint}", 3)
 

@@ -12,10 +12,10 @@ missing is put back from its input, once that is seen to have the digest of the 
 A piece is a part of a tuning or a share of a check. It is done when `I.done` is there, which is
 written once the piece has a result, so neither a kill nor a crash leaves half of one.
 """
-import dataclasses, json, os, pathlib, shutil
+import dataclasses, json, os, pathlib, shutil, subprocess
 from typing import Annotated, NamedTuple
 
-from ..endings import STATUS_WORDS, Fault, shown
+from ..endings import STATUS_WORDS, Fault, fault_of, shown
 from ..own_folder import OwnFolder
 from ..regular import open_regular, read_regular, sha256_of
 from ..schema import Malformed, NotJson
@@ -198,6 +198,11 @@ class SpreadFolder(Pieces, OwnFolder):
     def file(self, number, kind):
         """Returns where this run writes something of a piece."""
         return self.path / f"{number}.{self.pid}.{kind}"
+
+    def fault(self, number, status):
+        """Returns the fault of a run of a piece that has no result."""
+        stderr = self.file(number, "fault").read_bytes()
+        return fault_of(subprocess.CompletedProcess(["cwtune"], status, b"", stderr))
 
     def write_done(self, number, result):
         with self.whole_file(f"{number}.done") as file:

@@ -205,12 +205,12 @@ class Parts(SpreadFolder):
         if status == 0:
             report = self.file(number, "report").read_text(errors="replace")
             if not REPORT.fullmatch(report):
-                return "failed: its report is cut, or not a report\n"
+                return Fault("its report is cut, or not a report", 3)
             cert_digest = sha256_of(self.file(number, "cert"))
             self.file(number, "cert.inputs").unlink(missing_ok=True)
             self.file(number, "cert").replace(self.cert(number))
         elif (status, fault) != (1, NO_CANDIDATE):
-            return fault or f"failed: it ended with status {status}\n"
+            return self.fault(number, status)
         self.write_done(number, {"report": report, "cert": cert_digest})
         return None
 

@@ -133,8 +133,7 @@ class Shares(SpreadFolder):
         if is_verdict(printed, status, number, self.piece_count, self.keep):
             self.write_done(number, printed)
             return None
-        fault = self.file(number, "fault").read_text(errors="surrogateescape")
-        return fault or f"failed: it ended with status {status}\n"
+        return self.fault(number, status)
 
     def result(self, number):
         """Returns what a share printed, or None if it is not done."""
