@@ -21,7 +21,7 @@ from .endings import Fault, escaped, fault_of
 from .mean_error import error_of_mean
 from .program import EXPLAIN, rules_of, run_program
 from .series import refuse_distance, refuse_fights
-from .words import (add_files, add_json, add_opponents_of_tuning, add_program, add_rules,
+from .words import (add_files, add_json, add_opponents_of_tuning, add_cwtune,
                     command_parser, counted, number_from, print_json)
 from .writing import temporary_folder
 
@@ -250,8 +250,7 @@ def make_parser():
     parser.add_argument("--against", metavar="FILE",
                         help="compare with the warrior of this Redcode text, and not with START")
     add_json(parser)
-    add_program(parser)
-    add_rules(parser, of_tuning=True)
+    add_cwtune(parser, of_tuning=True)
     add_files(parser, "template", "cert")
     add_opponents_of_tuning(parser)
     return parser

@@ -13,6 +13,7 @@ from .program import NO_CANDIDATE, reading_output, rules_of
 from .race_hosts import Hosts, points_of
 from .spread.hosts import read_hosts, refuse_missing_tools
 from .tuning_files import Fight, schedule_text
+from .watching import Pace
 from .words import counted, number_from
 
 # The fights of a race that is given no budget.
@@ -23,8 +24,6 @@ BLOCKS_OF_PROCESS = 8
 TRIAL_BLOCKS, TRIAL_FIGHTS = 16, 200
 # How much of --minutes is left for the end of the command: a part of them, and some seconds.
 END_PART, END_SECONDS = 0.01, 0.4
-# The seconds between two lines of progress.
-PROGRESS_SECONDS = 15
 # Has the kernel end a process with the thread that started it. A function that is called in the
 # new process would do so, too, but it takes Python three times as long.
 WITH_PARENT = ["setpriv", "--pdeathsig", "KILL", "--"] if shutil.which("setpriv") else []
@@ -94,7 +93,7 @@ class Arena:
         self.began_at, self.seconds = clock(), 0.0
         self.seconds_of_play, self.seconds_of_jobs, self.plays_of_jobs = 0.0, 0.0, 0
         self.hosts = Hosts(self)
-        self.news, self.told_at = "", time.monotonic()
+        self.news, self.pace = "", Pace()
 
     def __enter__(self):
         self.running, self.is_over = set(), False
@@ -235,9 +234,7 @@ class Arena:
 
     def tell_progress(self):
         """Prints how far the race is, if some seconds have passed since the last line."""
-        if time.monotonic() - self.told_at > PROGRESS_SECONDS:
-            self.told_at = time.monotonic()
-            tell(f"{100 * self.used():.0f}%: {self.news}, {self.fights} fights")
+        self.pace.tell(f"{100 * self.used():.0f}%: {self.news}, {self.fights} fights")
 
 
 def joined(pieces):

@@ -11,7 +11,7 @@ from . import cert_inputs, tuning_files
 from .endings import Fault, note
 from .program import assemble, rules_of
 from .watching import watched
-from .words import (add_files, add_json, add_program, add_rules, command_parser, counted,
+from .words import (add_files, add_json, add_cwtune, command_parser, counted,
                     number_from, print_json)
 
 # With more settings than this none is assembled, to save time.
@@ -183,8 +183,7 @@ def make_parser():
     add_json(output)
     output.add_argument("--csv", action="store_true",
                         help="print the total of each setting, a line for each, with commas")
-    add_program(parser)
-    add_rules(parser, of_tuning=True)
+    add_cwtune(parser, of_tuning=True)
     return parser
 
 

@@ -24,7 +24,7 @@ from .program import run_program
 from .race import Race
 from .race_fights import Arena, add_budget, budget_of
 from .tuning_files import MOST_SETTINGS
-from .words import (add_files, add_json, add_program, add_rules, command_parser, number_from,
+from .words import (add_files, add_json, add_cwtune, command_parser, number_from,
                     print_json)
 from .writing import temporary_folder
 
@@ -82,8 +82,7 @@ def make_parser():
                         help="another number gives other settings and positions [default: 1]")
     parser.add_argument("--box", type=number_from(0), metavar="N",
                         help="cut each range to N values on both sides of the winner's")
-    add_program(parser)
-    add_rules(parser)
+    add_cwtune(parser)
     add_as_is(parser)
     add_files(parser, "template", "schedule", "opponent")
     return parser

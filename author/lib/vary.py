@@ -15,7 +15,7 @@ Example: cwtune-vary my.red STEP=5:4000:10 'throw.a-mode=<,>,{' > my-template.re
 import itertools, math, re, sys
 from typing import NamedTuple
 
-from .adapt import adapt, adapted_text, add_as_is
+from .adapt import adapted_by, add_as_is
 from .endings import Fault, note
 from .grid import ADAPTED, KEPT, is_range_line
 from .openings import constant_of, opening_from
@@ -23,7 +23,7 @@ from .places import FIELDS, OPCODES, Span, code_of, lines_of, spot_of, spots_in
 from .program import assemble_bytes, load_file_of, refuse_other_warrior, rules_of
 from .slots import code_of_kept
 from .tuning_files import MOST_CONSTANTS, MOST_SETTINGS
-from .words import add_program, add_rules, command_parser, counted
+from .words import add_cwtune, command_parser, counted
 
 # What the list has for a field that is not written.
 UNWRITTEN = {"a-mode": "$", "b-mode": "$", "modifier": "-"}
@@ -154,8 +154,7 @@ def load_file_of_source(args, source):
 
 def make_parser():
     parser = command_parser(__doc__)
-    add_program(parser)
-    add_rules(parser)
+    add_cwtune(parser)
     add_as_is(parser)
     parser.add_argument("warrior", metavar="WARRIOR", help="a Redcode text")
     parser.add_argument("ranges", metavar="PLACE=VALUES", nargs="*", type=opening_from, default=[],
@@ -176,12 +175,11 @@ def source_of(parser, args):
         text = file.read()
     if any(map(is_range_line, text.split(b"\n"))):
         raise Fault(f"{args.warrior}: it has range lines, so it is a template already")
-    read, said = adapted_text(args, args.warrior, text)
-    if said:
+    adapted, said = adapted_by(args, args.warrior, text)
+    if adapted:
         note(f"{args.warrior} is adapted to what cwtune reads, as by cwtune-adapt; places and "
              f"lines are those of {args.warrior}; {said}")
-    adapted = None if read == text else adapt(args.warrior, text, rules_of(args), args.program)
-    return Source(read.decode("latin-1"), adapted)
+    return Source((adapted.text if adapted else text).decode("latin-1"), adapted)
 
 
 def checked(args, source):

@@ -11,7 +11,7 @@ The text is printed only if `cwtune asm` makes the same load file of it as of th
 
 Example: cwtune-warrior my.red my.cert > winner.red
 """
-import argparse, itertools, pathlib, re, sys
+import argparse, itertools, re, sys
 
 from . import cert_inputs, slots, tuning_files
 from .adapt import adapt, add_as_is, adapted_if_refused, read_text, start_of
@@ -22,8 +22,8 @@ from .places import assembled_lines, lines_of, spots_in
 from .program import assemble, load_file_of, refuse_other_warrior, rules_of
 from .put_back import original_lines
 from .slots import STRATEGY
-from .words import FILE_HELP, add_files, add_program, add_rules, command_parser
-from .writing import temporary_folder
+from .words import FILE_HELP, add_files, add_cwtune, command_parser
+from .writing import temporary_file
 
 # It follows the last line that begins with the first of these words, else with the second, and so
 # on.
@@ -192,8 +192,7 @@ def make_parser():
                          help="print the template, with the setting as its START")
     printed.add_argument("--original", metavar="FILE", help="put the values into this text, which "
                          "was adapted before the template was made of it")
-    add_program(parser)
-    add_rules(parser, of_tuning=True)
+    add_cwtune(parser, of_tuning=True)
     add_as_is(parser)
     add_files(parser, "template")
     parser.add_argument("cert", metavar="CERT", nargs="?", help=FILE_HELP["cert"])
@@ -225,10 +224,8 @@ def has_mark(path):
 
 def print_start(args, path):
     """Prints the text of START of a template of any size, as that of a race."""
-    with temporary_folder() as folder:
-        alone = pathlib.Path(folder, pathlib.Path(path).name)
-        alone.write_bytes(start_of(read_text(path), path))
-        print_text(args, str(alone))
+    with temporary_file(path, start_of(read_text(path), path)) as alone:
+        print_text(args, alone)
 
 
 def print_text(args, path):

@@ -10,6 +10,18 @@ def rewrite(line=""):
     print(f"\r{line[:width - 1]}\x1b[K", end="", file=sys.stderr, flush=True)
 
 
+class Pace:
+    """Writes a line on standard error now and then: at least 15 seconds after the last one."""
+
+    def __init__(self):
+        self.told_at = time.monotonic()
+
+    def tell(self, line):
+        if time.monotonic() - self.told_at > 15:
+            self.told_at = time.monotonic()
+            tell(line)
+
+
 class Watch:
     """The lines of progress: at a terminal one that is rewritten twice a second, elsewhere a new
     one each 15 seconds. `shown_at` is when the last one was shown."""

@@ -130,8 +130,10 @@ def add_hill(parser, default="94nop"):
                         help=f"the rules of this hill: {', '.join(HILLS)} [default: {default}]")
 
 
-def add_rules(parser, of_tuning=False):
-    """Adds the options of the rules. With `of_tuning` the tuning's rules are the defaults."""
+def add_cwtune(parser, of_tuning=False):
+    """Adds the program and the options of the rules. With `of_tuning` the tuning's rules are the
+    defaults."""
+    add_program(parser)
     group = parser.add_argument_group("rules")
     add_hill(group, "the rules of the tuning, else 94nop" if of_tuning else "94nop")
     whose = "that of the tuning" if of_tuning else "that of the hill"

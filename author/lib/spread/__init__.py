@@ -19,7 +19,7 @@ a folder is of other inputs; 3 a job has no result, or a file cannot be read or 
 
 Example: cwtune-spread --jobs 4 my.red fights.csv my.cert dwarf.red scanner.red
 """
-import contextlib, os, shutil, sys, time
+import contextlib, os, shutil, sys
 
 from .. import cert_inputs, tuning_files
 from ..endings import Fault, end_as, tell
@@ -29,7 +29,7 @@ from ..words import command_parser
 from ..writing import naming, whole_file
 from .folder import SpreadFolder
 from .hosts import HostJobs
-from .jobs import LocalJobs
+from .jobs import LocalJobs, ended
 from .parts import ClusterParts, Part, Parts
 from .progress import PartsProgress, SharesProgress
 from .report import best_of, index_of, ranks_of, report_lines, write_whole
@@ -137,23 +137,17 @@ def run_jobs(args, folder, progress):
     fault or a text that says why it has no result, or None if it has one."""
     if not isinstance(folder, SpreadFolder):
         return {number: folder.fault(number) for number in progress.numbers_left()}
-    faults, jobs = {}, None
+    faults = {}
     try:
         progress.show()
         numbers = folder.in_order(progress.numbers_left())
         jobs = (HostJobs if args.hosts else LocalJobs)(args, folder, numbers)
-        while jobs.keep_running():
-            for number, status in jobs.take_ended():
-                faults[number] = folder.take_result(number, status)
-                progress.results[number] = folder.result(number)
-            progress.show()
-            time.sleep(0.02)
-        faults |= dict.fromkeys(jobs.waiting, jobs.fault)
+        for number, status in ended(jobs, progress.show):
+            faults[number] = folder.take_result(number, status)
+            progress.results[number] = folder.result(number)
+        return faults | dict.fromkeys(jobs.waiting, jobs.fault)
     finally:
-        if jobs:
-            jobs.stop()
         progress.clear()
-    return faults
 
 
 def how_to_go_on(folder, progress):

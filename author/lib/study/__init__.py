@@ -30,7 +30,7 @@ from ..race import Contender
 from ..race_fights import Arena, Budget, add_budget
 from ..series import series_fights
 from ..tuning_files import MOST_FIGHTS, MOST_SETTINGS, Certificate, read_schedule, schedule_text
-from ..words import add_json, add_program, add_rules, command_parser, number_from, print_json
+from ..words import add_cwtune, add_json, command_parser, number_from, print_json
 from ..writing import temporary_folder
 from .folder import StudyFolder
 from .fresh import FIRST_HEAT_PLAYERS, find_winner
@@ -232,8 +232,7 @@ def make_parser():
                         help="throw away what is done, and begin again")
     add_budget(parser)
     add_json(parser)
-    add_program(parser)
-    add_rules(parser)
+    add_cwtune(parser)
     add_as_is(parser)
     parser.add_argument("warrior", metavar="WARRIOR", help="a template, or with words "
                         "PLACE=VALUES a Redcode text")

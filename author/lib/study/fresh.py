@@ -12,9 +12,9 @@ import itertools, time
 
 from ..endings import end_as, tell
 from ..program import rules_of
-from ..race_fights import PROGRESS_SECONDS
-from ..spread.jobs import LocalJobs
+from ..spread.jobs import LocalJobs, ended
 from ..tuning_files import MOST_FIGHTS, Certificate
+from ..watching import Pace
 
 # How many of the ranking play in the first heat.
 FIRST_HEAT_PLAYERS = 10
@@ -50,23 +50,14 @@ class Heat:
         shown = "the winner and START" if START in players else f"{len(players)} settings"
         tell(f"fresh fights, heat {self.number}: {shown}, "
              f"{self.fights * len(self.study.opponents)} each")
-        jobs, seconds = LocalJobs(self.study.args, self, players), {}
-        told_at = time.monotonic()
-        try:
-            while jobs.keep_running():
-                for player, status in jobs.take_ended():
-                    if status:
-                        end_as(self.study.args.program, status,
-                               self.file(player, "fault").read_bytes())
-                    for kind in ["report", "fault"]:
-                        self.file(player, kind).unlink()
-                    seconds[player] = time.monotonic() - self.began_at[player]
-                if time.monotonic() - told_at > PROGRESS_SECONDS:
-                    told_at = time.monotonic()
-                    tell(f"heat {self.number}: {len(seconds)} of {len(players)} have played")
-                time.sleep(0.01)
-        finally:
-            jobs.stop()
+        jobs, seconds, pace = LocalJobs(self.study.args, self, players), {}, Pace()
+        for player, status in ended(jobs, lambda: pace.tell(
+                f"heat {self.number}: {len(seconds)} of {len(players)} have played")):
+            if status:
+                end_as(self.study.args.program, status, self.file(player, "fault").read_bytes())
+            for kind in ["report", "fault"]:
+                self.file(player, kind).unlink()
+            seconds[player] = time.monotonic() - self.began_at[player]
         for player in players:
             self.study.folder.log_command(self.words(player), "", seconds[player])
         return {player: self.points(player) for player in players}

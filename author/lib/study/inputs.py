@@ -10,7 +10,7 @@ from ..openings import opening_from
 from ..program import EXPLAIN, rules_of, run_program
 from ..series import refuse_distance, refuse_fights, refuse_seed
 from ..tuning_files import MOST_OPPONENTS, MOST_WEIGHT
-from ..writing import temporary_folder
+from ..writing import temporary_file
 
 # The options that a study depends on.
 OPTIONS = ["rounds", "seed", "exact", "box", "fresh", "fights", "minutes", "certify"]
@@ -153,11 +153,9 @@ def refuse_start(args, grid):
 
     For this each constant has its START alone, as `cwtune` takes at most a million settings.
     """
-    with temporary_folder() as folder:
-        path = pathlib.Path(folder, os.path.basename(args.warrior))
-        path.write_bytes(grid.line_through(grid.start_values, ()))
-        refuse_text(args, f"START of {args.warrior}", "--setting=start", "--", path.name,
-                    cwd=folder)
+    with temporary_file(args.warrior, grid.line_through(grid.start_values, ())) as path:
+        refuse_text(args, f"START of {args.warrior}", "--setting=start", "--",
+                    os.path.basename(path), cwd=os.path.dirname(path))
 
 
 def refuse_text(args, name, *words, **options):
