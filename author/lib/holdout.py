@@ -21,8 +21,8 @@ from .endings import Fault, escaped, fault_of
 from .mean_error import error_of_mean
 from .program import EXPLAIN, rules_of, run_program
 from .series import refuse_distance, refuse_fights
-from .words import (add_files, add_json, add_opponents_of_tuning, add_cwtune,
-                    command_parser, counted, number_from, print_json)
+from .words import (FILE_HELP, add_cwtune, add_files, add_json, command_parser, counted,
+                    number_from, print_json)
 from .writing import temporary_folder
 
 
@@ -252,7 +252,8 @@ def make_parser():
     add_json(parser)
     add_cwtune(parser, of_tuning=True)
     add_files(parser, "template", "cert")
-    add_opponents_of_tuning(parser)
+    parser.add_argument("opponents", metavar="OPPONENT", nargs="*", default=[],
+                        help=FILE_HELP["opponent"] + " [default: those of the tuning]")
     return parser
 
 

@@ -197,13 +197,6 @@ class ParserHere(Parser):
         return left
 
 
-def number_at(text, node):
-    """Returns the number of a leaf, as `sscanf` of C reads it. pMARS has no room for more."""
-    if node.end - node.start > LONGEST_NUMBER:
-        raise AnyValue(f"a number of more than {LONGEST_NUMBER} digits")
-    return min(int(text[node.start:node.end]), (1 << 63) - 1)
-
-
 class Registers(dict):
     """The registers of pMARS, each 0 at first."""
 
@@ -212,8 +205,10 @@ class Registers(dict):
         return value_of(node, lambda leaf: self.leaf_value(text, leaf))
 
     def leaf_value(self, text, leaf):
-        if leaf.kind == "number":
-            return number_at(text, leaf)
+        if leaf.kind == "number":  # as `sscanf` of C reads it; pMARS has no room for more
+            if leaf.end - leaf.start > LONGEST_NUMBER:
+                raise AnyValue(f"a number of more than {LONGEST_NUMBER} digits")
+            return min(int(text[leaf.start:leaf.end]), (1 << 63) - 1)
         name = text[leaf.start].upper()
         if leaf.kind == "set":
             self[name] = self.value(text, leaf.parts[0])

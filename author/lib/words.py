@@ -100,11 +100,6 @@ def add_files(parser, *names):
                             nargs="+" if name == "opponent" else None)
 
 
-def add_opponents_of_tuning(parser):
-    parser.add_argument("opponents", metavar="OPPONENT", nargs="*", default=[],
-                        help=FILE_HELP["opponent"] + " [default: those of the tuning]")
-
-
 def program_at(word):
     """Returns the path of a program that an option names: a file, or a name on the PATH."""
     return shutil.which(word) or word

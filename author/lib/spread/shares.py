@@ -54,7 +54,9 @@ def verdict_of(texts, cert):
 def first_rejection(rejections, cert):
     """Returns the rejection, a record and a reason, that a check of the whole finds first. Like
     each share, it looks at `same` rows last."""
-    same = same_rows(cert) if len(rejections) > 1 else set()
+    with open(cert, encoding="utf-8-sig", errors="replace", newline="") as file:
+        records = filter(None, csv.reader(file) if len(rejections) > 1 else ())
+        same = {index for index, record in enumerate(records) if record[0] == "same"}
 
     def order(rejection):
         row, reason = rejection
@@ -66,13 +68,6 @@ def first_rejection(rejections, cert):
 def keep_words(keep):
     """Returns how many of the ranking are asked for as words of `tune` and `check`."""
     return [f"--keep={keep}"] if keep > 1 else []
-
-
-def same_rows(cert):
-    """Returns the indices of the records that refer to another setting. Empty lines are none."""
-    with open(cert, encoding="utf-8-sig", errors="replace", newline="") as file:
-        records = (record for record in csv.reader(file) if record)
-        return {index for index, record in enumerate(records) if record[0] == "same"}
 
 
 class ClusterShares(ClusterPieces):

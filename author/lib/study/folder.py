@@ -108,7 +108,11 @@ class StudyFolder(OwnFolder):
         if begins and mark:
             self.write_mark(dataclasses.replace(mark, stages={}, removing=True))
             self.remove_all()
-        self.remove_unfinished()
+        # What a run that was killed may leave, but for that of `cwtune-spread`.
+        for name, pattern in self.patterns():
+            with self.room(name) as room:
+                if room and not name.startswith("best.cert."):
+                    room.remove(f"(?=(?:{pattern})$){UNFINISHED}")
         self.mark = Mark(self.maker(), fingerprint, {}) if begins else mark
         self.write_mark(self.mark)
 
@@ -124,13 +128,6 @@ class StudyFolder(OwnFolder):
         except Malformed as fault:
             raise Fault(f"{self.given_path}/{self.MARK}: {fault}", 2) from None
         return mark
-
-    def remove_unfinished(self):
-        """Removes what a run that was killed may leave, but for that of `cwtune-spread`."""
-        for name, pattern in self.patterns():
-            with self.room(name) as room:
-                if room and not name.startswith("best.cert."):
-                    room.remove(f"(?=(?:{pattern})$){UNFINISHED}")
 
     def stage(self, name, run_stage, *files):
         """Returns the result of a stage. If it is not done, or a file is missing, `run_stage` does

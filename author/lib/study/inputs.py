@@ -51,10 +51,13 @@ def sort_words(parser, args):
     """Sorts the words of the command into the warrior, the opponents and the ranges."""
     words, args.ranges = [], []
     for word in [args.warrior, *args.opponents]:
-        if is_range(word):
-            args.ranges.append(range_of(parser, word))
-        else:
+        if not is_range(word):
             words.append(word)
+            continue
+        try:
+            args.ranges.append(opening_from(word))
+        except argparse.ArgumentTypeError as fault:
+            parser.error(str(fault))
     if not words:
         parser.error("WARRIOR is missing: a template, or a warrior with words PLACE=VALUES")
     args.warrior, opponents = words[0], [opponents_named(parser, word) for word in words[1:]]
@@ -95,13 +98,6 @@ def weights_of(parser, opponents, by_kind):
     if max(weights) > MOST_WEIGHT:
         parser.error(f"--by-kind gives a fight the weight {max(weights)}, more than {MOST_WEIGHT}")
     return weights
-
-
-def range_of(parser, word):
-    try:
-        return opening_from(word)
-    except argparse.ArgumentTypeError as fault:
-        parser.error(str(fault))
 
 
 def paths_of(word):

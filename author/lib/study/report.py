@@ -6,7 +6,7 @@ computed from it: an opponent's standard error comes from its wins, ties and los
 import math
 
 from . import charts, maps
-from .page import (DASH, decimal, escaped, folded, fresh_percent, integer, name_list, page,
+from .page import (DASH, decimal, escaped, folded, fresh_percent, integer, page,
                          source, table, with_error)
 
 WINNER_FILE = "winner.red"
@@ -285,14 +285,6 @@ def some_of(values):
     return ", ".join(shown)
 
 
-def constants_table(report):
-    """Returns the range of each constant, and its values in START, winner and box."""
-    heads = ["constant", "lowest", "highest", "step", "START", "winner", "values in the box"]
-    rows = [constant_row(constant, lists_of(report).get(constant["name"]))
-            for constant in report["constants"]]
-    return table("Constants of the template", heads, rows)
-
-
 def constant_row(constant, texts):
     """Returns the range of a constant, as cells. `texts` is its list, or None."""
     ends, players, box = ([texts[value] if texts else value for value in values] for values in (
@@ -314,11 +306,13 @@ def facts(report):
     opponents = ", ".join(escaped(opponent["name"]) + (
         f" (counts {integer(opponent['weight'])} times)" if opponent["weight"] != 1 else "")
                           for opponent in report["opponents"])
-    return name_list([
+    pairs = [
         ("Made", f"{escaped(report['made'])} by {escaped(report['program'])}"),
         ("Rules", values_text(report["rules"])), ("Opponents", opponents),
         ("Settings", integer(report["settings"])), ("Seed", escaped(report["seed"])),
-        ("Fights", ", ".join(fights))])
+        ("Fights", ", ".join(fights))]
+    items = (f"<dt>{name}</dt><dd>{meaning}</dd>" for name, meaning in pairs)
+    return f"<dl>{''.join(items)}</dl>"
 
 
 def digests(caption, files):
@@ -338,8 +332,11 @@ def commands(lines):
 
 def making(report):
     """Returns how the study was made, so that it can be made again."""
-    return section("How it was made", facts(report), constants_table(report),
-                   "<h3>Commands</h3>",
+    heads = ["constant", "lowest", "highest", "step", "START", "winner", "values in the box"]
+    rows = [constant_row(constant, lists_of(report).get(constant["name"]))
+            for constant in report["constants"]]
+    return section("How it was made", facts(report),
+                   table("Constants of the template", heads, rows), "<h3>Commands</h3>",
                    paragraph("Each can be typed in the folder of this report.", "soft"),
                    commands(report["commands"]), "<h3>Digests</h3>",
                    digests("Opponents", report["opponents"]), digests("Files", report["files"]))
