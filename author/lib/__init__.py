@@ -20,9 +20,9 @@ vary and warrior. Several commands use
 - adapt: texts of pMARS as `cwtune` reads them.
 
 To adapt a text, pmars_tokens, pmars_values, pmars_text and pmars_code read it as pMARS does and
-make its load file. Meanwhile adapt_changes collects what has to be written otherwise, expressions
-by adapt_values and CURLINE by adapt_counts. adapt_passes writes it, in lines that know where they
-come from (traced), and pmars_program runs pMARS itself.
+make its load file. Meanwhile adapt_changes collects what has to be written otherwise, CURLINE by
+adapt_counts. adapt_passes writes it, in lines that know where they come from (traced), and
+pmars_program runs pMARS itself.
 
 The words of `cwtune-vary` are read in openings.
 

@@ -12,6 +12,7 @@ from typing import NamedTuple
 
 from .endings import Fault, shown
 from .grid import NAME
+from .pmars_tokens import code_of
 from .traced import Place
 from .words import counted
 
@@ -131,11 +132,6 @@ def place_of(adapted, row, start, end):
     if before:
         return before._replace(column=before.column + 1)
     return adapted.span(row, start, max(end, start + 1))
-
-
-def code_of(line):
-    """Returns a line without its comment."""
-    return line.partition(";")[0]
 
 
 def assembled_lines(text):
