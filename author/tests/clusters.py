@@ -11,8 +11,6 @@ NO_PART = "slurm.sh: job {} of the array is none of the parts 1 to 3\n"
 
 
 class Clusters(SpreadTrial):
-    """The parts and shares of a spread as jobs of a Slurm."""
-
     def setUp(self):
         super().setUp()
         self.need("sbatch", "squeue", "sinfo", "scancel", **SERVERS)

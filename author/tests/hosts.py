@@ -41,8 +41,6 @@ class OnHosts:
 
 
 class Hosts(OnHosts, SpreadTrial):
-    """Tunings and checks on hosts."""
-
     def setUp(self):
         super().setUp()
         self.write_program("slow", SLOW.format(program=self.program, folder=self.folder))
@@ -106,7 +104,6 @@ class Hosts(OnHosts, SpreadTrial):
             self.remains()[2]))
 
     def test_refused(self):
-        """Gives files of hosts without any host, and hosts that are all dead."""
         for name, text in [("empty", ""), ("of comments", "# good\n\n  # :\n")]:
             self.write("hosts", text)
             self.same(f"a file that is {name}", (2, "", "error: hosts: no host in it\n"),
@@ -117,7 +114,6 @@ class Hosts(OnHosts, SpreadTrial):
             status, out, first[:len(DEAD)], last, more))
 
     def test_shared(self):
-        """Tunes and checks on hosts that see the same files, and again."""
         tuned = self.tuned()
         for _ in range(2):
             status, out, err = self.on("shared :", "--parts=2", "--check", "--shares=2", *DECOY)

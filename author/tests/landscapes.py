@@ -61,12 +61,9 @@ suptitle ('best setting 1: K=1, total 1 of 3',)"""
 
 
 class Landscapes(Trial):
-    """Pictures of the means of all values."""
-
     FILES = FILES
 
     def test_effects(self):
-        """Draws both pictures with the stand-in."""
         for name, text in STAND_IN.items():
             self.write(f"matplotlib/{name}", text)
         self.write("matplotlibrc", "text.usetex: True\n")

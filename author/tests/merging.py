@@ -39,8 +39,6 @@ class FolderStub:
 
 
 class Merging(SpreadTrial):
-    """Parts of a cluster, and GNU parallel as it should not be."""
-
     def parallel(self, script):
         """Makes a stand-in for GNU parallel the one on the PATH, as a context."""
         self.write_program("parallel", PROBED + script)

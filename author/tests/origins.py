@@ -43,8 +43,6 @@ def note(why_unused):
 
 
 class Origins(Trial):
-    """Certificates with their CERT.inputs, and other inputs."""
-
     FILES = FILES
 
     def test_readers(self):

@@ -312,7 +312,6 @@ class OwnFolders(SpreadTrial, StudyTrial):
                       self.found(DECOY, self.spread(*PARTS)))
 
     def test_missing_files(self):
-        """Removes files of a study that is done."""
         self.study(*STUDY)
         report = self.report("t")
         for name in ["opponents/imp.red", "box.red", "fresh/1.csv", "best.cert"]:
@@ -370,7 +369,6 @@ class OwnFolders(SpreadTrial, StudyTrial):
         self.same("kills met a study that removes its files", True, number > files)
 
     def test_fuzz(self):
-        """Damages folders of parts, of shares and of a study by chance."""
         self.unfinished(*PARTS)
         kinds = [Fuzz(self, spread, "CERT.parts", PARTS)]
         self.tune(*DECOY)

@@ -70,8 +70,6 @@ def ended(improve):
 
 
 class Racing(Trial):
-    """Races of made-up fights, and `cwtune-seek`."""
-
     FILES, OPTIONS = FILES, ["--hill=nano", "--fights=2000", "--jobs=2"]
 
     def seek(self, *words, files=RACED, **options):
@@ -168,7 +166,6 @@ class Racing(Trial):
         self.same("an opponent that SCHEDULE leaves out does not play", one.out, alone.out)
 
     def test_refusals(self):
-        """Gives `cwtune-seek` what it refuses."""
         for name, text in [("one.red", "MOV 0, 1\n"), ("bad.red", ";@tune K 0 5 1 2\nMOV 1\n"),
                            ("none-assembles.red", ";@tune K 0 5 1 2\nDAT 1/0\n"),
                            ("two.csv", "opponent,position,first\n2,40,c\n"),
@@ -189,7 +186,6 @@ class Racing(Trial):
             status, out.endswith("DAT A, B\n"), err.splitlines()[-1]))
 
     def test_stops(self):
-        """Stops `cwtune-seek` before START was played, and in a race."""
         self.write_program("slow", "touch begun\nexec sleep 99")
         for signal_number in [signal.SIGINT, signal.SIGTERM, signal.SIGHUP]:
             self.same(f"signal {signal_number} before START was played",

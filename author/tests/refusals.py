@@ -217,12 +217,9 @@ NOT_DRAWN = [
 
 
 class Refusals(Trial):
-    """What the commands refuse, and what only looks so."""
-
     FILES = FILES
 
     def test_refusals(self):
-        """Gives the commands what they have to refuse."""
         os.symlink("loop", self.folder / "loop")
         before = sorted(os.listdir(self.folder))
         self.refused(REFUSALS)

@@ -117,8 +117,6 @@ def faults_of(page, reader):
 
 
 class Reporting(Trial):
-    """Pages, and what they are made of."""
-
     def says(self, report, *wanted, **changes):
         """Compares the page of a changed report with sentences that it has to have."""
         words = re.sub(" +", " ", words_of(report | changes))
@@ -126,7 +124,6 @@ class Reporting(Trial):
             self.wrong(f"the page says: {sentence}", [] if sentence in words else [words[:1500]])
 
     def test_pages(self):
-        """Makes the page of each report."""
         for name, report in REPORTS.items():
             page, constants = html_of(report), len(report["effects"])
             reader = Reader(page)
@@ -151,7 +148,6 @@ class Reporting(Trial):
             name for name in HOSTILE[:2] + HOSTILE[3:5] if words.count(name) < 5])
 
     def test_sentences(self):
-        """Makes pages whose words depend on the report."""
         report = copy.deepcopy(REPORTS["two constants"])
         start, winner_values = report["start"], report["winner"]["values"]
         for percent, error, words, sentence in [
@@ -194,7 +190,6 @@ class Reporting(Trial):
         self.says(report, "PLACE is held at v6013", "START is not in this picture: STEP v3005")
 
     def test_landscapes(self):
-        """Reads totals, and thins them."""
         plain_list = {"axes": ["K"], "values": [[1, 2, 3]], "totals": [5, None, 7]}
         spellings = [plain_list, plain_list | {"totals": [[5], [None], [7]]},
                      plain_list | {"totals": [[5, None, 7]]}]
@@ -210,7 +205,6 @@ class Reporting(Trial):
                   [maps.shade_of(total, 10, 80) for total in (10, 45, 80)])
 
     def test_numbers(self):
-        """Spells numbers and texts."""
         self.same("escaped", "&lt;&amp;&quot;&#x27;\ufffd\n", pieces.escaped("<&\"'\udcff\r\n"))
         self.same("counts", ["–", "0", "9999", "10,000", "-20"],
                   list(map(pieces.integer, [None, 0, 9999, 10000, -20])))

@@ -72,7 +72,6 @@ class Stored(Trial):
         self.same(name, path.read_text("utf-8") if path.exists() else None, came)
 
     def test_results(self):
-        """Compares what commands print with what is stored."""
         for name, words in PLAIN.items():
             status, out, err = run(*words.split())
             self.compared(name, out + err + (f"status {status}\n" if status else ""))
@@ -103,14 +102,12 @@ class Commands(Trial):
     """What all commands have."""
 
     def test_helps(self):
-        """Asks each command for help."""
         for name in COMMANDS:
             status, out, _ = run(name, "--help")
             self.same(f"{name} --help", (0, 1, 1), (
                 status, out.count("\nExit status"), out.count(f"\nExample: {name} ")))
 
     def test_closed(self):
-        """Closes the standard output of each command."""
         for name in COMMANDS:
             completed = subprocess.run(command(name, "--help"), stderr=subprocess.PIPE, text=True,
                                        timeout=SECONDS, preexec_fn=lambda: os.close(1))
@@ -118,7 +115,6 @@ class Commands(Trial):
                       (completed.returncode, completed.stderr))
 
     def test_without_program(self):
-        """Runs commands of a release without a program."""
         shutil.copytree(AUTHOR, self.folder / "author", ignore=shutil.ignore_patterns("tests"))
 
         def run_released(words):
@@ -137,7 +133,6 @@ class Commands(Trial):
              completed.stderr.splitlines(True)[0]))
 
     def test_signals(self):
-        """Closes the pipe of a command, and interrupts commands."""
         reading_end, pipe = os.pipe()
         os.close(reading_end)
         completed = subprocess.run(command("cwtune-scores", "step.cert", "schedule.csv"),

@@ -23,8 +23,6 @@ def damaged(row):
 
 
 class Sharing(SpreadTrial):
-    """Checks in shares."""
-
     def tune_decoy(self):
         """Tunes the decoy. Returns its certificate, and the line of its check."""
         self.tune(*DECOY)
@@ -71,7 +69,6 @@ class Sharing(SpreadTrial):
                   (self.spread("--jobs=2", *CHECK_ONLY), self.left()))
 
     def test_stops(self):
-        """Stops a check in its second share."""
         self.tune_decoy()
         for signal_number in [signal.SIGINT, signal.SIGTERM]:
             self.same(f"signal {signal_number} says how to go on", (

@@ -24,8 +24,6 @@ WRONG_OPTIONS = [
 
 
 class Spreading(SpreadTrial):
-    """Tunings in parts."""
-
     def test_after_kills(self):
         """Kills a tuning at ten moments, and compares what it makes with an unbroken one."""
         unbroken = self.found(DECOY, self.spread("--jobs=3", *TWELVE))
@@ -48,7 +46,6 @@ class Spreading(SpreadTrial):
                 self.done()))
             self.clear()
     def test_killed(self):
-        """Kills a tuning in a part."""
         for signal_number, ended_by in [(signal.SIGKILL, signal.SIGKILL),
                                         (signal.SIGHUP, signal.SIGINT)]:
             status, _ = self.stop_in("--part=2/3", signal_number, "--jobs=1", "--parts=3", *DECOY)
@@ -85,7 +82,6 @@ class Spreading(SpreadTrial):
                    self.check(reversed_opponents)))
 
     def test_damaged_parts(self):
-        """Damages what parts have left."""
         unbroken = self.found(DECOY, self.spread("--jobs=1", *TWELVE))
         for name, kind in [("a certificate", "cert"), ("a result", "done")]:
             self.unfinished()
@@ -119,7 +115,6 @@ class Spreading(SpreadTrial):
             (*self.spread(*DECOY), self.read("CERT.parts")))
 
     def test_two_at_once(self):
-        """Runs one `cwtune-spread` while another one has the folder."""
         with self.held("--jobs=1", *TWELVE) as job:
             self.same("the second one is refused",
                       (2, "", "error: another cwtune-spread is at work in CERT.parts\n"),
@@ -233,7 +228,6 @@ case $1 in tune) {self.program} "$@" | head -c -5;; *) {self.program} "$@";; esa
             self.clear()
 
     def test_floors(self):
-        """Looks at the floors that parts get."""
         self.write_ranked()
         tuned = self.tuned(RANKED)
         self.same("parts below their floors", tuned, self.found(RANKED, self.spread(
@@ -249,7 +243,6 @@ case $1 in tune) {self.program} "$@" | head -c -5;; *) {self.program} "$@";; esa
                   self.read("ranges").decode().splitlines())
 
     def test_rankings(self):
-        """Finds the first of the ranking, and checks it."""
         self.write_ranked()
         for option in ["--keep=2", "--keep=3", "--keep=20"]:
             tuned = self.tune(option, *RANKED).out.splitlines()
@@ -311,7 +304,6 @@ case $1 in tune) {self.program} "$@" | head -c -5;; *) {self.program} "$@";; esa
         return cert.total_of(94, fights)
 
     def test_progress(self):
-        """Looks at the line on a terminal."""
         lines = self.screen_of(["--jobs=1", *TWELVE]).split("\r")
         half = re.compile(r"6 of 12 parts, 63 of 126 settings, \d+ fights, \d+:\d\d left, best \d+ "
                           r"total \d+ DECOY.*\x1b\[K")

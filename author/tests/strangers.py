@@ -193,7 +193,6 @@ class Strangers(Trial):
             (0, 6, 0) in template.values_of_settings))
 
     def test_schemas(self):
-        """Reads JSON that is not of a schema."""
         for schema, text, fault in [
             (int, "1.0", "not a whole number"), (int, "true", "not a whole number"),
             (float, "NaN", "not a number"), (float, "1e999", "not a number"),
@@ -210,8 +209,6 @@ class Strangers(Trial):
 
 
 class Memory(Trial):
-    """Long certificates."""
-
     FILES = FILES
 
     def big_certificate(self, rows):
@@ -272,7 +269,6 @@ class Endings(Trial):
     FILES = FILES
 
     def test_unforeseen(self):
-        """Has a command meet what it does not foresee."""
         code = "from author.lib.endings import run_tool\nrun_tool(lambda: {}['x'])"
         for value, status, begin in [("", 3, "failed: KeyError in <string>, line 2:"),
                                      ("1", 1, "Traceback")]:
@@ -338,7 +334,6 @@ echo $$ >> {self.folder}/pids; exec sleep 99""")
                           self.ended_by(signal_number, words))
 
     def test_hang_ups(self):
-        """Hangs up commands that only read."""
         os.mkfifo(self.folder / "pipe")
         for words in ["cwtune-files pipe", "cwtune-vary pipe", "cwtune-warrior --setting=0 pipe",
                       "cwtune-landscape pipe step.cert x.svg"]:

@@ -89,7 +89,6 @@ class RaceOfHosts(RaceTrial):
         self.same("what is played ahead is used", all_plays, plays + len(played_ahead))
 
     def test_faults(self):
-        """Gives hosts programs that do not work."""
         piece, no_output = race_hosts.Piece([(1, 1)], []), "program tune: not the output of cwtune"
         for text, fault in [("echo failed: it broke >&2; exit 3", "it broke"),
                             ("exit 1", "cwtune ended with status 1"),

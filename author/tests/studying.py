@@ -310,8 +310,6 @@ class Studying(StudyTrial):
 
 
 class StudyRefused(StudyTrial):
-    """What `cwtune-study` refuses."""
-
     OPTIONS = FEW
 
     def test_foreign(self):
@@ -349,7 +347,6 @@ class StudyRefused(StudyTrial):
             "error: CERT is a text but not a certificate, and is not overwritten: best.cert\n")))
 
     def test_refusals(self):
-        """Gives it what no study can be made of. No folder is made."""
         (self.folder / "empty").mkdir()
         self.write("no-start.red", ";@tune K 1 2 1 2\nMOV 0, 1\nDAT 1/(K-2)\n")
         self.write("three-words.red", ";@tune K 1 2\n")

@@ -149,7 +149,6 @@ class Trial(unittest.TestCase, Place):
         self.wrong(*compare(name, expected, came))
 
     def refused(self, refusals, **options):
-        """Gives the commands what they have to refuse."""
         for words, status, line in refusals:
             self.same(words, (status, "", f"{line}\n"), self.call(words, **options))
 

@@ -177,8 +177,6 @@ WRONG_RANGES = [
 
 
 class Varying(Trial):
-    """Templates of texts, and the texts of their settings."""
-
     def opened(self, name, *words):
         """Returns the result of `cwtune-vary`. Its output stays in t.red."""
         result = self.call("cwtune-vary", name, *words)
@@ -186,7 +184,6 @@ class Varying(Trial):
         return result
 
     def test_templates(self):
-        """Makes templates of texts."""
         block = "i       FOR  2\nk       EQU  3\n        ROF\n"
         text, template = TEXT.replace(block, ""), TEMPLATE.replace(block, "")
         self.write("two.red", text)
@@ -268,7 +265,6 @@ class Varying(Trial):
                 and len(differ) <= (0 if setting == "start" else most)))
 
     def test_refusals(self):
-        """Gives it what has no range."""
         for name, text in TEXTS.items():
             self.write(name, text)
         self.refused(WRONG_RANGES)

@@ -36,8 +36,6 @@ WRONG_WORDS = [
 
 
 class Warriors(Trial):
-    """Texts of settings, and what settings make in fresh fights."""
-
     FILES = {"dat.red": "DAT 0\n", "imp.red": "MOV 0, 1\n", "s.csv": FIGHT,
              "two.csv": "opponent,position,first,weight\n0,4000,c,5\n1,4000,c,1\n",
              **{name: (TUNING / name).read_bytes() for name in ["step.red", "step.cert",
@@ -99,7 +97,6 @@ class Warriors(Trial):
             self.same(name, expected, self.call(f"cwtune-warrior {words} t.red"))
 
     def test_refusals(self):
-        """Gives `cwtune-warrior` what it refuses."""
         for name, text, begin in [
             ("kept.red", b";@text K EQU [K]\n;@tune K 0 1 1 0\n;@text DAT [L_choice:3,5]\n"
              b";@tune L_choice 0 1 1 0\nDAT 3\n",
@@ -116,7 +113,6 @@ class Warriors(Trial):
         self.refused(WRONG_WORDS)
 
     def test_pmars_notes(self):
-        """Makes texts with lines that pMARS does not take."""
         for text, line in [
             (b"DAT 0\nx: nop\n", "pMARS refuses line 3: NOP without an operand"),
             (b"DAT ; nothing\n", "pMARS refuses line 2: DAT without an operand"),
@@ -175,7 +171,6 @@ class Warriors(Trial):
                 f"cwtune-holdout --schedule {schedule} --rounds 20 t.red cert", *opponents))
 
     def test_objects(self):
-        """Asks for JSON and CSV."""
         self.tuned(";@tune K 0 2 1 0\nJMP 1-1/(K!=2)\n")
         made = {"opponent": 0, "wins": 0, "ties": 1, "losses": 0, "score": 1, "greatest": 3,
                 "not_played": 0}
