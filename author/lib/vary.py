@@ -52,24 +52,19 @@ class Varied:
     """A text with openings: what is open in each line, and the notes on it."""
 
     def __init__(self, path, source, openings):
-        self.path, self.source, self.opened, self.notes = path, source, [], []
+        self.source, self.opened, self.notes = source, [], []
         lines = source.lines()
         for opening in openings:
             spot = spot_of(path, lines, opening.place)
             constant, why = constant_of(spot, opening, source.text)
             twins = spot.twins(lines)
-            for twin in twins:
-                self.refuse_twice(twin)
+            for twin, other in itertools.product(twins, self.opened):
+                if twin.overlaps(other.spot):
+                    raise Fault(f"{path}, line {twin.line.number}: {other.spot.name} and "
+                                f"{twin.name} are in one place", 2)
             self.opened += [Opened(twin, constant, twin is twins[0]) for twin in twins]
             self.notes += [why] * bool(why)
         self.constants = [opened.constant for opened in self.opened if opened.has_range]
-
-    def refuse_twice(self, spot):
-        """Refuses a place that is open already, whole or in part."""
-        for other in self.opened:
-            if spot.overlaps(other.spot):
-                raise Fault(f"{self.path}, line {spot.line.number}: {other.spot.name} and "
-                            f"{spot.name} are in one place", 2)
 
     def template(self, starts_alone=False):
         """Returns the template. With `starts_alone` START is the only value of each constant."""
@@ -93,10 +88,6 @@ class Varied:
         is_first = row == min(opened.spot.line.row for opened in self.opened)
         mark = [ADAPTED + "\r" * line.endswith("\r")] if self.source.adapted and is_first else []
         return [*mark, KEPT + kept, *range_lines, *code_of_kept(kept, names)]
-
-    def count(self):
-        """Returns how many settings the template has."""
-        return math.prod(len(constant.values) for constant in self.constants)
 
 
 def uses_of(lines, equ):
@@ -206,7 +197,7 @@ def main():
         return
     varied = checked(args, source)
     sys.stdout.buffer.write(varied.template())
-    settings = varied.count()
+    settings = math.prod(len(constant.values) for constant in varied.constants)
     excess = ": too many for `cwtune tune`; cwtune-study and cwtune-seek have them race"
     for text in [*varied.notes, counted(settings, "setting") + excess * (settings > MOST_SETTINGS)]:
         note(text)

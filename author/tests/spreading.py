@@ -37,6 +37,7 @@ class Spreading(SpreadTrial):
         self.same("ten kills change nothing", unbroken,
                   self.found(DECOY, self.spread("--jobs=2", *TWELVE)))
         self.same("the parts are gone at the end", False, (self.folder / "CERT.parts").exists())
+
     def test_stops(self):
         """Stops a tuning in the part that begins last."""
         for signal_number in [signal.SIGINT, signal.SIGTERM]:
@@ -45,6 +46,7 @@ class Spreading(SpreadTrial):
                 *self.stop_in("--part=2/3", signal_number, "--jobs=1", "--parts=3", *DECOY),
                 self.done()))
             self.clear()
+
     def test_killed(self):
         for signal_number, ended_by in [(signal.SIGKILL, signal.SIGKILL),
                                         (signal.SIGHUP, signal.SIGINT)]:
@@ -53,6 +55,7 @@ class Spreading(SpreadTrial):
             self.same(f"signal {signal_number} leaves nothing running", (-ended_by, []),
                       (status, running_in(self.folder)))
             self.clear()
+
     def test_other_inputs(self):
         """Gives a folder of parts other inputs than those that it was made of."""
         reversed_opponents = [*DECOY[:3], *reversed(OPPONENTS)]
@@ -168,6 +171,7 @@ class Spreading(SpreadTrial):
             self.clear()
         self.refused(usage_error(f"cwtune-spread {words} {' '.join(SMALL)}", f"argument {fault}")
                      for words, fault in WRONG_OPTIONS)
+
     def test_methods(self):
         """Plays every fight, tells a log how far it is, and explains."""
         self.tune("--all", *DECOY)
@@ -275,6 +279,7 @@ case $1 in tune) {self.program} "$@" | head -c -5;; *) {self.program} "$@";; esa
                 alarm.cancel()
             job.wait(SECONDS)
         return text.decode()
+
     def test_explained(self):
         """Compares an explanation on a terminal with that of `tune`."""
         self.write("x.red", inputs.FILES["imps.red"])
@@ -297,6 +302,7 @@ case $1 in tune) {self.program} "$@" | head -c -5;; *) {self.program} "$@";; esa
         self.write("x.red", self.read("x.red").replace(b"MOV 0, 1", b"DAT 1/0"))
         self.same("the notes and the fault", self.tune("--explain", *SMALL).err,
                   self.spread("--explain", *SMALL).err)
+
     def total_of_start(self):
         """Returns the total of START by the certificate of the decoy."""
         cert = tuning_files.Certificate(self.folder / "CERT")
