@@ -1,5 +1,5 @@
 """Runs the scripts of `examples/`, also with what they have to refuse."""
-import itertools, os, pathlib, signal, subprocess, sys, time
+import itertools, os, pathlib, re, signal, subprocess, sys, time
 
 from author.lib.endings import run_tool
 from author.lib.words import program_word
@@ -11,7 +11,6 @@ from .play import in_folder
 from .tally import compare, tally
 
 EXAMPLES = pathlib.Path(__file__).resolve().parent.parent / "examples"
-SCRIPTS = ["play.sh", "assemble.sh", "tune.sh", "check.sh"]
 CERTIFY = [sys.executable, EXAMPLES / "tuning/certify.py"]
 CERT = inputs.FILES["imps.cert"]
 OPPONENTS = ["dat.red", "imp.red"]
@@ -48,12 +47,14 @@ def run(words, folder=EXAMPLES, **variables):
 
 
 def programs(program):
-    """Gives the scripts of `make demo` a program, and one that does not exist."""
-    for name in SCRIPTS:
-        status, out, err = run(["sh", name, program])
-        yield f"{name} PROGRAM", [] if status == 0 else [f"came {out}{err}"]
-        yield compare(f"{name} none", (1, "", f"{name}: no program none\n"),
-                      run(["sh", name, "none"]))
+    """Gives the script of `make demo` a program, one that does not exist, and a wrong one."""
+    status, out, err = run(["sh", "demo.sh", program])
+    yield "demo.sh PROGRAM", [] if status == 0 else [f"came {out}{err}"]
+    yield compare("demo.sh none", (1, "", "demo.sh: no program none\n"),
+                  run(["sh", "demo.sh", "none"]))
+    status, out, _ = run(["sh", "demo.sh", "/bin/true"])
+    wrong = len(re.findall("(?m)^cwtune .*: not as expected", out))
+    yield compare("demo.sh /bin/true: what differs", (1, True), (status, wrong > 30))
 
 
 def ranges(program):
