@@ -14,7 +14,8 @@ from author.lib.words import add_program, module_parser, number_from
 from pmars.games import Game
 from pmars.random_warriors import random_load
 
-from .pairs import SEED, Pair, mean_and_least, play_in_turn, processor_time
+from .pairs import SEED, Pair, play_in_turn
+from .runs import mean_and_least, run
 
 # The least turns of a pair's first fight.
 SHORTEST = 2000
@@ -23,8 +24,7 @@ SHORTEST = 2000
 def lasts(loads, program, folder):
     """Returns whether the first fight of two warriors lasts long enough."""
     game = Game(Rules(), *loads, folder)
-    _, said = processor_time(game.fight_words(program, SEED, "c"))
-    return int(said.split()[-1]) >= SHORTEST
+    return int(run(game.fight_words(program, SEED, "c")).output.split()[-1]) >= SHORTEST
 
 
 def lasting_pairs(asked, programs, folder):
