@@ -54,8 +54,9 @@ def variants(case, key):
     for number, table in enumerate(case[key], 1):
         name = f"{case['name']} ({'table' if key == 'each' else 'run'} {number})"
         check_keys(table, MERGED, [], name)
-        told = table.get("name", table.get("words"))
-        merged = {"name": f"{name}: {told}" if told else name}
+        texts = [*table.get("fill", {}).values(), *table.get("files", {}).values()]
+        told = table.get("name") or table.get("words") or repr(texts)[:100]
+        merged = {"name": f"{name}: {told}"}
         for part in ["files", "fill", "long"]:
             merged[part] = case[part] | table.get(part, {})
         cases.append(case | table | merged)
