@@ -2,7 +2,7 @@
 
 gate/cases/README.md says what a case has. One that says anything else, or no `name`, is refused.
 """
-import concurrent.futures, os, pathlib, re, shlex, string, tempfile, tomllib
+import os, pathlib, re, shlex, string, tempfile, tomllib
 
 from author.lib.endings import Fault, run_tool
 from author.lib.program import program_of
@@ -10,17 +10,18 @@ from author.lib.words import add_built, module_parser
 from author.lib.writing import naming
 
 from . import inputs
+from .lib.running import side_by_side
 from .play import Place, end
 from .tally import tally
 
 FILLED = ["stdin", "out", "err", "err_begins"]
 NEEDED = {"name": str}
 OPTIONAL = {
-    "status": int,
     "files": dict, "folders": list, "stdin": str, "stdin_from": str, "out_to": str, "cert": str,
-    "each": list, "out": str, "report": list, "out_begins": str, "out_contains": list, "out_is": str,
-    "err": str, "err_begins": str, "words": str, "runs": list, "fill": dict,
+    "each": list, "out": str, "report": list, "out_begins": str, "out_contains": list,
+    "out_is": str, "err": str, "err_begins": str, "words": str, "runs": list, "fill": dict,
     "long": dict, "accepted": bool, "terminal": bool, "seconds": int, "megabytes": int,
+    "status": int,
 }
 # what the tables of `runs` and `each` may say
 MERGED = {**OPTIONAL, **NEEDED, "runs": None, "each": None}
@@ -247,9 +248,7 @@ def main():
     program, folder = program_of(asked.program), pathlib.Path(__file__).resolve().parent / "cases"
     paths = asked.cases or sorted(folder.glob("*.toml"))
     cases = [case for path in paths for case in read_cases(path)]
-    with concurrent.futures.ThreadPoolExecutor(os.cpu_count()) as pool:
-        played = pool.map(lambda case: differences(program, case), cases)
-        return tally((case["name"], wrong) for case, wrong in zip(cases, played))
+    return tally(side_by_side(lambda case: (case["name"], differences(program, case)), cases))
 
 
 if __name__ == "__main__":

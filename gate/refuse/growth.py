@@ -6,12 +6,13 @@ or to end because a call returned `OutOfMemory` (at line or record 0, never anot
 because a request of the test itself was refused. The last line says how many requests were refused,
 too. Needs `cc` and a system with LD_PRELOAD.
 """
-import concurrent.futures, os, pathlib, subprocess, tempfile
+import os, pathlib, subprocess, tempfile
 
 from author.lib.endings import run_tool
 from author.lib.program import program_of
 from author.lib.words import module_parser
 
+from ..lib.running import side_by_side
 from ..tally import tally
 from .runs import library_of
 
@@ -79,8 +80,7 @@ def main():
     tests = [(program, name) for program, names in found.items() for name in names]
     with tempfile.TemporaryDirectory() as work:
         library = library_of("memory.c", work)
-        with concurrent.futures.ThreadPoolExecutor(os.cpu_count()) as pool:
-            came = list(pool.map(lambda test: refuse_each(library, *test), tests))
+        came = side_by_side(lambda test: refuse_each(library, *test), tests)
     total = sum(requests for requests, _ in came)
     trials = [(f"tests of {pathlib.Path(program).name}", [] if names else [f"none in {MODULE}"])
               for program, names in found.items()]

@@ -5,12 +5,13 @@ Each run has to end with its own result, which `runs.py` says, or with status 3,
 shows that no assembly is repeated (`once_each.py`). The last line says how many requests were
 refused, too. Needs `cc` and a system with LD_PRELOAD.
 """
-import concurrent.futures, os, tempfile
+import tempfile
 
 from author.lib.endings import run_tool
 from author.lib.words import program_word
 
 from . import once_each
+from ..lib.running import side_by_side
 from ..play import end
 from ..tally import tally
 from .runs import FILES, all_runs, library_of
@@ -37,8 +38,7 @@ def main():
     program, runs = program_word("gate.refuse.memory", __doc__), all_runs()
     with tempfile.TemporaryDirectory() as work:
         library = library_of("memory.c", work)
-        with concurrent.futures.ThreadPoolExecutor(os.cpu_count()) as pool:
-            came = list(pool.map(lambda one: refuse_each(program, library, *one[1:]), runs))
+        came = side_by_side(lambda one: refuse_each(program, library, *one[1:]), runs)
         again = list(once_each.trials(program, library))
     total = sum(requests for requests, _, _ in came)
     trials = [(name, wrong + ["no run ended out of memory"] * (refused == 0))
