@@ -18,13 +18,13 @@ FILLED = ["stdin", "out", "err", "err_begins"]
 NEEDED = {"name": str}
 OPTIONAL = {
     "files": dict, "folders": list, "stdin": str, "stdin_from": str, "out_to": str, "cert": str,
-    "each": list, "out": str, "report": list, "out_begins": str, "out_contains": list,
-    "out_is": str, "err": str, "err_begins": str, "words": str, "runs": list, "fill": dict,
+    "each": list, "values": dict, "out": str, "report": list, "out_begins": str,
+    "out_contains": list, "out_is": str, "err": str, "err_begins": str, "words": str, "runs": list, "fill": dict,
     "long": dict, "accepted": bool, "terminal": bool, "seconds": int, "megabytes": int,
     "status": int,
 }
 # what the tables of `runs` and `each` may say
-MERGED = {**OPTIONAL, **NEEDED, "runs": None, "each": None}
+MERGED = {**OPTIONAL, **NEEDED, "runs": None, "each": None, "values": None}
 LONG = {"head": str, "text": str, "times": int, "tail": str}
 SHARED = {"files": dict, "folders": list, "words": dict, "usual": str, "case": list}
 REPORT = "vectors {}\ncandidates {}\nbest {}\nconstants {}\ntotal {}\nfights {}\n"
@@ -152,6 +152,9 @@ def read_cases(path):
         case["files"] = table.get("files", {}) | case.get("files", {})
         case["folders"] = table.get("folders", []) + case.get("folders", [])
         case = {"long": {}} | case | {"fill": inputs.TEXTS | case.get("fill", {})}
+        if "values" in case:
+            case["each"] = [{"fill": {word: text}} for word, texts in case["values"].items()
+                            for text in texts]
         tables = [one for run in variants(case, "runs") for one in variants(run, "each")]
         cases += [way for one in tables for way in ways(filled(one))]
     if len({case["name"] for case in cases}) < len(cases):
