@@ -19,9 +19,9 @@ NEEDED = {"name": str}
 OPTIONAL = {
     "files": dict, "folders": list, "stdin": str, "stdin_from": str, "out_to": str, "cert": str,
     "each": list, "values": dict, "out": str, "report": list, "out_begins": str,
-    "out_contains": list, "out_is": str, "err": str, "err_begins": str, "words": str, "runs": list, "fill": dict,
-    "long": dict, "accepted": bool, "terminal": bool, "seconds": int, "megabytes": int,
-    "status": int,
+    "out_contains": list, "out_is": str, "err": str, "err_begins": str, "words": str,
+    "runs": list, "fill": dict, "long": dict, "accepted": bool, "terminal": bool,
+    "seconds": int, "megabytes": int, "status": int,
 }
 # what the tables of `runs` and `each` may say
 MERGED = {**OPTIONAL, **NEEDED, "runs": None, "each": None, "values": None}
