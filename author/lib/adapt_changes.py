@@ -164,7 +164,7 @@ class Finder:
             if source.root:
                 new, note = chars.of_root(root).strip(), f"{word} is written out"
             elif what == "CURLINE" and not text.blocks:
-                new = self.curline.written(value)
+                new = self.curline.written((text.index, *root), value)
             self.add((text.index, *root), new, note, text.reading)
 
     def count(self, text, chars, node, registers):

@@ -1,10 +1,14 @@
 """Writes CURLINE as the numbers of instructions before it, so that the count of an earlier block
-may still change: as `(4+2*(DECOYS))` after a block of two instructions."""
+may still change: as `(4+2*(DECOYS))` after a block of two instructions. A count in which CURLINE is
+written so counts in turn."""
 from typing import NamedTuple
 
 from .pmars_text import given_names
 from .pmars_tokens import tokens_of
 from .traced import Traced, joined
+
+# A longer sum is written as its value, since pMARS reads 255 bytes of a line.
+LONGEST_SUM = 200
 
 
 class CountedBlock(NamedTuple):
@@ -18,10 +22,11 @@ class CountedBlock(NamedTuple):
 
 class Curline:
     """The blocks that were copied so far whose counts may change. `lines` are those of the text,
-    each a `Traced`."""
+    each a `Traced`, and `sums` has what was written for CURLINE, by line and column."""
 
     def __init__(self, lines, rules):
         self.lines, self.given, self.blocks, self.starts = lines, given_names(rules), [], []
+        self.sums = {}
 
     def begins(self, text):
         self.starts.append(text.address)
@@ -31,10 +36,18 @@ class Curline:
         size, rest = divmod(text.address - self.starts.pop(), block.count)
         line = text.lines[block.head]
         head = next(token for token in tokens_of(line.text) if token.text.upper() == "FOR")
-        columns = slice(line.column + head.end, line.column + len(line.text))
-        count = self.lines[line.index][columns].strip()
+        count = self.count_of(line, line.column + head.end)
         if not self.starts and not rest and size and self.may_change(text, count.text):
             self.blocks.append(CountedBlock(count, block.count, size))
+
+    def count_of(self, line, start):
+        """Returns the count from a column of a line on, with what was written for CURLINE."""
+        end = line.column + len(line.text)
+        count = self.lines[line.index][:end]
+        for (index, first, last), new in sorted(self.sums.items(), reverse=True):
+            if index == line.index and first >= start:
+                count = count.replaced(first, last, new)
+        return count[start:].strip()
 
     def may_change(self, text, count):
         """Returns whether a count is a number, or is made of EQU names and constants, and not of
@@ -50,9 +63,13 @@ class Curline:
             self.is_text(text, token.text) for token in tokens_of(known.lines[0].text)
             if token.kind == "name"))
 
-    def written(self, value):
-        """Returns the text of CURLINE, whose value is given, as a `Traced`."""
+    def written(self, where, value):
+        """Returns the text of CURLINE, whose value is given, as a `Traced`. `where` is its line and
+        its columns there."""
         rest = value - sum(block.copies * block.size for block in self.blocks)
         terms = [f"{block.size}*(" + block.count + ")" for block in self.blocks]
-        return "(" + joined([Traced.new(str(rest)), *terms], "+") + ")" if terms else (
-            Traced.new(str(value)))
+        new = "(" + joined([Traced.new(str(rest)), *terms], "+") + ")" if terms else None
+        if new is None or len(new) > LONGEST_SUM:
+            new = Traced.new(str(value))
+        self.sums[where] = new
+        return new

@@ -137,7 +137,7 @@ def refuse_other_tuning(args, cert, part, method):
             settled_file(inputs, kind, 0, getattr(args, kind))
         settled_opponents(inputs, args.opponent)
     except Fault as fault:
-        raise Fault(f"{cert} is not of part {part} of what is merged: {fault}", 2) from None
+        raise Fault(f"{cert} is not part {part} of this tuning: {fault}", 2) from None
 
 
 def refuse_other_rules(args, rules):

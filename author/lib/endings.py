@@ -1,5 +1,5 @@
 """Ends the commands: after a fault, as a run of `cwtune` ended, or by a signal."""
-import codecs, ctypes, io, os, pathlib, re, signal, subprocess, sys, traceback
+import codecs, ctypes, io, os, pathlib, re, shlex, signal, subprocess, sys, traceback
 
 # The first word of a fault on standard error, by the status of the command.
 STATUS_WORDS = {1: "refused", 2: "error", 3: "failed"}
@@ -72,6 +72,14 @@ def shown(line):
 def escaped(text):
     """Returns a text with a backslash and a number for each character that steers a terminal."""
     return STEERING.sub(lambda match: f"\\x{ord(match[0]):02x}", text)
+
+
+def quoted(word):
+    """Returns a word as a shell takes it, without a byte that steers a terminal."""
+    if can_be_shown(word):
+        return shlex.quote(word)
+    octal = "".join(f"\\{byte:03o}" for byte in os.fsencode(word))
+    return f"\"$(printf '{octal}')\""
 
 
 def run_tool(main):

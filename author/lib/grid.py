@@ -8,6 +8,8 @@ BLANKS = b" \t\r"
 NAME = "[A-Za-z_][A-Za-z0-9_]*"
 # A line of the author's text that `cwtune-vary` keeps in a template, and a slot in it (`slots`).
 KEPT, SLOT = ";@text ", re.compile(rf"\[({NAME})(?::([^\]\n]*))?\]")
+# A line of a template whose text `cwtune-adapt` wrote.
+ADAPTED = ";@adapted"
 
 
 class Grid:

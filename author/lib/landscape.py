@@ -1,10 +1,9 @@
 """Draws the totals of a tuning over its constants, as an SVG or a PNG file by the name's end.
 
-One constant is a line, two are a map of colours, more are a map for each choice of the constants
-beside the two axes. A setting that was dropped has no total, so it is grey: a square of a map,
-lighter if its total can be greater, or a triangle on a line, as high as its total can be at most.
-The best setting is a star, and START a ring; a setting that does not assemble is left white. A
-second picture shows for each constant the mean total of each of its values, with its standard
+Of one constant it is a line, of two a map of colours, of more a map for each choice of the others.
+The best setting is a star, and START a ring. A setting that does not assemble is left white. One
+that was dropped is grey: in a map a square, lighter if its total can be greater, on a line a
+triangle, as high as its total can be at most. A second picture shows for each constant the mean total of each of its values, with its standard
 error, to one scale; it needs every total, so a certificate of `cwtune tune --all`. Needs matplotlib
 (Debian: python3-matplotlib).
 
@@ -13,7 +12,7 @@ Example: cwtune-landscape my.red my.cert totals.png --effects effects.png
 import contextlib, itertools, math, os, sys
 
 from . import cert_inputs, tuning_files
-from .endings import Fault
+from .endings import Fault, quoted
 from .mean_error import error_of_mean
 from .watching import watched
 from .words import add_files, command_parser
@@ -40,7 +39,7 @@ def load_pyplot():
             import matplotlib.pyplot
     except ModuleNotFoundError:
         raise Fault("no matplotlib for this Python; on Debian: apt-get install "
-                    f"python3-matplotlib, then /usr/bin/python3 {sys.argv[0]} ..", 3) from None
+                    f"python3-matplotlib, then /usr/bin/python3 {quoted(sys.argv[0])} ..", 3) from None
     except ImportError as error:
         raise Fault(f"matplotlib cannot be loaded: {error}", 3) from None
     matplotlib.rcParams.update({"svg.hashsalt": "cwtune", "svg.fonttype": "none",

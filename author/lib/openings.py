@@ -160,10 +160,24 @@ def as_range(numbers):
     return values if list(values) == numbers else None
 
 
+def name_of(place):
+    """Returns the name of the constant of a place, unless the text has that name."""
+    return re.sub(r"[.-]", "_", f"line{place}" if place[0].isdecimal() else place)
+
+
+def place_named(name, place):
+    """Returns the place of a constant with this name if it can be that of `place`, else None. A
+    line has the number of the name, since the text may be an adapted one."""
+    number = re.match("line([0-9]+)_", name)
+    if number and place[0].isdecimal():
+        place = f"{number[1]}.{place.partition('.')[2]}"
+    return place if re.fullmatch(f"{name_of(place)}(_choice)?_*", name) else None
+
+
 def free_name(place, text):
     """Returns a name for the constant of a place, which is no name of the text. The line of an
     earlier tuning does not count."""
-    name = re.sub(r"[.-]", "_", f"line{place}" if place[0].isdecimal() else place)
+    name = name_of(place)
     lines = [line for line in text.split("\n") if not line.startswith(STRATEGY)]
     taken = set(re.findall(NAME, "\n".join(lines)))
     while name in taken:

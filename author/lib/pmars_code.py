@@ -174,8 +174,8 @@ class Load:
             else:
                 self.add(instruction)
         if len(self.lines) != text.address:
-            raise PmarsFault(0, "an EQU of several lines as an operand, of which pMARS makes "
-                             "anything")
+            raise PmarsFault(0, "an EQU of several lines as an operand, which pMARS reads by "
+                             "chance")
         if len(self.lines) > text.rules.length:
             raise PmarsFault(0, f"{len(self.lines)} instructions")
         if self.start >= len(self.lines):

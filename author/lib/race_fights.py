@@ -258,8 +258,8 @@ def duration(seconds):
 def add_budget(parser):
     """Adds the options of a race to the words of a command."""
     group = parser.add_argument_group("race")
-    group.add_argument("--fights", type=number_from(1000), metavar="N", help="end after N fights "
-                       f"[default: {DEFAULT_FIGHTS}, unless --minutes is given]")
+    group.add_argument("--fights", type=number_from(1000), metavar="N", help="end after N fights, "
+                       f"1000 or more [default: {DEFAULT_FIGHTS}, unless --minutes is given]")
     group.add_argument("--minutes", type=minutes, metavar="N",
                        help="end after N minutes, such as 10 or 0.5")
     group.add_argument("--jobs", type=number_from(1), default=os.cpu_count(), metavar="N",

@@ -159,7 +159,7 @@ class Hosts:
                 self.arena.tell_progress()
                 time.sleep(0.02)
             if jobs.waiting:
-                raise Fault(f"hosts have no result ({jobs.fault})", 3)
+                raise Fault(f"no result from the hosts ({jobs.fault})", 3)
         finally:
             jobs.stop()
             shutil.rmtree(folder.path)

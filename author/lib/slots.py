@@ -15,7 +15,7 @@ import itertools, re
 from typing import NamedTuple
 
 from .endings import Fault
-from .grid import KEPT, SLOT, is_range_line
+from .grid import ADAPTED, KEPT, SLOT, is_range_line
 from .places import HEAD, code_of
 
 # What the line with the values of a setting begins with.
@@ -90,7 +90,7 @@ def code_of_kept(line, names):
 
 def author_lines(path, lines, names):
     """Returns the author's lines of a template, each with its slots, if any, and the names of the
-    constants that have one. Their range lines are left out."""
+    constants that have one. Their range lines are left out, and the line `ADAPTED`."""
     own, index = [], 0
     slots_at = {number: slots_of(line.removeprefix(KEPT), names)
                 for number, line in enumerate(lines) if line.startswith(KEPT)}
@@ -100,7 +100,7 @@ def author_lines(path, lines, names):
         if slots:
             line = line.removeprefix(KEPT)
             index = after_code(path, lines, index, with_slot, code_of_kept(line, names))
-        if slots or not is_range_of(line, with_slot):
+        if slots or not (is_range_of(line, with_slot) or line.rstrip("\r") == ADAPTED):
             own.append((line, slots))
     return own, with_slot
 

@@ -190,9 +190,8 @@ def refuse_floors(parts):
     for part in filter(Part.is_below, parts):
         floor = int(part.report["total"].split()[1])
         if floor - 1 > greatest or floor - 1 == greatest and part.first < best_setting:
-            raise Fault(f"the part from setting {part.first} on is below the floor {floor}, but "
-                        f"the greatest total found is {max(greatest, 0)}: a greater one may be "
-                        "there", 2)
+            raise Fault(f"the part from setting {part.first} on says only that it is below {floor}, "
+                        f"and no other total is above {max(greatest, 0)}: it may hide the best", 2)
 
 
 def refuse_ranking(args, cert):

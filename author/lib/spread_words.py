@@ -50,8 +50,8 @@ def add_search(parser):
     """Adds the options of how a part is tuned."""
     group = parser.add_argument_group("search")
     group.add_argument("--keep", type=number_from(1, MOST_KEPT), default=1,
-                       metavar="K", help="take the first K of the ranking in place of the best "
-                       "setting, as `--keep` of `cwtune tune` and `cwtune check` [default: 1]")
+                       metavar="K", help="find and check the first K of the ranking, as "
+                       "`cwtune tune --keep K` [default: 1]")
     methods = group.add_mutually_exclusive_group()
     methods.add_argument("--all", action="store_true",
                          help="play every fight of every setting, as `cwtune tune --all`")

@@ -220,11 +220,11 @@ def make_parser():
                         help="tune a template of at most N settings whole, and race in a larger "
                         "one [default: 1000]")
     parser.add_argument("--fresh", type=fight_count, default=100, metavar="F",
-                        help="fresh fights of a heat against each opponent, in a template that is "
+                        help="fresh fights against each opponent in a heat, if the template is "
                         "tuned whole [default: 100]")
     parser.add_argument("--box", type=number_from(1), default=2, metavar="N",
-                        help="values on both sides of those of a race's winner, which are tuned; 1 "
-                        "if that makes more than --exact settings [default: 2]")
+                        help="tune the settings up to N steps from a race's winner; up to 1 if "
+                        "these are more than --exact [default: 2]")
     parser.add_argument("--certify", action="store_true", help="tune the box around a race's "
                         "winner with all fights, check the certificate, and draw its totals")
     parser.add_argument("--by-kind", action="store_true",

@@ -7,11 +7,11 @@
 A stage is done once `study.json` says so, so neither a kill nor a crash leaves half of one. A file
 of a stage that is done has to stay as it was.
 """
-import contextlib, dataclasses, json, os, pathlib, re, shlex, subprocess, sys, time
+import contextlib, dataclasses, json, os, pathlib, re, subprocess, sys, time
 from typing import Annotated, Any, TypedDict
 
 from . import spread_parts, spread_shares
-from .endings import Fault, can_be_shown, end_with_parent, ended_with, shown, status_of
+from .endings import Fault, end_with_parent, ended_with, quoted, shown, status_of
 from .own_folder import OwnFolder, real_parent
 from .program import DEFAULT
 from .schema import Malformed, checked
@@ -208,14 +208,6 @@ class StudyFolder(OwnFolder):
 
 def result_schema(stage):
     return next((schema for names, schema in RESULTS.items() if re.fullmatch(names, stage)), Any)
-
-
-def quoted(word):
-    """Returns a word as a shell takes it, without a byte that steers a terminal."""
-    if can_be_shown(word):
-        return shlex.quote(word)
-    octal = "".join(f"\\{byte:03o}" for byte in os.fsencode(word))
-    return f"\"$(printf '{octal}')\""
 
 
 def run_in(folder, argv, output, returns_messages):

@@ -4,7 +4,7 @@ from typing import NamedTuple
 
 from . import vary
 from .adapt import adapted_for, adapted_opponents, read_text
-from .endings import Fault, fault_of
+from .endings import Fault, fault_of, quoted
 from .grid import Grid, is_range_line
 from .openings import opening_from
 from .program import EXPLAIN, rules_of, run_program
@@ -137,7 +137,7 @@ def read(parser, args):
         source = vary.source_of(parser, args)
         if not args.ranges:
             raise Fault(f"{args.warrior}: no range line: give words PLACE=VALUES too "
-                        f"(`cwtune-vary {args.warrior}` lists the places)")
+                        f"(`cwtune-vary {quoted(args.warrior)}` lists the places)")
         warrior = source.text.encode("latin-1")
         if warrior == original:
             refuse_text(args, args.warrior, "--", args.warrior)

@@ -17,7 +17,7 @@ from typing import NamedTuple
 
 from .adapt import adapt, adapted_text, add_as_is
 from .endings import Fault, say
-from .grid import KEPT, is_range_line
+from .grid import ADAPTED, KEPT, is_range_line
 from .openings import constant_of, opening_from
 from .places import FIELDS, OPCODES, Span, code_of, lines_of, spot_of, spots_in
 from .program import load_file_of_bytes, refuse_other_warrior, rules_of
@@ -51,7 +51,7 @@ class Varied:
     """A text with openings: what is open in each line, and the notes on it."""
 
     def __init__(self, path, source, openings):
-        self.path, self.text, self.opened, self.notes = path, source.text, [], []
+        self.path, self.source, self.opened, self.notes = path, source, [], []
         lines = source.lines()
         for opening in openings:
             spot = spot_of(path, lines, opening.place)
@@ -72,7 +72,7 @@ class Varied:
 
     def template(self, starts_alone=False):
         """Returns the template. With `starts_alone` START is the only value of each constant."""
-        lines = [new for row, line in enumerate(self.text.split("\n"), 1)
+        lines = [new for row, line in enumerate(self.source.text.split("\n"), 1)
                  for new in self.lines_for(row, line, starts_alone)]
         return "\n".join(lines).encode("latin-1")
 
@@ -89,7 +89,9 @@ class Varied:
             if has_range:
                 range_lines.insert(0, constant.range_line(values) + "\r" * line.endswith("\r"))
         names = [constant.name for constant in self.constants]
-        return [KEPT + kept, *range_lines, *code_of_kept(kept, names)]
+        is_first = row == min(opened.spot.line.row for opened in self.opened)
+        mark = [ADAPTED + "\r" * line.endswith("\r")] if self.source.adapted and is_first else []
+        return [*mark, KEPT + kept, *range_lines, *code_of_kept(kept, names)]
 
     def count(self):
         """Returns how many settings the template has."""

@@ -11,13 +11,14 @@ The text is printed only if `cwtune asm` makes the same load file of it as of th
 
 Example: cwtune-warrior my.red my.cert > winner.red
 """
-import argparse, pathlib, re, sys
+import argparse, itertools, pathlib, re, sys
 
 from . import cert_inputs, slots, tuning_files
 from .adapt import adapt, add_as_is, adapted_if_refused, read_text, start_of
 from .endings import Fault, say
-from .grid import is_range_line
-from .places import assembled_lines, lines_of
+from .grid import ADAPTED, is_range_line
+from .openings import place_named
+from .places import assembled_lines, lines_of, spots_in
 from .program import load_file_of, refuse_other_warrior, rules_of
 from .put_back import original_lines
 from .slots import STRATEGY
@@ -36,21 +37,41 @@ def equ_line(name, value):
     return f"{name} EQU {value}" if value >= 0 else f"{name} EQU ({value})"
 
 
+def own_lines(template, setting):
+    """Returns the author's lines of a template with the values of a setting, and the slots that
+    each had."""
+    value_of = template.values_by_name(setting)
+    lines = [line.decode("latin-1") for line in template.lines]
+    lines, _ = slots.author_lines(template.path, lines, value_of)
+    return [(slots.filled(line, slots.texts_of(of_line, value_of)), of_line or [])
+            for line, of_line in lines]
+
+
+def places_of(template, setting):
+    """Returns for each constant that `cwtune-vary` named the place that it opens."""
+    own, places = own_lines(template, setting), {}
+    for line in lines_of("\n".join(line for line, _ in own)):
+        spots = [spot for field in line.fields for spot in spots_in(line, field)]
+        for slot, spot in itertools.product(own[line.row - 1][1], spots):
+            if place := place_named(slot.name, spot.name):
+                places.setdefault(slot.name, place)
+    return places
+
+
 def strategy_line(template, setting, totals):
     """Returns the line that says what the values are, and their total and that of START, each None
     if it is not known."""
-    total, start_total = totals
+    (total, start_total), places = totals, places_of(template, setting)
+    values = [f"{places.get(name, name)}={template.shown_value(name, value)}"
+              for name, value in template.values_by_name(setting).items()]
     shown = f", total {total}" if total is not None else ""
     shown += f", total of START {start_total}" if start_total is not None else ""
-    return f"{STRATEGY}{template.constants(setting)}{shown}"
+    return f"{STRATEGY}{' '.join(values) or '-'}{shown}"
 
 
-def text_of(text, template, setting, totals=(None, None)):
-    """Returns the author's text with the values of a setting, from the template's text."""
-    value_of = template.values_by_name(setting)
-    lines, _ = slots.author_lines(template.path, text.decode("latin-1").split("\n"), value_of)
-    own = [slots.filled(line, slots.texts_of(of_line, value_of)) for line, of_line in lines]
-    return finished(own, template, setting, totals)
+def text_of(template, setting, totals=(None, None)):
+    """Returns the author's text with the values of a setting."""
+    return finished([line for line, _ in own_lines(template, setting)], template, setting, totals)
 
 
 def finished(own, template, setting, totals):
@@ -141,7 +162,7 @@ def checked_text(args, template, setting, totals):
                              "--", template.path)
     if args.original and (text := text_put_back(args, template, setting, totals, load_file)):
         return text
-    text = text_of(b"\n".join(template.lines), template, setting, totals)
+    text = text_of(template, setting, totals)
     refuse_other_warrior("with its values", text, load_file, args.program, *rules)
     print_pmars_notes(text)
     return text
@@ -194,6 +215,13 @@ def main():
             if args.setting != "start" or args.as_template:
                 raise
             print_start(args, path)
+        if not (args.original or args.as_template) and (path != args.template or has_mark(path)):
+            say("note", "this is the adapted text: --original FILE puts the values into yours", 0)
+
+
+def has_mark(path):
+    """Returns whether `cwtune-vary` made a template of an adapted text."""
+    return ADAPTED.encode() in map(bytes.rstrip, read_text(path).split(b"\n"))
 
 
 def print_start(args, path):

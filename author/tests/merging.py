@@ -121,7 +121,7 @@ def merged_others(place):
         ("another schedule", ["--merge=3", *with_other_schedule], "1/3",
          "other.csv is not the schedule of the tuning"),
     ]:
-        line = f"error: CERT.1 is not of part {part} of what is merged: {fault}\n"
+        line = f"error: CERT.1 is not part {part} of this tuning: {fault}\n"
         yield compare(f"--merge with {name}", (2, "", line), place.spread(*words))
     for number in [1, 2, 3]:
         (place.folder / f"CERT.{number}.inputs").unlink()
@@ -196,8 +196,8 @@ def merged_rankings(place):
                   place.spread("--merge=4", "--keep=4", *RANKED).out.splitlines()[6:])
     place.clear()
     place.run_jobs(4, *words, "--floor=5")
-    line = ("error: the part from setting 0 on is below the floor 5, but the greatest total found "
-            "is 0: a greater one may be there\n")
+    line = ("error: the part from setting 0 on says only that it is below 5, and no other total is "
+            "above 0: it may hide the best\n")
     yield compare("--merge of parts that are all below", (2, "", line, None), (
         *place.spread("--merge=4", *RANKED), place.read("CERT")))
 

@@ -262,8 +262,8 @@ case $1 in tune) {place.program} "$@" | head -c -5;; *) {place.program} "$@";; e
             *place.spread("--program=./liar", *words, *SMALL), place.read("CERT")))
         place.clear()
     place.write_program("liar", other_total)
-    line = ("error: the part from setting 0 on is below the floor 5, but the greatest total found "
-            "is 0: a greater one may be there\n")
+    line = ("error: the part from setting 0 on says only that it is below 5, and no other total is "
+            "above 0: it may hide the best\n")
     yield compare("another total of START", (2, "", line, None), (
         *place.spread("--program=./liar", *SMALL), place.read("CERT")))
     place.clear()

@@ -3,8 +3,8 @@ import ast, contextlib, fcntl, os, pathlib, pty, re, signal, struct, subprocess,
 from unittest import mock
 
 from author.lib import regular, tuning_files, writing
+from author.lib.endings import quoted
 from author.lib.schema import Malformed, from_json
-from author.lib.study_folder import quoted
 from gate import play
 from gate.tally import compare
 

@@ -225,8 +225,8 @@ def signs(place):
     place.write("t.red", template)
     own = run("cwtune-warrior", "--program", place.program, "--setting=7", "t.red",
               folder=place.folder).out
-    yield compare("below 0 and above", ";strategy own\n;strategy cwtune: AIM_2_choice=-9 "
-                  "line3_b_1=3\nAIM EQU 7-(-9)\n MOV 0, AIM*(3)\n", own)
+    yield compare("below 0 and above", ";strategy own\n;strategy cwtune: AIM.2=-9 "
+                  "3.b.1=3\nAIM EQU 7-(-9)\n MOV 0, AIM*(3)\n", own)
     place.write("signs.red", own)
     yield compare("listed", ["AIM.1=7: line 3, 1 use", "AIM.2=-9: line 3, 1 use"],
                   vary(place, "signs.red").out.split("\n")[:2])

@@ -49,7 +49,7 @@ def wrong_settings(place, text, count):
     path.write_bytes(text)
     template, wrong = tuning_files.Template(path), []
     for setting in range(len(template.values_of_settings)):
-        setting_path.write_bytes(warrior.text_of(text, template, setting))
+        setting_path.write_bytes(warrior.text_of(template, setting))
         expected = assemble(place.program, "--setting", str(setting), str(path))
         result = assemble(place.program, str(setting_path))
         if result != expected or not expected[0]:

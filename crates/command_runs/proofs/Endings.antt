@@ -15,7 +15,8 @@ use Rattle.tune_runs.specs.SettingsRun.{WritesSettings}
 use Rattle.tune_runs.specs.declared.given.WhichSetting.{WhichSetting}
 use Rattle.tune_problem.specs.declared.aim.Aim.{Aim}
 use Rattle.tune_search.specs.declared.method.Method.{Method}
-use Rattle.command_words.specs.CommandLine.{AsksForFight, MentionsHelp, command_of, is_command}
+use Rattle.command_words.specs.CommandLine.{AsksForFight, command_of, is_command}
+use Rattle.command_words.specs.Help.{MentionsHelp}
 use Rattle.command_runs.specs.Commands.{KeepsOutput, IsEnded, IsCheckEnded, WritesFightIn, WritesDuelOf, WritesSomeDuel, WritesLoadFile, WritesSomeLoadFile, WritesSomeSettings, WritesReport, WritesSomeReport, WritesCheckLine, WritesSomeCheckLine, status_of}
 use Rattle.command_runs.specs.Program.{IsProgramRun, IsSuccess}
 use Rattle.command_runs.specs.declared.ending.Ending.{Ending}

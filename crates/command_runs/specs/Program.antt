@@ -4,7 +4,8 @@ use Rattle.rc_instr.specs.Outlet.{OutletView}
 use Rattle.tune_runs.specs.FightRun.{fight_output}
 use Rattle.tune_runs.specs.Runs.{Writer, writer}
 use Rattle.tune_runs.specs.declared.fault.RunFault.{RunFault}
-use Rattle.command_words.specs.CommandLine.{AsksForFight, MentionsHelp, command_of, is_command}
+use Rattle.command_words.specs.CommandLine.{AsksForFight, command_of, is_command}
+use Rattle.command_words.specs.Help.{MentionsHelp}
 use Rattle.command_runs.specs.Commands.{WritesFightIn, WritesSomeDuel, WritesSomeLoadFile, WritesSomeSettings, WritesSomeReport, WritesSomeCheckLine}
 use Rattle.command_runs.specs.Input.{IsInput}
 

@@ -1,6 +1,8 @@
 //! The program, apart from `main`: words and three streams in, an exit status out.
 ghost use Rattle.std.specs.Prelude.{◌≡◌, ◌≢◌, ◌⊎◌, map, false, string_bytes, IfErr};
-ghost use Rattle.command_words.specs.CommandLine.{MentionsHelp};
+ghost use Rattle.std.specs.IoError.{error_kind};
+ghost use Rattle.std.specs.declared.io.ErrorKind.{ErrorKind as ErrorKindView};
+ghost use Rattle.command_words.specs.Help.{MentionsHelp};
 ghost use Rattle.command_runs.specs.Commands.{IsEnded};
 ghost use Rattle.command_runs.specs.Program.{IsProgramRun};
 
@@ -102,14 +104,19 @@ pub fn watched_program<F: Files, R: Read, W: Write, V: Write, T: Witness>(
 /// Says on standard error why there are no words, and returns the exit status: 2 if a word is not
 /// UTF-8, 3 if memory ran out.
 pub fn end_without_words<V: Write>(err: &mut Outlet<V>, error: &io::Error) -> u8
-    ensures { (result ≡ 2) ⊎ (result ≡ 3) }
+    ensures unreadable { error_kind error.now ≡ ErrorKindView.InvalidData → result ≡ 2 }
+    ensures other { error_kind error.now ≢ ErrorKindView.InvalidData → result ≡ 3 }
 {
-    if error.kind() != io::ErrorKind::InvalidData {
-        tell_run_fault(err, RunFault::OutOfMemory);
-        return 3;
+    match error.kind() {
+        io::ErrorKind::InvalidData => {
+            tell(err, &["error: a word of the command line is not UTF-8\n"]);
+            2
+        }
+        _ => {
+            tell_run_fault(err, RunFault::OutOfMemory);
+            3
+        }
     }
-    tell(err, &["error: a word of the command line is not UTF-8\n"]);
-    2
 }
 
 // Prints what `clap` has to say: help on standard output, or a usage error on standard error.

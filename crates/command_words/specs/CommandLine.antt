@@ -1,6 +1,5 @@
 -- What the words of a command line ask for.
-use Rattle.std.specs.Prelude.{if◌then◌else◌, ◌≡◌, ℕ, ◌≤◌, ◌<◌, ◌^◌, ◌||◌, ◌&&◌, nat_le, Bool, Option, Some, None, List, [], ◌∷◌, ◌++◌, codes, IsTrue}
-use Rattle.std.specs.List.{list_any}
+use Rattle.std.specs.Prelude.{if◌then◌else◌, ◌≡◌, ℕ, ◌≤◌, ◌<◌, ◌^◌, ◌||◌, ◌&&◌, nat_le, Bool, false, Option, Some, None, List, [], ◌∷◌, ◌++◌, codes}
 use Rattle.std.specs.Option.{unwrap_or}
 use Rattle.std.specs.Str.{byte, bytes_eq}
 use Rattle.std.specs.Fmt.{decimal}
@@ -31,6 +30,11 @@ is_command word =
     bytes_eq word (codes "fight") || (bytes_eq word (codes "asm") || (bytes_eq word (codes "settings")
     || (bytes_eq word (codes "tune") || bytes_eq word (codes "check"))))
 
+-- The flag is among the words before `--`.
+abbrev pub is_given : (flag : List ℕ) → List (List ℕ) → Bool
+is_given flag [] = false
+is_given flag (word ∷ words) = if bytes_eq word (codes "--") then false else (bytes_eq word flag || is_given flag words)
+
 -- The command of a request.
 abbrev pub command_word : Request → List ℕ
 command_word Fight = codes "fight"
@@ -39,16 +43,6 @@ command_word (Asm words) = codes "asm"
 command_word (Settings file) = codes "settings"
 command_word (Tune words method demand) = codes "tune"
 command_word (Check words share demand) = codes "check"
-
--- A word that asks for help, or for the version.
-abbrev pub is_help_word : List ℕ → Bool
-is_help_word word =
-    bytes_eq word (codes "help") || (bytes_eq word (codes "--help") || (bytes_eq word (codes "-h")
-    || (bytes_eq word (codes "--version") || bytes_eq word (codes "-V"))))
-
--- One of the words asks for help or for the version, wherever it is.
-abbrev pub MentionsHelp : List (List ℕ) → Type 0
-MentionsHelp words = IsTrue (list_any is_help_word words)
 
 -- The number of `--keep`, or None if it is not given. `clap` refuses one that is not 1 to
 -- `MOST_KEPT`.

@@ -1,26 +1,26 @@
 //! The options `--keep` and `--floor`.
-ghost use Rattle.std.specs.Prelude.{◌≡◌, ◌≤◌};
+ghost use Rattle.std.specs.Prelude.{◌≡◌, ◌≤◌, ℕ, Option, IfOk, codes};
 ghost use Rattle.std.specs.Option.{unwrap_or};
+ghost use Rattle.clap.specs.Matches.{first_value, found_of};
 ghost use Rattle.tune_problem.specs.Limits.{MOST_KEPT};
 ghost use Rattle.tune_problem.specs.Ranking.{IsAim};
 ghost use Rattle.command_words.specs.CommandLine.{aim_meant, kept_asked};
+ghost use Rattle.command_words.specs.Options.{SaysNumber, IsGiven};
 
-use crate::number_option::{CHECK_FLOOR, ranged_arg};
+use crate::number_option::{CHECK_FLOOR, CHECK_KEEP};
 use crate::usage_error::BadValue;
-use clap::{Arg, ArgMatches};
-use std::alloc::Global;
+use clap::ArgMatches;
 use tune_cert::Demand;
 use tune_problem::{Aim, limits};
 
-pub(crate) fn keep_option<'a>(alloc: Global, help: &'a str) -> Arg<'a> {
-    ranged_arg(alloc, "keep", limits::MOST_KEPT, help)
-}
-
-// Returns what a tuning, or a check, is asked for beside the optimum. `CHECK_FLOOR` reads the
-// floor of `tune` too: both options have one name.
-pub(crate) fn demand_of<'a>(matches: &ArgMatches<'a>) -> Result<Demand, BadValue<'a>> {
+// Returns what a tuning, or a check, is asked for beside the optimum. The options of `check` read
+// those of `tune` too, which have the same names.
+pub(crate) fn demand_of<'a>(matches: &ArgMatches<'a>) -> Result<Demand, BadValue<'a>>
+    ensures keep { IfOk result (λ demand. (given : Option ℕ) × IsGiven SaysNumber (first_value (found_of matches.now) (codes "keep")) given × (demand.keep ≡ kept_asked given)) }
+    ensures floor { IfOk result (λ demand. IsGiven SaysNumber (first_value (found_of matches.now) (codes "floor")) demand.floor) }
+{
     Ok(Demand {
-        keep: kept_asked(matches.get_one::<u32>("keep")),
+        keep: kept_asked(CHECK_KEEP.value_in(matches)?),
         floor: CHECK_FLOOR.value_in(matches)?,
     })
 }

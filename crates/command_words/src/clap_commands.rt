@@ -1,8 +1,7 @@
 //! The commands as `clap` knows them: their help, their files and their options.
 
-use crate::aim_options::keep_option;
-use crate::method_options::{all_option, cache_option};
-use crate::number_option::{CHECK_FLOOR, POSITION, TUNE_FLOOR};
+use crate::method_options::all_option;
+use crate::number_option::{CACHE, CHECK_FLOOR, CHECK_KEEP, POSITION, TUNE_FLOOR, TUNE_KEEP};
 use crate::options::{explain_option, progress_option, with_rules};
 use crate::part_word::part_option;
 use crate::setting_word::setting_option;
@@ -131,17 +130,14 @@ fn with_files<'a>(
     with_rules(alloc, command)
 }
 
-const TUNE_KEEP: &str =
-    "How many settings to find, the best, the second best and so on, 1 to 1000; above 1 each has a line `rank ..` after the report [default: 1]";
-
 pub(crate) fn tune_command<'a>(alloc: Global) -> Result<Command<'a>, AllocError> {
     let command = Command::new(alloc, "tune")
         .about(
             "Find the best setting of a template, write its certificate to CERT, and print a report",
         )
-        .arg(cache_option(alloc))?
+        .arg(CACHE.ranged_arg(alloc, tune_search::limits::MOST_CAPACITY))?
         .arg(all_option(alloc)?)?
-        .arg(keep_option(alloc, TUNE_KEEP))?
+        .arg(TUNE_KEEP.ranged_arg(alloc, tune_problem::limits::MOST_KEPT))?
         .arg(TUNE_FLOOR.arg(alloc).conflicts_with("all")?)?;
     with_files(
         alloc,
@@ -150,14 +146,11 @@ pub(crate) fn tune_command<'a>(alloc: Global) -> Result<Command<'a>, AllocError>
     )
 }
 
-const CHECK_KEEP: &str =
-    "Accept only if the rows show the first settings of the ranking, this many, 1 to 1000; above 1 each has a line `rank ..`";
-
 pub(crate) fn check_command<'a>(alloc: Global) -> Result<Command<'a>, AllocError> {
     let command = Command::new(alloc, "check")
         .about("Check a certificate: print `accepted best W total T` or `rejected row R REASON`")
         .arg(share_option(alloc))?
-        .arg(keep_option(alloc, CHECK_KEEP))?
+        .arg(CHECK_KEEP.ranged_arg(alloc, tune_problem::limits::MOST_KEPT))?
         .arg(CHECK_FLOOR.arg(alloc))?;
     with_files(alloc, command, "File of the certificate")
 }

@@ -6,8 +6,8 @@ use crate::clap_commands::{
     asm_command, check_command, commands, duel_command, fight_command, tune_command,
 };
 use crate::command_word::{asks_for_fight, is_named};
-use crate::help::{asks_for_help, command_in};
-use crate::method_options::{MethodWords, method_words};
+use crate::help::{command_in, has_help_option};
+use crate::method_options::MethodWords;
 use crate::options::{asm_options, check_options, fight_numbers, tune_options};
 use crate::usage_error::{bad_value, not_first, one_file};
 use clap::{ArgMatches, Error};
@@ -81,7 +81,7 @@ pub fn request_of<'a>(alloc: Global, words: &'a [String]) -> Result<Request<'a>,
         return Ok(Request::Fight);
     }
     let command = command_in(words);
-    if asks_for_help(words, command) {
+    if has_help_option(words, command, false) {
         give_help(alloc, command)?;
     }
     let request = parsed_request(alloc, words)?;
@@ -170,9 +170,9 @@ fn asm_request<'a>(alloc: Global, matches: &ArgMatches<'a>) -> Result<Request<'a
 
 fn tune_request<'a>(alloc: Global, matches: &ArgMatches<'a>) -> Result<Request<'a>, Error> {
     match tune_options(matches) {
-        Ok((rules, part, demand)) => Ok(Request::Tune {
+        Ok((rules, part, method, demand)) => Ok(Request::Tune {
             words: tune_words(alloc, matches, rules, part)?,
-            method: method_words(matches),
+            method,
             demand,
         }),
         Err(bad) => Err(bad_value(alloc, bad, tune_command(alloc)?, "cwtune tune")?),

@@ -1,93 +1,111 @@
 //! Whether words ask for help. If they do, help is shown whatever else is wrong with them.
-ghost use Rattle.std.specs.Prelude.{◌≡◌, map, IsTrue, string_bytes};
-ghost use Rattle.std.specs.List.{list_any};
-ghost use Rattle.command_words.specs.CommandLine.{MentionsHelp, is_help_word};
+ghost use Rattle.std.specs.Prelude.{◌≡◌, false, map, IsTrue, string_bytes};
+ghost use Rattle.command_words.specs.CommandLine.{is_command};
+ghost use Rattle.command_words.specs.Help.{command_in, is_rule, takes_value, is_help_option, has_help_option, begins_with_help, MentionsHelp};
 
-// The commands, as `clap_commands` makes them.
-const COMMANDS: [&str; 5] = ["fight", "asm", "settings", "tune", "check"];
-
-// The options of the rules, which take a value. All commands but `settings` have them.
-const RULES: [&str; 6] = [
-    "--hill",
-    "--core",
-    "--cycles",
-    "--tasks",
-    "--length",
-    "--distance",
-];
-
-// The other options that take a value, each with its command, as `clap_commands` makes them.
-const VALUED: [(&str, &str); 11] = [
-    ("fight", "--position"),
-    ("fight", "--first"),
-    ("asm", "--setting"),
-    ("tune", "--part"),
-    ("tune", "--cache"),
-    ("tune", "--keep"),
-    ("tune", "--floor"),
-    ("check", "--part"),
-    ("check", "--share"),
-    ("check", "--keep"),
-    ("check", "--floor"),
-];
-
-/// Returns whether a word asks for help or for the version. A run that only prints the text of
-/// `clap` succeeds only if there is such a word.
-#[tactic(auto, using(crate::proofs::CommandWords::mentions_help))]
+/// Returns whether the words ask for help or for the version: `help` if it is the first word, and
+/// `--help`, `-h`, `--version` or `-V` before `--`, unless it is the value of an option. A run that
+/// only prints the text of `clap` succeeds only if they do.
 pub fn mentions_help(words: &[String]) -> bool
     ensures { IsTrue result → MentionsHelp (map string_bytes words.now) }
 {
-    has_help_word(words)
+    begins_with_help(words) || has_help_option(words, command_in(words), true)
 }
 
-fn has_help_word(words: &[String]) -> bool
-    ensures { result ≡ list_any (λ w. is_help_word (string_bytes w)) words.now }
+fn begins_with_help(words: &[String]) -> bool
+    ensures { result ≡ begins_with_help (map string_bytes words.now) }
 {
-    words.iter().any(|word| is_help_word(word.as_str()))
+    match words.split_first() {
+        Some((word, _)) => word.as_str() == "help",
+        None => false,
+    }
 }
 
-fn is_help_word(word: &str) -> bool
-    ensures { result ≡ is_help_word word.now }
+// Returns whether an option asks for help, or if `version` is true for the version. Words after
+// `--` are files, and the value of an option of `command` is no option.
+pub(crate) fn has_help_option(words: &[String], command: &str, version: bool) -> bool
+    ensures { result ≡ has_help_option version command.now false (map string_bytes words.now) }
 {
-    word == "help" || word == "--help" || word == "-h" || word == "--version" || word == "-V"
-}
-
-// Returns whether `--help` or `-h` is among the words before `--`, and not the value of an option
-// of `command`.
-pub(crate) fn asks_for_help(words: &[String], command: &str) -> bool {
     let mut is_value = false;
-    for word in words {
+    let mut rest = words;
+    while let Some((word, after)) = rest.split_first() {
         let word = word.as_str();
         if is_value {
             is_value = false;
         } else if word == "--" {
             return false;
-        } else if word == "--help" || word == "-h" {
+        } else if is_help_option(word, version) {
             return true;
         } else {
             is_value = takes_value(command, word);
         }
+        rest = after;
     }
     false
 }
 
+fn is_help_option(word: &str, version: bool) -> bool
+    ensures { result ≡ is_help_option version word.now }
+{
+    word == "--help" || word == "-h" || (version && (word == "--version" || word == "-V"))
+}
+
 // Returns the first word before `--` that is a command, or the empty word.
-pub(crate) fn command_in(words: &[String]) -> &str {
-    for word in words {
+pub(crate) fn command_in(words: &[String]) -> &str
+    ensures { result.now ≡ command_in (map string_bytes words.now) }
+{
+    let mut rest = words;
+    while let Some((word, after)) = rest.split_first() {
         let word = word.as_str();
         if word == "--" {
             return "";
         }
-        if COMMANDS.contains(&word) {
+        if is_command(word) {
             return word;
         }
+        rest = after;
     }
     ""
 }
 
-fn takes_value(command: &str, option: &str) -> bool {
-    if RULES.contains(&option) {
-        return !command.is_empty() && command != "settings";
+fn is_command(word: &str) -> bool
+    ensures { result ≡ is_command word.now }
+{
+    word == "fight" || word == "asm" || word == "settings" || word == "tune" || word == "check"
+}
+
+// Returns whether the word after an option of a command is its value.
+fn takes_value(command: &str, option: &str) -> bool
+    ensures { result ≡ takes_value command.now option.now }
+{
+    if command == "fight" {
+        is_rule(option) || option == "--position" || option == "--first"
+    } else if command == "asm" {
+        is_rule(option) || option == "--setting"
+    } else if command == "tune" {
+        is_rule(option)
+            || option == "--part"
+            || option == "--cache"
+            || option == "--keep"
+            || option == "--floor"
+    } else if command == "check" {
+        is_rule(option)
+            || option == "--part"
+            || option == "--share"
+            || option == "--keep"
+            || option == "--floor"
+    } else {
+        false
     }
-    VALUED.contains(&(command, option))
+}
+
+fn is_rule(option: &str) -> bool
+    ensures { result ≡ is_rule option.now }
+{
+    option == "--hill"
+        || option == "--core"
+        || option == "--cycles"
+        || option == "--tasks"
+        || option == "--length"
+        || option == "--distance"
 }

@@ -1,6 +1,7 @@
 //! The option `--hill`: the rules of a hill, by its name.
-ghost use Rattle.std.specs.Prelude.{◌≡◌, IfSome, IsNone};
+ghost use Rattle.std.specs.Prelude.{◌≡◌, option_map};
 ghost use Rattle.command_words.specs.Hills.{hill_rules, raw_rules};
+ghost use Rattle.command_words.specs.Options.{hill_meant};
 
 use clap::builder::ValueParser;
 use clap::{Arg, ArgAction};
@@ -22,8 +23,7 @@ pub(crate) fn hill_option<'a>(alloc: Global) -> Arg<'a> {
 
 // Returns the rules of a hill, which `clap` keeps to `NAMES`, or the standard rules without one.
 pub(crate) fn rules_on(hill: Option<&str>) -> RawRules
-    ensures standard { IsNone hill.entry → result ≡ raw_rules 8000 80000 8000 100 100 }
-    ensures named { IfSome hill.entry (λ name. result ≡ hill_rules name.now) }
+    ensures { result ≡ hill_meant (option_map (λ name. name.now) hill.entry) }
 {
     match hill {
         Some(name) => rules_of_hill(name),

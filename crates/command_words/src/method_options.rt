@@ -1,10 +1,13 @@
 //! The options `--cache` and `--all`.
-ghost use Rattle.std.specs.Prelude.{◌≡◌, ◌≤◌};
+ghost use Rattle.std.specs.Prelude.{◌≡◌, ◌≤◌, Some, true, false, IfOk, codes};
+ghost use Rattle.clap.specs.Matches.{first_value, found_of, one_text};
 ghost use Rattle.tune_search.specs.Limits.{MOST_CAPACITY};
 ghost use Rattle.tune_search.specs.Method.{HasCapacity};
 ghost use Rattle.command_words.specs.CommandLine.{capacity_meant, method_meant};
+ghost use Rattle.command_words.specs.Options.{SaysNumber, IsGiven};
 
-use crate::number_option::ranged_arg;
+use crate::number_option::CACHE;
+use crate::usage_error::BadValue;
 use clap::{Arg, ArgAction, ArgMatches};
 use std::alloc::{AllocError, Global};
 use tune_runs::Method;
@@ -20,12 +23,6 @@ pub struct MethodWords {
     pub cache: Option<u32>,
 }
 
-pub(crate) fn cache_option<'a>(alloc: Global) -> Arg<'a> {
-    let help =
-        "Settings to remember, so that equal warriors share fights, 1 to 65536 [default: 4096]";
-    ranged_arg(alloc, "cache", limits::MOST_CAPACITY, help)
-}
-
 pub(crate) fn all_option<'a>(alloc: Global) -> Result<Arg<'a>, AllocError> {
     let all = Arg::new(alloc, "all")
         .long("all")
@@ -35,11 +32,16 @@ pub(crate) fn all_option<'a>(alloc: Global) -> Result<Arg<'a>, AllocError> {
     Ok(all)
 }
 
-pub(crate) fn method_words(matches: &ArgMatches<'_>) -> MethodWords {
-    MethodWords {
+// Returns how `tune` is asked to search. `clap` gives a flag the word `true` or `false`.
+pub(crate) fn method_words<'a>(matches: &ArgMatches<'a>) -> Result<MethodWords, BadValue<'a>>
+    ensures all { one_text (found_of matches.now) (codes "all") ≡ Some (codes "true") → IfOk result (λ words. words.all ≡ true) }
+    ensures dropping { one_text (found_of matches.now) (codes "all") ≡ Some (codes "false") → IfOk result (λ words. words.all ≡ false) }
+    ensures cache { IfOk result (λ words. IsGiven SaysNumber (first_value (found_of matches.now) (codes "cache")) words.cache) }
+{
+    Ok(MethodWords {
         all: matches.get_flag("all"),
-        cache: matches.get_one::<u32>("cache"),
-    }
+        cache: CACHE.value_in(matches)?,
+    })
 }
 
 /// Returns how `tune` searches.

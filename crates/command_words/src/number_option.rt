@@ -1,5 +1,9 @@
-//! The options that take a number: a table of them, and how one is made and read. Those whose range
-//! `clap` checks, `--keep` and `--cache`, are made with `ranged_arg`.
+//! The options that take a number: a table of them, and how one is made and read. `clap` checks the
+//! range of `--keep` and `--cache`, and the command that of the others when it runs.
+
+ghost use Rattle.std.specs.Prelude.{◌≡◌, Some, ℕ, IfOk, IfSome, IsErr};
+ghost use Rattle.clap.specs.Matches.{first_value, found_of};
+ghost use Rattle.command_words.specs.Options.{SaysNumber, IsGiven, IsSaidWrong};
 
 use crate::usage_error::BadValue;
 use clap::{Arg, ArgAction, ArgMatches, value_parser};
@@ -66,17 +70,49 @@ pub(crate) const CHECK_FLOOR: NumberOption = NumberOption {
     why: "a number from 0 to 4294967295 is wanted",
 };
 
+pub(crate) const TUNE_KEEP: NumberOption = NumberOption {
+    name: "keep",
+    help: "How many settings to find, the best, the second best and so on, 1 to 1000; above 1 each has a line `rank ..` after the report [default: 1]",
+    why: "a number from 1 to 1000 is wanted",
+};
+
+// It differs from `TUNE_KEEP` in its help alone.
+pub(crate) const CHECK_KEEP: NumberOption = NumberOption {
+    name: "keep",
+    help: "Accept only if the rows show the first settings of the ranking, this many, 1 to 1000; above 1 each has a line `rank ..`",
+    why: "a number from 1 to 1000 is wanted",
+};
+
+pub(crate) const CACHE: NumberOption = NumberOption {
+    name: "cache",
+    help: "Settings to remember, so that equal warriors share fights, 1 to 65536 [default: 4096]",
+    why: "a number from 1 to 65536 is wanted",
+};
+
 impl NumberOption {
-    // Makes the option. The command checks the range when it runs.
     pub(crate) fn arg<'a>(&self, alloc: Global) -> Arg<'a> {
-        number_arg(alloc, self.name, self.help)
+        Arg::new(alloc, self.name)
+            .long(self.name)
+            .value_name(VALUE_NAME)
+            .action(ArgAction::Set)
+            .allow_negative_numbers(true)
+            .help(self.help)
+    }
+
+    // Makes the option so that `clap` keeps its number within 1 to `most`.
+    pub(crate) fn ranged_arg<'a>(&self, alloc: Global, most: u32) -> Arg<'a> {
+        let range = value_parser!(u32).range(1..i64::from(most) + 1);
+        self.arg(alloc).value_parser(range)
     }
 
     // Returns the number that the option is given.
     pub(crate) fn value_in<'a>(
         &self,
         matches: &ArgMatches<'a>,
-    ) -> Result<Option<u32>, BadValue<'a>> {
+    ) -> Result<Option<u32>, BadValue<'a>>
+        ensures given { IfOk result (IsGiven SaysNumber (first_value (found_of matches.now) self.now.name.now)) }
+        ensures wrong { IsErr result → IsSaidWrong SaysNumber (first_value (found_of matches.now) self.now.name.now) }
+    {
         let Some(word) = matches.get_str(self.name) else {
             return Ok(None);
         };
@@ -92,22 +128,11 @@ impl NumberOption {
     }
 }
 
-// Makes an option whose number `clap` keeps within 1 to `most`.
-pub(crate) fn ranged_arg<'a>(alloc: Global, name: &'a str, most: u32, help: &'a str) -> Arg<'a> {
-    number_arg(alloc, name, help).value_parser(value_parser!(u32).range(1..i64::from(most) + 1))
-}
-
-fn number_arg<'a>(alloc: Global, name: &'a str, help: &'a str) -> Arg<'a> {
-    Arg::new(alloc, name)
-        .long(name)
-        .value_name(VALUE_NAME)
-        .action(ArgAction::Set)
-        .allow_negative_numbers(true)
-        .help(help)
-}
-
 // Reads a word as a 32-bit number. A sign may come first, but `-` only before 0.
-fn number_in(word: &str) -> Option<u32> {
+fn number_in(word: &str) -> Option<u32>
+    ensures found { IfSome result (SaysNumber word.now) }
+    ensures only { (n : ℕ) → SaysNumber word.now n → result ≡ Some n }
+{
     match word.parse::<i64>() {
         Ok(number) => u32::try_from(number).ok(),
         Err(_) => None,

@@ -1,9 +1,13 @@
 //! The options that several commands have, and what each command is given.
-ghost use Rattle.std.specs.Prelude.{◌≡◌, IfOk};
+ghost use Rattle.std.specs.Prelude.{◌≡◌, IfOk, map, string_bytes};
 ghost use Rattle.std.specs.Option.{unwrap_or};
+ghost use Rattle.clap.specs.Matches.{found_of};
+ghost use Rattle.command_words.specs.CommandLine.{is_given};
+ghost use Rattle.command_words.specs.Options.{AreRules};
 
 use crate::aim_options::demand_of;
 use crate::hill_option::{hill_option, rules_on};
+use crate::method_options::{MethodWords, method_words};
 use crate::number_option::{CORE, CYCLES, DISTANCE, LENGTH, POSITION, TASKS};
 use crate::part_word::part_of;
 use crate::setting_word::setting_of;
@@ -15,14 +19,18 @@ use tune_cert::{Demand, Share};
 use tune_runs::{Part, RawRules, WhichSetting};
 
 /// Returns whether a flag is among the words before `--`. After it they are files.
-pub fn is_given(words: &[String], flag: &str) -> bool {
-    for word in words {
+pub fn is_given(words: &[String], flag: &str) -> bool
+    ensures { result ≡ is_given flag.now (map string_bytes words.now) }
+{
+    let mut rest = words;
+    while let Some((word, after)) = rest.split_first() {
         if word.as_str() == "--" {
             return false;
         }
         if word.as_str() == flag {
             return true;
         }
+        rest = after;
     }
     false
 }
@@ -85,7 +93,9 @@ fn with_defaults(given: GivenRules, hill: RawRules) -> RawRules
 }
 
 // Returns the rules of the options.
-fn raw_rules_of<'a>(matches: &ArgMatches<'a>) -> Result<RawRules, BadValue<'a>> {
+fn raw_rules_of<'a>(matches: &ArgMatches<'a>) -> Result<RawRules, BadValue<'a>>
+    ensures { IfOk result (AreRules (found_of matches.now)) }
+{
     let given = GivenRules {
         core: CORE.value_in(matches)?,
         cycles: CYCLES.value_in(matches)?,
@@ -114,14 +124,15 @@ pub(crate) fn asm_options<'a>(
     Ok((rules, setting))
 }
 
-// Returns the rules, the part and the demand of a tuning.
+// Returns the rules, the part, the method and the demand of a tuning.
 pub(crate) fn tune_options<'a>(
     matches: &ArgMatches<'a>,
-) -> Result<(RawRules, Part, Demand), BadValue<'a>> {
+) -> Result<(RawRules, Part, MethodWords, Demand), BadValue<'a>> {
     let rules = raw_rules_of(matches)?;
     let part = part_of(matches)?;
     let demand = demand_of(matches)?;
-    Ok((rules, part, demand))
+    let method = method_words(matches)?;
+    Ok((rules, part, method, demand))
 }
 
 // Returns the rules, the part, the share and the demand of a check.

@@ -1,8 +1,9 @@
 //! The option `--part` and its word `I/K`.
-ghost use Rattle.std.specs.Prelude.{◌≡◌, ◌≤◌, ◌<◌, ◌^◌, Some, IfSome, IsNone};
+ghost use Rattle.std.specs.Prelude.{◌≡◌, ◌≤◌, ◌<◌, ◌^◌, Some, IfOk, IfSome, IsErr, IsNone, codes, option_map};
+ghost use Rattle.clap.specs.Matches.{first_value, found_of};
 ghost use Rattle.tune_problem.specs.Parts.{whole};
 ghost use Rattle.tune_problem.specs.declared.part.Part.{Part};
-ghost use Rattle.command_words.specs.CommandLine.{part_word, IsCounted};
+ghost use Rattle.command_words.specs.Options.{SaysPart, IsMeant, IsSaidWrong};
 
 use crate::usage_error::BadValue;
 use clap::{Arg, ArgAction, ArgMatches};
@@ -21,7 +22,10 @@ pub(crate) fn part_option<'a>(alloc: Global) -> Arg<'a> {
 }
 
 // Returns the part that the option says, or all settings without it.
-pub(crate) fn part_of<'a>(matches: &ArgMatches<'a>) -> Result<Part, BadValue<'a>> {
+pub(crate) fn part_of<'a>(matches: &ArgMatches<'a>) -> Result<Part, BadValue<'a>>
+    ensures meant { IfOk result (IsMeant SaysPart whole (first_value (found_of matches.now) (codes "part"))) }
+    ensures wrong { IsErr result → IsSaidWrong SaysPart (first_value (found_of matches.now) (codes "part")) }
+{
     let word = matches.get_str("part");
     match part_said(word) {
         Some(part) => Ok(part),
@@ -36,9 +40,8 @@ pub(crate) fn part_of<'a>(matches: &ArgMatches<'a>) -> Result<Part, BadValue<'a>
 
 // Returns the part that a word says, or all settings without a word.
 fn part_said(word: Option<&str>) -> Option<Part>
-    ensures whole { IsNone word.entry → result ≡ Some whole }
-    ensures found { IfSome word.entry (λ w. IfSome result (λ p. (w.now ≡ part_word p) × IsCounted p)) }
-    ensures only { IfSome word.entry (λ w. (p : Part) → IsCounted p → w.now ≡ part_word p → result ≡ Some p) }
+    ensures meant { IfSome result (IsMeant SaysPart whole (option_map (λ w. w.now) word.entry)) }
+    ensures wrong { IsNone result → IsSaidWrong SaysPart (option_map (λ w. w.now) word.entry) }
 {
     match word {
         Some(word) => read_part(word.as_bytes()),
@@ -48,8 +51,8 @@ fn part_said(word: Option<&str>) -> Option<Part>
 
 // Reads the word `I/K`, two decimals without leading zeros. Returns `None` unless I is 1 to K.
 pub(crate) fn read_part(word: &[u8]) -> Option<Part>
-    ensures found { IfSome result (λ p. (word.now ≡ part_word p) × IsCounted p) }
-    ensures only { (p : Part) → IsCounted p → word.now ≡ part_word p → result ≡ Some p }
+    ensures found { IfSome result (SaysPart word.now) }
+    ensures only { (p : Part) → SaysPart word.now p → result ≡ Some p }
 {
     let (number, rest) = decimal_at(word)?;
     let parts = decimal_of(after(b'/', rest)?)?;

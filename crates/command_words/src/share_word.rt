@@ -1,8 +1,9 @@
 //! The option `--share` and its word `I/K`.
-ghost use Rattle.std.specs.Prelude.{◌≡◌, ◌≢◌, MatchOption};
+ghost use Rattle.std.specs.Prelude.{◌≡◌, IfOk, IsErr, MatchOption, codes, option_map};
+ghost use Rattle.clap.specs.Matches.{first_value, found_of};
 ghost use Rattle.tune_problem.specs.Parts.{part};
 ghost use Rattle.tune_problem.specs.declared.part.Part.{Part};
-ghost use Rattle.command_words.specs.CommandLine.{part_word, IsCounted};
+ghost use Rattle.command_words.specs.Options.{SaysPart, IsGiven, IsSaidWrong};
 
 use crate::part_word::read_part;
 use crate::usage_error::BadValue;
@@ -22,7 +23,10 @@ pub(crate) fn share_option<'a>(alloc: Global) -> Arg<'a> {
 }
 
 // Returns the share that the option says, or `None` without it.
-pub(crate) fn share_of<'a>(matches: &ArgMatches<'a>) -> Result<Option<Share>, BadValue<'a>> {
+pub(crate) fn share_of<'a>(matches: &ArgMatches<'a>) -> Result<Option<Share>, BadValue<'a>>
+    ensures given { IfOk result (λ given. IsGiven SaysPart (first_value (found_of matches.now) (codes "share")) (option_map (λ s. part s.number s.shares) given)) }
+    ensures wrong { IsErr result → IsSaidWrong SaysPart (first_value (found_of matches.now) (codes "share")) }
+{
     let Some(word) = matches.get_str("share") else {
         return Ok(None);
     };
@@ -39,7 +43,7 @@ pub(crate) fn share_of<'a>(matches: &ArgMatches<'a>) -> Result<Option<Share>, Ba
 
 // Returns the share that a word says. A share is spelt as a part is, but may be empty.
 fn share_said(word: &str) -> Option<Share>
-    ensures { MatchOption result ((p : Part) → IsCounted p → word.now ≢ part_word p) (λ s. word.now ≡ part_word (part s.number s.shares)) }
+    ensures { MatchOption result ((p : Part) → SaysPart word.now p → ⊥) (λ s. SaysPart word.now (part s.number s.shares)) }
 {
     let Part { number, parts } = read_part(word.as_bytes())?;
     Some(Share {

@@ -1,6 +1,7 @@
 -- What the code plays, in terms of a fight: the premise and the result of its loop, over a core and
 -- two queues.
 use Rattle.std.specs.Prelude.{◌≡◌, ℕ, ◌*◌, ◌≤◌, List}
+use Rattle.rc_instr.specs.Limits.{MOST_CYCLES}
 use Rattle.rc_instr.specs.declared.instruction.Instruction.{Instruction}
 use Rattle.mars_core.specs.Core.{IsCore, AreTasks}
 use Rattle.mars_core.specs.Queue.{Queue}
@@ -19,13 +20,13 @@ TurnsLeave core mine theirs turns core_new my_new their_new =
     (first : Side) → seen_from first core_new my_new.items their_new.items ≡ play_of mine.capacity (seen_from first core mine.items theirs.items) first turns
 
 -- The premise of a fight: a core of m cells, the tasks of both sides in it, the same room for both,
--- and at most a million cycles.
+-- and few cycles.
 pub record CanPlay (m : ℕ) (core : List Instruction) (mine theirs : Queue) (cycles : ℕ) : Type 0 where
   pub core_holds : IsCore m core
   pub mine_below : AreTasks m mine.items
   pub theirs_below : AreTasks m theirs.items
   pub same_room : theirs.capacity ≡ mine.capacity
-  pub few : cycles ≤ 1000000
+  pub few : cycles ≤ MOST_CYCLES
 
 -- The result of a fight: its turns, at most two for each cycle; the state after them, in a core of
 -- m cells again; and queues with the room that they had.

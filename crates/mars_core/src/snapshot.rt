@@ -1,5 +1,6 @@
 //! A state of a fight that is kept, to see whether it comes back.
 ghost use Rattle.std.specs.Prelude.{◌≡◌, ◌<◌, ◌≤◌, ◌⊎◌, length, IfOk, IfSome};
+ghost use Rattle.rc_instr.specs.Limits.{MOST_CYCLES};
 ghost use Rattle.mars_core.specs.Snapshot.{snapshot_view, IsBack};
 
 use crate::cell::Cell;
@@ -98,7 +99,7 @@ impl<C: Cells> Snapshot<C> {
     // longer and longer periods are found; up to 2n would mean more states to copy.
     pub(crate) fn renew(&mut self, cells: &C, mine: &C::Queue, theirs: &C::Queue, cycles: u32)
         requires size { length (C.items cells.now) ≡ length self.old.core }
-        requires cycles { cycles ≤ 1000000 }
+        requires cycles { cycles ≤ MOST_CYCLES }
         ensures { (self.new ≡ self.old) ⊎ (self.new ≡ snapshot_view (C.items cells.now) (C.Queue.held mine.now).items (C.Queue.held theirs.now).items cycles) }
     {
         if cycles < self.due || mine.len() > FEW || theirs.len() > FEW {

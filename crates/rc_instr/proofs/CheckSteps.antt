@@ -8,6 +8,7 @@ use Rattle.std.proofs.lemmas.Bool.Decides.{leb_tells}
 use Rattle.std.proofs.lemmas.List.Elements.{All-nil, All-head, All-tail, All-cons}
 use borrow.Author.Tests.{ltb-true, lt-ltb, le-leb}
 use Rattle.rc_instr.specs.Results.{and_then, check}
+use Rattle.rc_instr.specs.Limits.{LEAST_CORE, MOST_CORE, MOST_CYCLES, MOST_TASKS, MOST_LENGTH}
 use Rattle.rc_instr.specs.Rules.{RulesView, IsRules}
 use Rattle.rc_instr.specs.Warrior.{WarriorView, IsBelow, IsWarrior, Fits}
 use Rattle.rc_instr.specs.Checks.{is_within, rules_of, is_below, warrior_of}
@@ -36,10 +37,10 @@ both_at_most a b c d h =
 pub rules_kept : (r w : RulesView) → rules_of r ≡ Ok w → (w ≡ r) × IsRules r
 unfolding rules_of
 rules_kept r w h =
-    let a = passed (is_within 8 65535 r.core) Core _ w h in
-    let b = passed (is_within 1 1000000 r.cycles) Cycles _ w a.1 in
-    let c = passed (is_within 1 8000 r.tasks) Tasks _ w b.1 in
-    let d = passed (is_within 1 200 r.length) Length _ w c.1 in
+    let a = passed (is_within LEAST_CORE MOST_CORE r.core) Core _ w h in
+    let b = passed (is_within 1 MOST_CYCLES r.cycles) Cycles _ w a.1 in
+    let c = passed (is_within 1 MOST_TASKS r.tasks) Tasks _ w b.1 in
+    let d = passed (is_within 1 MOST_LENGTH r.length) Length _ w c.1 in
     let e = passed (nat_le r.length r.distance && nat_le (2 * r.distance) r.core) Distance _ w d.1 in (
       cc,
       record {
@@ -55,14 +56,14 @@ rules_kept r w h =
 pub rules_pass : (r : RulesView) → IsRules r → rules_of r ≡ Ok r
 unfolding rules_of
 rules_pass r k = rw (
-  le-leb 8 r.core k.core.0,
-  le-leb r.core 65535 k.core.1,
+  le-leb LEAST_CORE r.core k.core.0,
+  le-leb r.core MOST_CORE k.core.1,
   le-leb 1 r.cycles k.cycles.0,
-  le-leb r.cycles 1000000 k.cycles.1,
+  le-leb r.cycles MOST_CYCLES k.cycles.1,
   le-leb 1 r.tasks k.tasks.0,
-  le-leb r.tasks 8000 k.tasks.1,
+  le-leb r.tasks MOST_TASKS k.tasks.1,
   le-leb 1 r.length k.length.0,
-  le-leb r.length 200 k.length.1,
+  le-leb r.length MOST_LENGTH k.length.1,
   le-leb r.length r.distance k.distance.0,
   le-leb (2 * r.distance) r.core k.distance.1,
 ) refl

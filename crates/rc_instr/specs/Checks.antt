@@ -2,6 +2,7 @@
 use Rattle.std.specs.Prelude.{ℕ, ◌*◌, Bool, ◌&&◌, nat_lt, nat_le, length, Result, Ok}
 use Rattle.std.specs.List.{list_all}
 use Rattle.rc_instr.specs.Results.{◌>>=◌, check}
+use Rattle.rc_instr.specs.Limits.{LEAST_CORE, MOST_CORE, MOST_CYCLES, MOST_TASKS, MOST_LENGTH}
 use Rattle.rc_instr.specs.Rules.{RulesView}
 use Rattle.rc_instr.specs.Warrior.{WarriorView}
 use Rattle.rc_instr.specs.declared.instruction.Instruction.{Instruction}
@@ -18,10 +19,10 @@ is_within low high n = nat_le low n && nat_le n high
 -- the length to half the core size.
 unfoldable pub rules_of : RulesView → Result RulesView RulesError
 rules_of r = do
-  _ ← check (is_within 8 65535 r.core) Core
-  _ ← check (is_within 1 1000000 r.cycles) Cycles
-  _ ← check (is_within 1 8000 r.tasks) Tasks
-  _ ← check (is_within 1 200 r.length) Length
+  _ ← check (is_within LEAST_CORE MOST_CORE r.core) Core
+  _ ← check (is_within 1 MOST_CYCLES r.cycles) Cycles
+  _ ← check (is_within 1 MOST_TASKS r.tasks) Tasks
+  _ ← check (is_within 1 MOST_LENGTH r.length) Length
   _ ← check (nat_le r.length r.distance && nat_le (2 * r.distance) r.core) Distance
   Ok r
 

@@ -5,6 +5,7 @@ pub mod Results
 pub mod Instruction
 pub mod DefaultModifier
 pub mod Words
+pub mod Limits
 pub mod Rules
 pub mod Warrior
 pub mod Checks

@@ -1,5 +1,6 @@
 -- The rules of a fight and their limits. What each number means is the 1994 draft's.
 use Rattle.std.specs.Prelude.{ℕ, ◌<◌, ◌≤◌, ◌*◌}
+use Rattle.rc_instr.specs.Limits.{LEAST_CORE, MOST_CORE, MOST_CYCLES, MOST_TASKS, MOST_LENGTH}
 
 -- What contracts see of rules.
 pub record RulesView : Type 0 where
@@ -18,26 +19,22 @@ abbrev pub rules_view : ℕ → ℕ → ℕ → ℕ → ℕ → RulesView
 rules_view core cycles tasks length distance =
     record { core = core; cycles = cycles; tasks = tasks; length = length; distance = distance }
 
--- A core has 8 to 65535 cells.
 abbrev pub HasCore : RulesView → Type 0
-HasCore r = (8 ≤ r.core) × (r.core ≤ 65535)
+HasCore r = (LEAST_CORE ≤ r.core) × (r.core ≤ MOST_CORE)
 
 -- A core is not empty, and its numbers fit 16 bits. That is all that load files and numbers need,
 -- so laws of these ask for no rules.
 abbrev pub IsCoreSize : ℕ → Type 0
-IsCoreSize core = (0 < core) × (core ≤ 65535)
+IsCoreSize core = (0 < core) × (core ≤ MOST_CORE)
 
--- A fight has 1 to 1000000 cycles.
 abbrev pub HasCycles : RulesView → Type 0
-HasCycles r = (1 ≤ r.cycles) × (r.cycles ≤ 1000000)
+HasCycles r = (1 ≤ r.cycles) × (r.cycles ≤ MOST_CYCLES)
 
--- The most tasks of a warrior are 1 to 8000.
 abbrev pub HasTasks : RulesView → Type 0
-HasTasks r = (1 ≤ r.tasks) × (r.tasks ≤ 8000)
+HasTasks r = (1 ≤ r.tasks) × (r.tasks ≤ MOST_TASKS)
 
--- The most instructions of a warrior are 1 to 200.
 abbrev pub HasLength : RulesView → Type 0
-HasLength r = (1 ≤ r.length) × (r.length ≤ 200)
+HasLength r = (1 ≤ r.length) × (r.length ≤ MOST_LENGTH)
 
 -- The distance is from the length to half the core size.
 abbrev pub HasDistance : RulesView → Type 0

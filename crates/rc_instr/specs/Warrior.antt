@@ -1,5 +1,6 @@
 -- Warriors (1994 draft; with at most 200 instructions).
 use Rattle.std.specs.Prelude.{ℕ, ◌<◌, ◌≤◌, List, length, All}
+use Rattle.rc_instr.specs.Limits.{MOST_LENGTH}
 use Rattle.rc_instr.specs.Rules.{RulesView}
 use Rattle.rc_instr.specs.declared.instruction.Instruction.{Instruction}
 
@@ -14,7 +15,7 @@ warrior_view code start = record { code = code; start = start }
 -- A warrior has 1 to 200 instructions, and starts at one of them.
 pub record IsWarrior (p : WarriorView) : Type 0 where
   pub some : 0 < length p.code
-  pub short : length p.code ≤ 200
+  pub short : length p.code ≤ MOST_LENGTH
   pub inside : p.start < length p.code
 
 -- Both numbers are below the core size `m`.

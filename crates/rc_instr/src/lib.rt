@@ -8,6 +8,7 @@ mod bytes;
 mod decimal;
 mod instruction;
 pub mod laws;
+pub mod limits;
 mod loadfile;
 mod memory;
 mod modifier;

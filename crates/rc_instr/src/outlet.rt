@@ -73,6 +73,7 @@ impl<X: Write> Outlet<X> {
     pub fn write_all(&mut self, text: &[u8]) -> Result<(), WriteFailed>
         ensures bytes { OnOk result (Appends self.old.bytes self.new.bytes text.now) }
         ensures failed { self.new.failed ≡ is_err result }
+        ensures flushed { OnOk result (0 < length text.now → self.new.flushed ≡ false) }
         ensures unchanged { IsTrue self.old.failed → self.new ≡ self.old }
     {
         if self.has_failed {
@@ -86,7 +87,7 @@ impl<X: Write> Outlet<X> {
         Ok(())
     }
 
-    /// Flushes the writer. After `Ok` it has passed on all that was written before this call.
+    /// Calls the writer's `flush`, and returns `Ok` if that succeeds.
     ///
     /// After `WriteFailed` it has failed for good, and what was written stays.
     pub fn finish(&mut self) -> Result<(), WriteFailed>

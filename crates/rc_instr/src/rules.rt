@@ -2,6 +2,7 @@
 ghost use Rattle.std.specs.Prelude.{◌≡◌};
 ghost use Rattle.rc_instr.specs.Rules.{rules_view, IsRules};
 
+use crate::limits;
 use std::alloc::AllocError;
 use std::marker::Model;
 use thiserror::Error;
@@ -83,16 +84,16 @@ impl Rules {
     ) -> Result<Rules, RulesError>
         ensures { result ≡ rules_of (rules_view core cycles tasks length distance) }
     {
-        if core < 8 || core > 65535 {
+        if core < limits::LEAST_CORE || core > limits::MOST_CORE {
             return Err(RulesError::Core);
         }
-        if cycles < 1 || cycles > 1_000_000 {
+        if cycles < 1 || cycles > limits::MOST_CYCLES {
             return Err(RulesError::Cycles);
         }
-        if tasks < 1 || tasks > 8000 {
+        if tasks < 1 || tasks > limits::MOST_TASKS {
             return Err(RulesError::Tasks);
         }
-        if length < 1 || length > 200 {
+        if length < 1 || length > limits::MOST_LENGTH {
             return Err(RulesError::Length);
         }
         if distance < length || distance > core / 2 {

@@ -16,8 +16,9 @@ use crate::ranking::ranking_for;
 use crate::read::read_statement;
 use crate::row_checks::is_best_row;
 use crate::share::Share;
-use crate::share_rows::check_claim;
+use crate::share_rows::check_rows;
 use crate::verdict::{Judgement, Reason, Verdict};
+use mars_core::{Arena, PackedCells};
 use std::alloc::Global;
 use tune_problem::{Answer, Inputs, Silent, Statement, Watcher, cert_version};
 
@@ -148,7 +149,8 @@ fn check_statement<T: Watcher>(
         aim,
         ranking: &ranking,
     };
-    match check_claim(alloc, &claim, share, watcher)? {
+    let mut arena = Arena::<PackedCells>::try_new(alloc, inputs.rules())?;
+    match check_rows(alloc, &mut arena, &claim, share, watcher)? {
         Some((index, reason)) => Ok(rejected(index, reason)),
         None => Ok(Judgement::Accepted { answer, ranking }),
     }

@@ -18,22 +18,9 @@ use mars_core::{Arena, PackedCells};
 use std::alloc::Global;
 use tune_problem::{Answer, Best, Row, Standing, Watcher};
 
-// Checks the rows of a share, in an arena of their own. Returns the first wrong row.
-pub(crate) fn check_claim<T: Watcher>(
-    alloc: Global,
-    claim: &Claim<'_>,
-    share: Share,
-    watcher: &mut T,
-) -> Result<Option<(u64, Reason)>, CheckFault>
-    ensures wrong { IfOk result (λ o. o ≡ for_claim rows_failure claim.now (claim_settings share claim.now)) }
-{
-    let mut arena = Arena::<PackedCells>::try_new(alloc, claim.inputs.rules())?;
-    check_rows(alloc, &mut arena, claim, share, watcher)
-}
-
 // Checks the rows of a share: first those that refer to no other setting, then those that do.
 // Returns the first wrong row.
-fn check_rows<T: Watcher>(
+pub(crate) fn check_rows<T: Watcher>(
     alloc: Global,
     arena: &mut Arena<PackedCells>,
     claim: &Claim<'_>,

@@ -3,11 +3,11 @@
 use crate::telling::{tell, tell_bytes};
 use itoa::Buffer;
 use rc_instr::Outlet;
-use std::alloc::{AllocError, Global};
+use std::alloc::Global;
 use std::io::Write;
 use tune_cert::{Best, Standing};
 use tune_runs::Inputs;
-use tune_template::Span;
+use tune_template::Template;
 
 /// The best setting of a search so far, and what names its values.
 #[derive(Drop)]
@@ -20,7 +20,10 @@ pub struct Finding {
     start_index: u32,
     // Whether the part has the start setting of the template.
     has_start: bool,
-    constants: Option<Constants>,
+    // A template of its own, since the inputs are gone when a setting is told.
+    template: Option<Template>,
+    // The index in the template of the part's first setting.
+    first: u32,
 }
 
 impl Finding {
@@ -32,16 +35,19 @@ impl Finding {
             start_total: None,
             start_index: 0,
             has_start: false,
-            constants: None,
+            template: None,
+            first: 0,
         }
     }
 
-    /// Keeps the names of the constants, if memory allows.
+    /// Keeps what names the values, if memory allows.
     pub fn begin(&mut self, inputs: &Inputs) {
-        self.constants = constants_of(self.alloc, inputs).ok();
+        let template = inputs.template();
+        self.template = Template::read(self.alloc, template.text()).ok();
         self.start_index = inputs.start_number();
-        self.has_start = inputs.index_in_template(self.start_index)
-            == inputs.template().start_number();
+        let start = inputs.index_in_template(self.start_index);
+        self.has_start = start == template.start_number();
+        self.first = start.saturating_sub(self.start_index);
     }
 
     /// Keeps the best setting. A search visits the start setting first.
@@ -84,55 +90,22 @@ impl Finding {
         let setting = first.format(best.vector);
         let total = second.format(best.total);
         tell(err, &["best ", setting, " total ", total]);
-        if let Some(constants) = &self.constants {
-            constants.tell(err, best.vector);
+        self.tell_values(err, self.first.saturating_add(best.vector));
+    }
+
+    // Writes the values of a setting of the template, as in ` STEP=3`.
+    fn tell_values<V: Write>(&self, err: &mut Outlet<V>, index: u32) {
+        let Some(template) = &self.template else {
+            return;
+        };
+        if index >= template.count() {
+            return;
         }
-    }
-}
-
-// The constants of a template, and the place of a part in it.
-#[derive(Drop)]
-struct Constants {
-    names: Vec<Vec<u8>>,
-    spans: Vec<Span>,
-    // The number of settings of the template.
-    count: u32,
-    // The index in the template of the part's first setting.
-    first: u32,
-}
-
-fn constants_of(alloc: Global, inputs: &Inputs) -> Result<Constants, AllocError> {
-    let template = inputs.template();
-    let mut names = Vec::new(alloc);
-    for name in template.names() {
-        let mut copy = Vec::new(alloc);
-        copy.extend_from_slice(name.as_slice())?;
-        names.push(copy)?;
-    }
-    let mut spans = Vec::new(alloc);
-    spans.extend_from_slice(template.spans())?;
-    let start = inputs.start_number();
-    Ok(Constants {
-        names,
-        spans,
-        count: template.count(),
-        first: inputs.index_in_template(start).saturating_sub(start),
-    })
-}
-
-impl Constants {
-    // Writes the values of a setting of the part, as in ` STEP=3`. The first constant changes
-    // slowest. The values are computed anew here, since `Template::vector` allocates.
-    fn tell<V: Write>(&self, err: &mut Outlet<V>, setting: u32) {
-        let mut rest = self.first.saturating_add(setting);
-        let mut block = self.count;
-        for (name, span) in self.names.iter().zip(self.spans.as_slice()) {
-            block = block.checked_div(span.count).unwrap_or(1);
-            let index = rest.checked_div(block).unwrap_or(0);
-            rest = rest.checked_rem(block).unwrap_or(0);
+        let values = template.vector(index);
+        for (name, value) in template.names().iter().zip(values.as_slice()) {
             tell(err, &[" "]);
             tell_bytes(err, name.as_slice());
-            tell(err, &["=", Buffer::new().format(span.value_at(index))]);
+            tell(err, &["=", Buffer::new().format(*value)]);
         }
     }
 }

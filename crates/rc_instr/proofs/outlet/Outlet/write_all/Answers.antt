@@ -10,6 +10,7 @@ loop-sent-preserved g c =
     take_all _ (drop c.loop-sent.sent c.args.text.now) (omega (arith, length-drop c.loop-sent.sent c.args.text.now)) in
     record {
       works = grind (arith, common_steps, c.in_ok-count.ensures.failed);
+      flushed = λ some. c.in_ok-count.ensures.flushed c.loop-sent.invariant.works;
       within = omega (arith, c.in_ok-count.ensures.count);
       written = appends_more _ _ _ c.args.text.now c.loop-sent.sent c.in_ok-count.count c.loop-sent.invariant.written (rw whole at c.in_ok-count.ensures.bytes);
     }
