@@ -10,9 +10,8 @@ import collections, itertools, math, pathlib, shutil, subprocess, tempfile
 
 from author.lib.endings import Fault, run_tool
 from author.lib.program import program_of
-from author.lib.words import add_program, module_parser, number_from
 
-from .pairs import FOLDERS, HERE, Pair, loads_of, play_in_turn
+from .pairs import FOLDERS, HERE, Pair, loads_of, pairs_parser, play_in_turn
 from .plain_machine import LINE, classes
 from .runs import mean_and_least, run
 
@@ -85,13 +84,9 @@ def print_instructions(pairs):
 
 
 def main():
-    parser = module_parser("bench.limit", __doc__)
-    add_program(parser)
-    parser.add_argument("--pmars", required=True, metavar="PATH", help="a pMARS server build")
+    parser = pairs_parser("bench.limit", __doc__, 3)
     parser.add_argument("--folder", choices=FOLDERS, default="unseen",
                         help="the warriors [default: unseen]")
-    parser.add_argument("--runs", type=number_from(1), default=3, metavar="N",
-                        help="runs of each series [default: 3]")
     asked = parser.parse_args()
     program = program_of(asked.program)
     pmars = program_of(asked.pmars, "make pmars")

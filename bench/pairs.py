@@ -6,6 +6,7 @@ import itertools, math, pathlib, tempfile
 
 from author.lib.endings import Fault
 from author.lib.program import Rules
+from author.lib.words import add_program, module_parser, number_from
 from pmars.games import Game, fights_of
 
 from . import plain_machine
@@ -100,23 +101,31 @@ def play_in_turn(pairs, runs):
     return pairs
 
 
-def print_folder(name, cwtune, pmars, runs):
-    """Prints a line per pair of warriors of a folder, the geometric mean and the least ratio."""
-    heads = f"{'fights':>8}{'points':>8}{'unclassed':>10}{'ms':>10}{'pMARS ms':>10}{'ratio':>8}"
-    print(f"{name:<32}{heads}", flush=True)
-    warriors = loads_of(cwtune, FOLDERS[name])
-    with tempfile.TemporaryDirectory() as folder:
-        made = (Pair(*both, (cwtune, pmars), folder)
-                for both in itertools.combinations(warriors, 2))
-        pairs = play_in_turn(made, runs)
-    for pair in pairs:
-        line = f"{pair.name:<32}{pair.fights:>8}{pair.points:>8}{pair.unclassed:>10.0%}"
-        line += f"{pair.cwtune_seconds * 1e3:>10.1f}{pair.pmars_seconds * 1e3:>10.1f}"
-        print(f"{line}{pair.ratio():>8.2f}", flush=True)
-    print(f"the same points in {len(pairs)} series")
-    print(mean_and_least([pair.ratio() for pair in pairs]))
+def print_pairs(title, pairs):
+    """Prints a line for each pair."""
+    print(f"{title:<32}{'fights':>8}{'points':>8}{'ties':>7}{'unclassed':>10}{'ms':>10}"
+          f"{'pMARS ms':>10}{'ratio':>8}")
+    for it in pairs:
+        print(f"{it.name:<32}{it.fights:>8}{it.points:>8}{it.ties:>7}{it.unclassed:>10.0%}"
+              f"{it.cwtune_seconds * 1e3:>10.1f}{it.pmars_seconds * 1e3:>10.1f}{it.ratio():>8.2f}")
 
 
 def print_folders(cwtune, pmars, runs):
-    for name in FOLDERS:
-        print_folder(name, cwtune, pmars, runs)
+    """Prints the pairs of warriors of each folder, the geometric mean and the least ratio."""
+    for name, path in FOLDERS.items():
+        with tempfile.TemporaryDirectory() as folder:
+            pairs = play_in_turn((Pair(*both, (cwtune, pmars), folder) for both in
+                                  itertools.combinations(loads_of(cwtune, path), 2)), runs)
+        print_pairs(name, pairs)
+        print(f"the same points in {len(pairs)} series")
+        print(mean_and_least([pair.ratio() for pair in pairs]), flush=True)
+
+
+def pairs_parser(module, docstring, runs):
+    """Returns the parser of a module that plays series of pairs, and the usual number of runs."""
+    parser = module_parser(module, docstring)
+    add_program(parser)
+    parser.add_argument("--pmars", required=True, metavar="PATH", help="a pMARS server build")
+    parser.add_argument("--runs", type=number_from(1), default=runs, metavar="N",
+                        help=f"runs of each series [default: {runs}]")
+    return parser
