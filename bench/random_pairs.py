@@ -1,10 +1,10 @@
 """Measures pairs of random warriors, which were not used to choose a class, beside pMARS.
 
 Takes pairs whose first fight lasts 2000 turns or more, and plays series of them as measure.py does.
-A line for each pair says its fights, the points, how many are ties, the share of the turns of the first
-fight whose instruction has no class of its own (`unclassed`), the milliseconds of the program and
-of pMARS, and their ratio. The last lines have the geometric mean of the ratios and the least, of
-all pairs and of those without a tie: the program cuts ties short, and pMARS does not.
+A line for each pair says its fights, the points, how many are ties, the share of the turns of the
+first fight whose instruction has no class of its own (`unclassed`), the milliseconds of the program
+and of pMARS, and their ratio. The last lines have the geometric mean of the ratios and the least,
+of all pairs and of those without a tie: the program cuts ties short, and pMARS does not.
 """
 import random, tempfile
 
