@@ -1,7 +1,7 @@
 """Tunes random small templates for the first of the ranking and with floors, and compares with a
 model what the program writes.
 
-Reports and certificates have to be the bytes that `ranking_model.py` makes of the points of all
+Reports and certificates have to be the bytes that `lib/ranking_model.py` makes of the points of all
 fights. Checks have to accept the certificates, in shares too, and to reject one in which a row of
 the ranking has lost its last fight.
 """
@@ -11,9 +11,9 @@ from author.lib.endings import run_tool
 from author.lib.tuning_files import Certificate, Template, read_schedule
 from author.lib.words import program_word
 
+from .lib.ranking_model import Aim, Search, Table, first_too_high, listed, rank_line, row_line
 from .lib.running import side_by_side
 from .play import in_folder
-from .ranking_model import Aim, Search, Table, first_too_high, listed, rank_line, row_line
 from .tally import compare, tally
 
 TEMPLATES = 300
