@@ -24,7 +24,7 @@ OPTIONAL = {
     "seconds": int, "megabytes": int, "status": int,
 }
 # what the tables of `runs` and `each` may say
-MERGED = {**OPTIONAL, **NEEDED, "runs": None, "each": None, "values": None}
+MERGED = {**OPTIONAL, **NEEDED, "runs": None, "each": None}
 LONG = {"head": str, "text": str, "times": int, "tail": str}
 SHARED = {"files": dict, "folders": list, "words": dict, "usual": str, "case": list}
 REPORT = "vectors {}\ncandidates {}\nbest {}\nconstants {}\ntotal {}\nfights {}\n"
@@ -64,6 +64,14 @@ def variants(case, key):
     if not cases:
         raise Fault(f"{case['name']}: `{key}` is empty")
     return cases
+
+
+def valued(case):
+    """Returns the case, or one for each of the texts of its `values`."""
+    return [case | {"name": f"{case['name']} ({number}: {text[:60]!r})",
+                    "fill": case["fill"] | {name: text}}
+            for name, texts in case["values"].items()
+            for number, text in enumerate(texts, 1)] if "values" in case else [case]
 
 
 def fill(text, names):
@@ -152,10 +160,8 @@ def read_cases(path):
         case["files"] = table.get("files", {}) | case.get("files", {})
         case["folders"] = table.get("folders", []) + case.get("folders", [])
         case = {"long": {}} | case | {"fill": inputs.TEXTS | case.get("fill", {})}
-        if "values" in case:
-            case["each"] = [{"fill": {word: text}} for word, texts in case["values"].items()
-                            for text in texts]
-        tables = [one for run in variants(case, "runs") for one in variants(run, "each")]
+        tables = [one for run in variants(case, "runs") for table in variants(run, "each")
+                  for one in valued(table)]
         cases += [way for one in tables for way in ways(filled(one))]
     if len({case["name"] for case in cases}) < len(cases):
         raise Fault(f"{path}: two cases have one name")
