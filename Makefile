@@ -37,7 +37,7 @@ build: prove
 
 # Plays, assembles, tunes and checks the examples. Fails if a result is not the expected one.
 demo: build
-	@for one in play assemble tune check; do sh examples/$$one.sh $(PROGRAM) || exit 1; done
+	@sh examples/demo.sh $(PROGRAM)
 
 # Measures turns, assemblies and settings per second. PMARS=PATH measures a pMARS server build too,
 # RUNS=N plays each fight N times.

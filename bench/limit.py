@@ -6,14 +6,14 @@ pair says how many times as fast as pMARS the other two are. Then come the geome
 instructions that were executed most in the first fights of the pairs: the share of the turns, and
 whether the hot loop has an arm for it (docs/HOT_LOOP.md). Needs clang++.
 """
-import collections, itertools, math, pathlib, re, shutil, subprocess, tempfile
+import collections, itertools, math, pathlib, shutil, subprocess, tempfile
 
 from author.lib.endings import Fault, run_tool
 from author.lib.program import program_of
-from author.lib.words import add_program, module_parser, number_from
 
-from .pairs import FOLDERS, HERE, Pair, loads_of, mean_and_least, play_in_turn, processor_time
+from .pairs import FOLDERS, HERE, Pair, loads_of, pairs_parser, play_in_turn
 from .plain_machine import LINE, classes
+from .runs import mean_and_least, run
 
 FLAGS = ["-std=c++17", "-O2", "-march=x86-64-v2", "-fno-pie", "-static", "-fno-strict-aliasing"]
 OPCODES = "DAT MOV ADD SUB MUL DIV MOD JMP JMZ JMN DJN SEQ SNE SLT SPL NOP".split()
@@ -60,11 +60,8 @@ class LimitPair(Pair):
 
     def play(self):
         super().play()
-        seconds, output = processor_time(self.limit_words)
-        points = int(re.fullmatch(r"total (\d+)\n", output)[1])
-        if points != self.points:
-            raise Fault(f"{self.name}: limit.cc has {points} points, cwtune {self.points}", 3)
-        self.limit_seconds = min(self.limit_seconds, seconds)
+        ran = run(self.limit_words, "", f"total {self.points}\n")
+        self.limit_seconds = min(self.limit_seconds, ran.processor)
 
     def limit_ratio(self):
         """Returns how many times as fast as pMARS the simulator is."""
@@ -87,13 +84,9 @@ def print_instructions(pairs):
 
 
 def main():
-    parser = module_parser("bench.limit", __doc__)
-    add_program(parser)
-    parser.add_argument("--pmars", required=True, metavar="PATH", help="a pMARS server build")
+    parser = pairs_parser("bench.limit", __doc__, 3)
     parser.add_argument("--folder", choices=FOLDERS, default="unseen",
                         help="the warriors [default: unseen]")
-    parser.add_argument("--runs", type=number_from(1), default=3, metavar="N",
-                        help="runs of each series [default: 3]")
     asked = parser.parse_args()
     program = program_of(asked.program)
     pmars = program_of(asked.pmars, "make pmars")

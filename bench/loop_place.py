@@ -13,7 +13,8 @@ from author.lib.program import Rules, program_of
 from author.lib.words import add_program, module_parser, number_from
 from pmars.games import Game, fights_of
 
-from .pairs import FOLDERS, SEED, loads_of, processor_time
+from .pairs import FOLDERS, SEED, loads_of
+from .runs import least, run
 
 PLACES = (0, 16, 32, 48)
 WARRIORS = ["coil", "hail-bomber", "imp-stone", "silk-paper"]
@@ -50,13 +51,10 @@ def times_of(programs, runs):
         warriors = [it for it in loads_of(programs[0], FOLDERS["unseen"]) if it[0] in WARRIORS]
         games = [Game(Rules(), one[1], other[1], tempfile.mkdtemp(dir=folder))
                  for one, other in itertools.combinations(warriors, 2)]
-        words = [[game.tune_words(str(it), fights_of(game.rules, SEED, FIGHTS)) for it in programs]
-                 for game in games]
-        times = [[[] for _ in programs] for _ in games]
-        for _, game in itertools.product(range(runs), range(len(games))):
-            for place, command in enumerate(words[game]):
-                times[game][place].append(processor_time(command)[0])
-    return [sum(min(game[place]) for game in times) for place in range(len(programs))]
+        words = [game.tune_words(str(it), fights_of(game.rules, SEED, FIGHTS))
+                 for game in games for it in programs]
+        times = least([lambda one=one: run(one).processor for one in words], runs)
+    return [sum(times[place::len(programs)]) for place in range(len(programs))]
 
 
 def main():

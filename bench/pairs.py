@@ -2,13 +2,15 @@
 
 README.md says what is measured.
 """
-import itertools, math, os, pathlib, statistics, subprocess, tempfile
+import itertools, math, pathlib, tempfile
 
 from author.lib.endings import Fault
 from author.lib.program import Rules
+from author.lib.words import add_program, module_parser, number_from
 from pmars.games import Game, fights_of
 
 from . import plain_machine
+from .runs import mean_and_least, run
 
 HERE = pathlib.Path(__file__).resolve().parent
 # In each folder, each warrior fights each other one.
@@ -44,25 +46,22 @@ class Pair:
         fight = plain_machine.Fight(game.rules, (my_load, their_load), SEED)
         fight.play()
         self.unclassed, self.executed = fight.unclassed(), fight.executed
-        _, came = processor_time(game.fight_words(cwtune, SEED, "c"))
-        if came != fight.result():
-            raise Fault(f"{self.name}: cwtune has {came!r}, plain_machine.py {fight.result()!r}",
-                        3)
+        run(game.fight_words(cwtune, SEED, "c"), "", fight.result())
 
     def play_tune(self):
         """Returns the seconds of the series by `cwtune tune`, and the candidate's points."""
-        seconds, output = processor_time(self.tune_words)
-        words = output.split()
+        ran = run(self.tune_words)
+        words = ran.output.split()
         if words[words.index("fights") + 1] != str(self.fights):
-            raise Fault(f"{self.name}: cwtune did not play {self.fights} fights: {output!r}", 3)
-        return seconds, int(words[words.index("total") + 1])
+            raise Fault(f"{self.name}: cwtune did not play {self.fights} fights: {words}", 3)
+        return ran.processor, int(words[words.index("total") + 1])
 
     def play_pmars(self):
         """Returns the seconds of the series by pMARS, and the candidate's points."""
-        seconds, output = processor_time(self.pmars_words)
+        ran = run(self.pmars_words)
         # The first line has the rounds that the candidate survived alone, and those that both did.
-        wins, self.ties = map(int, output.split()[:2])
-        return seconds, 3 * wins + self.ties
+        wins, self.ties = map(int, ran.output.split()[:2])
+        return ran.processor, 3 * wins + self.ties
 
     def play(self):
         """Plays the series by each program. Their points have to be the same."""
@@ -80,31 +79,14 @@ class Pair:
 
 def series_length(game, pmars):
     """Returns how many fights a series of this game has, by what pMARS takes for the fewest."""
-    seconds, _ = processor_time(game.series_words(pmars, SEED, FEWEST))
+    seconds = run(game.series_words(pmars, SEED, FEWEST)).processor
     return min(MOST, max(FEWEST, int(FEWEST * SECONDS / max(seconds, 1e-3))))
-
-
-def processor_time(command):
-    """Runs a command. Returns the seconds of a processor that it took, and its output."""
-    with tempfile.TemporaryFile() as faults:
-        process = subprocess.Popen(
-            command, stdin=subprocess.DEVNULL, stdout=subprocess.PIPE, stderr=faults
-        )
-        with process.stdout as stream:
-            output = stream.read()
-        _, status, usage = os.wait4(process.pid, 0)
-        process.returncode = os.waitstatus_to_exitcode(status)
-        faults.seek(0)
-        if process.returncode != 0:
-            words = faults.read().decode(errors="replace").strip()
-            raise Fault(f"{command[0]} ended with status {process.returncode}: {words}", 3)
-    return usage.ru_utime + usage.ru_stime, output.decode("ascii")
 
 
 def loads_of(cwtune, folder):
     """Returns the names and the load files of the warriors of a folder."""
     paths = sorted(folder.glob("*.red"))
-    return [(path.stem, processor_time([str(cwtune), "asm", str(path)])[1]) for path in paths]
+    return [(path.stem, run([str(cwtune), "asm", str(path)]).output) for path in paths]
 
 
 def play_in_turn(pairs, runs):
@@ -119,29 +101,31 @@ def play_in_turn(pairs, runs):
     return pairs
 
 
-def mean_and_least(ratios):
-    """Returns in words the geometric mean of some ratios, and the least."""
-    mean = statistics.geometric_mean(ratios)
-    return f"geometric mean of the ratios {mean:.2f}, least {min(ratios):.2f}"
-
-
-def print_folder(name, cwtune, pmars, runs):
-    """Prints a line per pair of warriors of a folder, the geometric mean and the least ratio."""
-    heads = f"{'fights':>8}{'points':>8}{'unclassed':>10}{'ms':>10}{'pMARS ms':>10}{'ratio':>8}"
-    print(f"{name:<32}{heads}", flush=True)
-    warriors = loads_of(cwtune, FOLDERS[name])
-    with tempfile.TemporaryDirectory() as folder:
-        made = (Pair(*both, (cwtune, pmars), folder)
-                for both in itertools.combinations(warriors, 2))
-        pairs = play_in_turn(made, runs)
-    for pair in pairs:
-        line = f"{pair.name:<32}{pair.fights:>8}{pair.points:>8}{pair.unclassed:>10.0%}"
-        line += f"{pair.cwtune_seconds * 1e3:>10.1f}{pair.pmars_seconds * 1e3:>10.1f}"
-        print(f"{line}{pair.ratio():>8.2f}", flush=True)
-    print(f"the same points in {len(pairs)} series")
-    print(mean_and_least([pair.ratio() for pair in pairs]))
+def print_pairs(title, pairs):
+    """Prints a line for each pair."""
+    print(f"{title:<32}{'fights':>8}{'points':>8}{'ties':>7}{'unclassed':>10}{'ms':>10}"
+          f"{'pMARS ms':>10}{'ratio':>8}")
+    for it in pairs:
+        print(f"{it.name:<32}{it.fights:>8}{it.points:>8}{it.ties:>7}{it.unclassed:>10.0%}"
+              f"{it.cwtune_seconds * 1e3:>10.1f}{it.pmars_seconds * 1e3:>10.1f}{it.ratio():>8.2f}")
 
 
 def print_folders(cwtune, pmars, runs):
-    for name in FOLDERS:
-        print_folder(name, cwtune, pmars, runs)
+    """Prints the pairs of warriors of each folder, the geometric mean and the least ratio."""
+    for name, path in FOLDERS.items():
+        with tempfile.TemporaryDirectory() as folder:
+            pairs = play_in_turn((Pair(*both, (cwtune, pmars), folder) for both in
+                                  itertools.combinations(loads_of(cwtune, path), 2)), runs)
+        print_pairs(name, pairs)
+        print(f"the same points in {len(pairs)} series")
+        print(mean_and_least([pair.ratio() for pair in pairs]), flush=True)
+
+
+def pairs_parser(module, docstring, runs):
+    """Returns the parser of a module that plays series of pairs, and the usual number of runs."""
+    parser = module_parser(module, docstring)
+    add_program(parser)
+    parser.add_argument("--pmars", required=True, metavar="PATH", help="a pMARS server build")
+    parser.add_argument("--runs", type=number_from(1), default=runs, metavar="N",
+                        help=f"runs of each series [default: {runs}]")
+    return parser

@@ -17,7 +17,7 @@ from author.lib.words import add_program, module_parser, number_from
 from author.lib.writing import naming
 from pmars.games import run
 
-from .pairs import processor_time
+from . import runs
 from .races_table import SEARCHES, START, Measured, Race, Results, Run, table_of
 from .searches import some_of
 
@@ -246,7 +246,7 @@ def settle(parser, asked):
     asked.pmars = asked.pmars and program_of(asked.pmars, "make pmars")
     asked.program = program_of(asked.program)
     if not asked.pmars:
-        asked.pmars = processor_time(["sh", HERE.parent / "pmars/pmars.sh"])[1].strip()
+        asked.pmars = runs.run(["sh", HERE.parent / "pmars/pmars.sh"]).output.strip()
 
 
 def main():

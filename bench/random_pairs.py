@@ -1,20 +1,21 @@
 """Measures pairs of random warriors, which were not used to choose a class, beside pMARS.
 
 Takes pairs whose first fight lasts 2000 turns or more, and plays series of them as measure.py does.
-A line for each pair says its fights, how many of them are ties, the share of the turns of the first
-fight whose instruction has no class of its own (`unclassed`), the milliseconds of the program and
-of pMARS, and their ratio. The last lines have the geometric mean of the ratios and the least, of
-all pairs and of those without a tie: the program cuts ties short, and pMARS does not.
+A line for each pair says its fights, the points, how many are ties, the share of the turns of the
+first fight whose instruction has no class of its own (`unclassed`), the milliseconds of the program
+and of pMARS, and their ratio. The last lines have the geometric mean of the ratios and the least,
+of all pairs and of those without a tie: the program cuts ties short, and pMARS does not.
 """
 import random, tempfile
 
 from author.lib.endings import run_tool
 from author.lib.program import Rules, program_of
-from author.lib.words import add_program, module_parser, number_from
+from author.lib.words import number_from
 from pmars.games import Game
 from pmars.random_warriors import random_load
 
-from .pairs import SEED, Pair, mean_and_least, play_in_turn, processor_time
+from .pairs import SEED, Pair, pairs_parser, play_in_turn, print_pairs
+from .runs import mean_and_least, run
 
 # The least turns of a pair's first fight.
 SHORTEST = 2000
@@ -23,8 +24,7 @@ SHORTEST = 2000
 def lasts(loads, program, folder):
     """Returns whether the first fight of two warriors lasts long enough."""
     game = Game(Rules(), *loads, folder)
-    _, said = processor_time(game.fight_words(program, SEED, "c"))
-    return int(said.split()[-1]) >= SHORTEST
+    return int(run(game.fight_words(program, SEED, "c")).output.split()[-1]) >= SHORTEST
 
 
 def lasting_pairs(asked, programs, folder):
@@ -46,13 +46,9 @@ def print_ratios(title, pairs):
 
 
 def make_parser():
-    parser = module_parser("bench.random_pairs", __doc__)
-    add_program(parser)
-    parser.add_argument("--pmars", required=True, metavar="PATH", help="a pMARS server build")
+    parser = pairs_parser("bench.random_pairs", __doc__, 1)
     parser.add_argument("--pairs", type=number_from(1), default=100, metavar="N",
                         help="pairs [default: 100]")
-    parser.add_argument("--runs", type=number_from(1), default=1, metavar="N",
-                        help="runs of each series [default: 1]")
     parser.add_argument("--seed", type=number_from(0), default=1, metavar="S",
                         help="another number gives other warriors [default: 1]")
     return parser
@@ -64,12 +60,7 @@ def main():
     programs = program_of(asked.program), pmars
     with tempfile.TemporaryDirectory() as folder:
         pairs = play_in_turn(lasting_pairs(asked, programs, folder), asked.runs)
-    print(f"{'pair':<12}{'fights':>7}{'ties':>7}{'unclassed':>10}{'ms':>9}{'pMARS ms':>9}"
-          f"{'ratio':>7}")
-    for pair in pairs:
-        print(f"{pair.name:<12}{pair.fights:>7}{pair.ties:>7}{pair.unclassed:>10.0%}"
-              f"{pair.cwtune_seconds * 1e3:>9.1f}{pair.pmars_seconds * 1e3:>9.1f}"
-              f"{pair.ratio():>7.2f}")
+    print_pairs("pair", pairs)
     print_ratios("all", pairs)
     print_ratios("without a tie", [pair for pair in pairs if pair.ties == 0])
 

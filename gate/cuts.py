@@ -4,13 +4,12 @@ Each beginning of a Redcode text, of a fight text with its two load files, and o
 to be answered as a rule of this file says, which follows from `docs/FORMATS.md` and
 `docs/REDCODE.md`: with its result, or with a fault and its line.
 """
-import concurrent.futures, os
-
 from author.lib.endings import run_tool
 from author.lib.words import program_word
 
 from . import inputs
 from .inputs import FILES, RULES
+from .lib.running import side_by_side
 from .play import end, play
 from .tally import compare, tally
 
@@ -143,8 +142,7 @@ def main():
     cuts = [(f"{trial.__name__} of {length} bytes", trial, text[:length])
             for trial, text in [(try_dwarf, DWARF), (try_fight, FIGHT), (try_cert, CERT)]
             for length in range(len(text) + 1)]
-    with concurrent.futures.ThreadPoolExecutor(os.cpu_count()) as pool:
-        wrong = list(pool.map(lambda cut: cut[1](program, cut[2]), cuts))
+    wrong = side_by_side(lambda cut: cut[1](program, cut[2]), cuts)
     return tally((name, lines) for (name, _, _), lines in zip(cuts, wrong))
 
 

@@ -2,7 +2,7 @@
 
 gate/cases/README.md says what a case has. One that says anything else, or no `name`, is refused.
 """
-import concurrent.futures, os, pathlib, re, shlex, string, tempfile, tomllib
+import os, pathlib, re, shlex, string, tempfile, tomllib
 
 from author.lib.endings import Fault, run_tool
 from author.lib.program import program_of
@@ -10,17 +10,18 @@ from author.lib.words import add_built, module_parser
 from author.lib.writing import naming
 
 from . import inputs
+from .lib.running import side_by_side
 from .play import Place, end
 from .tally import tally
 
 FILLED = ["stdin", "out", "err", "err_begins"]
 NEEDED = {"name": str}
 OPTIONAL = {
-    "status": int,
     "files": dict, "folders": list, "stdin": str, "stdin_from": str, "out_to": str, "cert": str,
-    "each": list, "out": str, "report": list, "out_begins": str, "out_contains": list, "out_is": str,
-    "err": str, "err_begins": str, "words": str, "runs": list, "fill": dict,
-    "long": dict, "accepted": bool, "terminal": bool, "seconds": int, "megabytes": int,
+    "each": list, "values": dict, "out": str, "report": list, "out_begins": str,
+    "out_contains": list, "out_is": str, "err": str, "err_begins": str, "words": str,
+    "runs": list, "fill": dict, "long": dict, "accepted": bool, "terminal": bool,
+    "seconds": int, "megabytes": int, "status": int,
 }
 # what the tables of `runs` and `each` may say
 MERGED = {**OPTIONAL, **NEEDED, "runs": None, "each": None}
@@ -54,14 +55,23 @@ def variants(case, key):
     for number, table in enumerate(case[key], 1):
         name = f"{case['name']} ({'table' if key == 'each' else 'run'} {number})"
         check_keys(table, MERGED, [], name)
-        told = table.get("name", table.get("words"))
-        merged = {"name": f"{name}: {told}" if told else name}
+        texts = [*table.get("fill", {}).values(), *table.get("files", {}).values()]
+        told = table.get("name") or table.get("words") or repr(texts)[:100]
+        merged = {"name": f"{name}: {told}"}
         for part in ["files", "fill", "long"]:
             merged[part] = case[part] | table.get(part, {})
         cases.append(case | table | merged)
     if not cases:
         raise Fault(f"{case['name']}: `{key}` is empty")
     return cases
+
+
+def valued(case):
+    """Returns the case, or one for each of the texts of its `values`."""
+    return [case | {"name": f"{case['name']} ({number}: {text[:60]!r})",
+                    "fill": case["fill"] | {name: text}}
+            for name, texts in case["values"].items()
+            for number, text in enumerate(texts, 1)] if "values" in case else [case]
 
 
 def fill(text, names):
@@ -150,7 +160,8 @@ def read_cases(path):
         case["files"] = table.get("files", {}) | case.get("files", {})
         case["folders"] = table.get("folders", []) + case.get("folders", [])
         case = {"long": {}} | case | {"fill": inputs.TEXTS | case.get("fill", {})}
-        tables = [one for run in variants(case, "runs") for one in variants(run, "each")]
+        tables = [one for run in variants(case, "runs") for table in variants(run, "each")
+                  for one in valued(table)]
         cases += [way for one in tables for way in ways(filled(one))]
     if len({case["name"] for case in cases}) < len(cases):
         raise Fault(f"{path}: two cases have one name")
@@ -246,9 +257,7 @@ def main():
     program, folder = program_of(asked.program), pathlib.Path(__file__).resolve().parent / "cases"
     paths = asked.cases or sorted(folder.glob("*.toml"))
     cases = [case for path in paths for case in read_cases(path)]
-    with concurrent.futures.ThreadPoolExecutor(os.cpu_count()) as pool:
-        played = pool.map(lambda case: differences(program, case), cases)
-        return tally((case["name"], wrong) for case, wrong in zip(cases, played))
+    return tally(side_by_side(lambda case: (case["name"], differences(program, case)), cases))
 
 
 if __name__ == "__main__":

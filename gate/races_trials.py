@@ -1,7 +1,7 @@
 """Tries `bench.races` with stand-ins for the search and for pMARS, and its table with a few results
 that were made by hand; and `bench.naive` with a template of few settings.
 """
-import json, pathlib, subprocess, sys, tempfile
+import json, pathlib, tempfile
 
 from author.lib.endings import Fault, run_tool
 from author.lib.grid import Grid
@@ -9,9 +9,9 @@ from author.lib.words import program_word
 from bench.races import gain_said
 from bench.races_table import Race, Results, table_of
 
+from .lib.running import ROOT, ran_module
 from .tally import compare, tally
 
-ROOT = pathlib.Path(__file__).resolve().parent.parent
 # Stand-ins for cwtune-seek, which print the template with another START: at once, after SIGTERM,
 # and after 1.3 seconds whatever they are told.
 FOUND = 'import signal, sys, time\ntext = open(sys.argv[2]).read().replace("10 3045", "10 3055")\n'
@@ -67,14 +67,7 @@ def table_trials(folder):
     for line in ("no", "[]", '{"race": ["stone", "naive", 60, 1]}', path.read_text()[:40]):
         path.write_text(path.read_text().partition("\n")[0] + f"\n{line}\n")
         yield compare(line, (1, "", f"refused: {path}: line 2 is not a result\n"),
-                      run("bench.races", "--table", "--results", path))
-
-
-def run(*words):
-    """Returns the status, the output and the standard error of a module."""
-    done = subprocess.run([sys.executable, "-m", *words], cwd=ROOT, stdin=subprocess.DEVNULL,
-                          capture_output=True, text=True)
-    return done.returncode, done.stdout, done.stderr
+                      ran_module("bench.races", "--table", "--results", path))
 
 
 def raced(folder, stand_in, pmars=PMARS):
@@ -82,7 +75,7 @@ def raced(folder, stand_in, pmars=PMARS):
     (folder / "cwtune-seek").write_text(stand_in)
     (folder / "pmars").write_text(pmars)
     (folder / "pmars").chmod(0o755)
-    return run("bench.races", f"--climb={folder}", "--searches=climb", "--templates=stone",
+    return ran_module("bench.races", f"--climb={folder}", "--searches=climb", "--templates=stone",
                "--seconds=1", "--seeds=1", "--program=/bin/true", f"--pmars={folder}/pmars",
                f"--results={folder}/results")
 
@@ -141,14 +134,15 @@ def naive_trials(program, folder):
     """Searches a template of few settings for a second."""
     template = ROOT / "examples/tuning/step.red"
     opponents = [ROOT / "examples/warriors" / f"{name}.red" for name in ("dwarf", "scanner")]
-    status, out, err = run("bench.naive", f"--program={program}", "1", "1", template, *opponents)
+    status, out, err = ran_module("bench.naive", f"--program={program}", "1", "1", template,
+                                  *opponents)
     (folder / "found.red").write_text(out)
     found, grid = Grid(folder / "found.red"), Grid(template)
     yield compare("bench.naive", (0, True, grid.ranges), (
         status, err.startswith("total over START's: "), found.ranges))
     false = pathlib.Path("/bin/false").resolve()
     yield compare(f"bench.naive {false}", (1, "", f"refused: {false} ended with status 1\n"),
-                  run("bench.naive", f"--program={false}", "1", "1", template, *opponents))
+                  ran_module("bench.naive", f"--program={false}", "1", "1", template, *opponents))
 
 
 def trials(program):

@@ -1,18 +1,19 @@
 """Tunes random small templates for the first of the ranking and with floors, and compares with a
 model what the program writes.
 
-Reports and certificates have to be the bytes that `ranking_model.py` makes of the points of all
+Reports and certificates have to be the bytes that `lib/ranking_model.py` makes of the points of all
 fights. Checks have to accept the certificates, in shares too, and to reject one in which a row of
 the ranking has lost its last fight.
 """
-import concurrent.futures, itertools, os, random
+import itertools, random
 
 from author.lib.endings import run_tool
 from author.lib.tuning_files import Certificate, Template, read_schedule
 from author.lib.words import program_word
 
+from .lib.ranking_model import Aim, Search, Table, first_too_high, listed, rank_line, row_line
+from .lib.running import side_by_side
 from .play import in_folder
-from .ranking_model import Aim, Search, Table, first_too_high, listed, rank_line, row_line
 from .tally import compare, tally
 
 TEMPLATES = 300
@@ -299,8 +300,7 @@ def tried(program, seed):
 
 def trials(program):
     """Yields a trial for each template, and one for whether all that there is was seen."""
-    with concurrent.futures.ThreadPoolExecutor(os.cpu_count()) as pool:
-        ends = list(pool.map(lambda seed: tried(program, seed), range(TEMPLATES)))
+    ends = side_by_side(lambda seed: tried(program, seed), range(TEMPLATES))
     yield from ((f"template {seed}", wrong) for seed, (wrong, _) in enumerate(ends))
     yield compare("what was seen", SEEN, set().union(*(seen for _, seen in ends)))
 

@@ -4,7 +4,7 @@ looks whether `classes.py` has something to write.
 Each module that can be run has to be in a list here, and each of `gate` in those of gate.gate and
 of gate/__init__.py, but for those that are run by hand.
 """
-import itertools, os, pathlib, re, subprocess, sys, tempfile
+import itertools, pathlib, re, sys, tempfile
 
 import gate
 from author.lib.endings import Fault, run_tool
@@ -12,9 +12,9 @@ from author.lib.words import module_parser
 from pmars.compare import Programs
 
 from .gate import EDITS, STEPS
+from .lib.running import ROOT, ran, ran_module
 from .tally import compare, tally
 
-ROOT = pathlib.Path(__file__).resolve().parent.parent
 ROOMS = ["author", "bench", "gate", "pmars", "release"]
 # The end of a module that can be run.
 MAIN = '\nif __name__ == "__main__":\n'
@@ -46,22 +46,15 @@ CASES = {'words = "asm $smal dat.red"': "no words for `$smal`\n",
          'words = "asm dat.red"\nreport = ["1"]': "`report` has six values, in place of `out`\n"}
 
 
-def run(*words):
-    """Returns the status, the output and the standard error of a module."""
-    done = subprocess.run([sys.executable, "-m", *words], cwd=ROOT, stdin=subprocess.DEVNULL,
-                          capture_output=True, text=True)
-    return done.returncode, done.stdout, done.stderr
-
-
 def failing():
     """Gives modules a program that always fails: they have to say so, in a line."""
-    status, _, err = run("gate.shares", FAILING)
+    status, _, err = ran_module("gate.shares", FAILING)
     yield compare(f"gate.shares {FAILING}", (1, ""), (status, err))
     said = "error: no crate is called none, or it has no proofs\n"
-    yield compare("gate.answers none", (2, "", said), run("gate.answers", "none"))
+    yield compare("gate.answers none", (2, "", said), ran_module("gate.answers", "none"))
     words = ["bench.searches", "--kinds=best", "--program", FAILING, "examples/tuning/stone.red"]
     said = "failed: stone.red: a search ended with status 1\n"
-    yield compare(" ".join(words), (3, "", said), run(*words))
+    yield compare(" ".join(words), (3, "", said), ran_module(*words))
     yield "a listing of pMARS that is refused", refused_listing()
     yield from left_out()
     for text, said in CASES.items():
@@ -72,10 +65,8 @@ def left_out():
     """Has trials counted of which one is left out, without CWTUNE_ALL and with it."""
     for value, expected in [("", (0, "left out: b: no x\n1 passed, 0 failed\n")),
                             ("1", (1, "b: left out\nleft out: b: no x\n1 passed, 1 failed\n"))]:
-        done = subprocess.run([sys.executable, "-c", TALLY], cwd=ROOT, text=True,
-                              env={**os.environ, "CWTUNE_ALL": value}, capture_output=True)
-        yield compare(f"a trial that is left out, {value!r}", expected,
-                      (done.returncode, done.stdout))
+        came = ran([sys.executable, "-c", TALLY], CWTUNE_ALL=value)
+        yield compare(f"a trial that is left out, {value!r}", (*expected, ""), came)
 
 
 def played(text):
@@ -84,7 +75,7 @@ def played(text):
     with tempfile.TemporaryDirectory() as folder:
         path = pathlib.Path(folder, "a.toml")
         path.write_text(f'[[case]]\nname = "it"\n{text}\n')
-        status, out, err = run("gate.play_cases", FAILING, path)
+        status, out, err = ran_module("gate.play_cases", FAILING, path)
         return status, out, err.replace(f"refused: {path}: it: ", "")
 
 
@@ -126,21 +117,20 @@ def same(name, modules, listed):
 def trials():
     yield from listed()
     for module in sorted(modules_of(ROOMS, MAIN)):
-        status, out, _ = run(module, "--help")
+        status, out, _ = ran_module(module, "--help")
         yield compare(f"{module} --help", (0, f"usage: python3 -m {module}"), (
             status, out.partition(" [")[0]))
     yield compare("a word too many", (2, "gate.cuts: error: unrecognized arguments: x\n"), (
-        (came := run("gate.cuts", "none", "x"))[0], came[2].rpartition("python3 -m ")[2]))
-    done = subprocess.run([sys.executable, ROOT / "crates/mars_core/classes.py", "--check"],
-                          capture_output=True, text=True)
-    yield compare("the tables of classes", (0, ""), (done.returncode, done.stdout + done.stderr))
-    done = subprocess.run(["sh", ROOT / "pmars/pmars.sh", "--help"], capture_output=True, text=True)
-    yield compare("pmars.sh takes no options", (2, "use: pmars/pmars.sh [FOLDER]\n"), (
-        done.returncode, done.stderr))
+        (came := ran_module("gate.cuts", "none", "x"))[0], came[2].rpartition("python3 -m ")[2]))
+    yield compare("the tables of classes", (0, "", ""),
+                  ran([sys.executable, "crates/mars_core/classes.py", "--check"]))
+    yield compare("pmars.sh takes no options", (2, "", "use: pmars/pmars.sh [FOLDER]\n"),
+                  ran(["sh", "pmars/pmars.sh", "--help"]))
     for command, modules in REFUSED.items():
         for module in modules:
             said = f"error: no program none (`{command}` builds one)\n"
-            yield compare(f"{module} none", (2, "", said), run(*module.split(), "none"))
+            yield compare(f"{module} none", (2, "", said),
+                          ran_module(*module.split(), "none"))
     yield from failing()
 
 

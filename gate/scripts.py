@@ -1,17 +1,18 @@
 """Runs the scripts of `examples/`, also with what they have to refuse."""
-import itertools, os, pathlib, signal, subprocess, sys, time
+import itertools, re, signal, subprocess, sys, time
 
 from author.lib.endings import run_tool
 from author.lib.words import program_word
 
 from . import inputs
 from .inputs import RULES
+from .lib.running import ROOT, ran
 from .pipes import take_interrupts
 from .play import in_folder
 from .tally import compare, tally
 
-EXAMPLES = pathlib.Path(__file__).resolve().parent.parent / "examples"
-SCRIPTS = ["play.sh", "assemble.sh", "tune.sh", "check.sh"]
+EXAMPLES = ROOT / "examples"
+DEMO = ["sh", EXAMPLES / "demo.sh"]
 CERTIFY = [sys.executable, EXAMPLES / "tuning/certify.py"]
 CERT = inputs.FILES["imps.cert"]
 OPPONENTS = ["dat.red", "imp.red"]
@@ -40,20 +41,15 @@ RANGES = ["K 0 5 1", "K 0 x 1 0", "K 0 5 0 0", "K 0 4 2 1"]
 REFUSED = (1, "", "refused: Template: a range line is malformed\n")
 
 
-def run(words, folder=EXAMPLES, **variables):
-    """Returns the status of a command, its output and its standard error."""
-    done = subprocess.run(words, cwd=folder, env={**os.environ, **variables},
-                          stdin=subprocess.DEVNULL, capture_output=True, text=True)
-    return done.returncode, done.stdout, done.stderr
-
-
 def programs(program):
-    """Gives the scripts of `make demo` a program, and one that does not exist."""
-    for name in SCRIPTS:
-        status, out, err = run(["sh", name, program])
-        yield f"{name} PROGRAM", [] if status == 0 else [f"came {out}{err}"]
-        yield compare(f"{name} none", (1, "", f"{name}: no program none\n"),
-                      run(["sh", name, "none"]))
+    """Gives the script of `make demo` a program, one that does not exist, and a wrong one."""
+    status, out, err = ran([*DEMO, program])
+    yield "demo.sh PROGRAM", [] if status == 0 else [f"came {out}{err}"]
+    yield compare("demo.sh none", (1, "", "demo.sh: no program none\n"),
+                  ran([*DEMO, "none"]))
+    status, out, _ = ran([*DEMO, "/bin/true"])
+    wrong = len(re.findall("(?m)^cwtune .*: not as expected", out))
+    yield compare("demo.sh /bin/true: what differs", (1, True), (status, wrong > 30))
 
 
 def ranges(program):
@@ -61,7 +57,7 @@ def ranges(program):
     words = [*CERTIFY, program, "range.red", "both.csv", *OPPONENTS]
     for line in RANGES:
         with in_folder(program, {**FILES, "range.red": f";@tune {line}\nDAT K\n"}) as place:
-            yield compare(f"certify.py: {line}", REFUSED, run(words, place.folder))
+            yield compare(f"certify.py: {line}", REFUSED, ran(words, place.folder))
 
 
 def interrupted(program):
@@ -84,7 +80,7 @@ def searches(program):
         options = [*RULES, f"--cache={cache}"]
         with in_folder(program, FILES) as place:
             tuned = place.run(["tune", *options, template, "both.csv", "CERT", *OPPONENTS])
-            came = run([*CERTIFY, "--like-tune", "--report=REPORT", *options, program, template,
+            came = ran([*CERTIFY, "--like-tune", "--report=REPORT", *options, program, template,
                         "both.csv", *OPPONENTS], place.folder)
             wanted = 0, tuned.files.get("CERT", b"").decode(), "", tuned.out
             yield compare(f"certify.py --like-tune --cache={cache}: {template}", wanted,
@@ -98,9 +94,9 @@ def checks(program):
             wanted = int(line.startswith("rejected")), f"{line}\n", ""
             words = [*RULES, "imps.red", "both.csv"]
             yield compare(f"check: {line}", wanted,
-                          run([program, "check", *words, "CERT", *OPPONENTS], place.folder))
+                          ran([program, "check", *words, "CERT", *OPPONENTS], place.folder))
             yield compare(f"certify.py --check: {line}", wanted,
-                          run([*CERTIFY, "--check=CERT", program, *words, *OPPONENTS],
+                          ran([*CERTIFY, "--check=CERT", program, *words, *OPPONENTS],
                               place.folder))
 
 
@@ -112,7 +108,7 @@ def shares(program):
     for name, cert, status in [("a right share", CERT, 0), ("a wrong share", wrong, 1)]:
         with in_folder(program, {**FILES, "CERT": cert}) as place:
             yield compare(f"slurm.sh --check: {name}", (status, "", ""),
-                          run(words, place.folder, **job))
+                          ran(words, place.folder, **job))
 
 
 GROUPS = [programs, ranges, interrupted, searches, checks, shares]

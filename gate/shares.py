@@ -4,14 +4,13 @@ All shares of one K have to accept a certificate exactly if the whole check does
 setting and total, and their rejections, put together, have to give its line. Each kind of damage is
 done to each row of the certificates of templates of at most six settings.
 """
-import concurrent.futures, os
-
 from author.lib.endings import run_tool
 from author.lib.spread.shares import is_verdict, verdict_of
 from author.lib.words import program_word
 
 from . import inputs
 from .inputs import RULES
+from .lib.running import side_by_side
 from .play import in_folder, play
 from .tally import compare, tally
 
@@ -130,8 +129,7 @@ def trials(program):
         yield f"tune {' '.join(tuning)}", [] if text else ["no certificate"]
         tried = {tuple(text.splitlines())} | {tuple(records) for records in damaged(text)}
         jobs += [(words, records) for records in sorted(tried)]
-    with concurrent.futures.ThreadPoolExecutor(os.cpu_count()) as pool:
-        ends = list(pool.map(lambda job: compared(program, *job), jobs))
+    ends = side_by_side(lambda job: compared(program, *job), jobs)
     yield from (trial for _, trial in ends)
     statuses = [status for status, _ in ends]
     yield compare("some are accepted, at least 200 are rejected, and none is refused otherwise",

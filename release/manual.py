@@ -193,31 +193,21 @@ def author_man_page(command, version):
     return lines + see_also(command.name)
 
 
-def bash_completion(program):
-    """Returns the lines of the completion of `cwtune` for bash."""
-    names = " ".join(program.commands)
-    lines = [f"# Completes the words of {NAME} in bash.", f"_{NAME}() {{",
+def bash_completion(name, parts):
+    """Returns the lines of the completion of a command for bash. `parts` has the help and the
+    options after each first word, or after '' if they are those of the whole command."""
+    function, first = "_" + name.replace("-", "_"), "" if "" in parts else "$COMP_CWORD -eq 1 || "
+    lines = [f"# Completes the words of {name} in bash.", f"{function}() {{",
              "    local word=${COMP_WORDS[COMP_CWORD]} options=", "    COMPREPLY=()",
-             "    case ${COMP_WORDS[1]} in"]
-    lines += [f'        {name}) options="{words_of(page.options())}" ;;'
-              for name, page in program.commands.items()]
-    lines += ["    esac", "    if [[ $COMP_CWORD -eq 1 ]]; then",
-              f'        COMPREPLY=($(compgen -W "{names} --help --version" -- "$word"))',
-              "    elif [[ $word == -* ]]; then",
-              '        COMPREPLY=($(compgen -W "$options" -- "$word"))',
-              "    fi", "}", "# With nothing to choose from, bash completes names of files.",
-              f"complete -o default -F _{NAME} {NAME}"]
-    return lines
-
-
-def author_bash_completion(command):
-    """Returns the lines of the completion of a command for authors for bash."""
-    function = "_" + command.name.replace("-", "_")
-    return [f"# Completes the words of {command.name} in bash.", f"{function}() {{",
-            "    local word=${COMP_WORDS[COMP_CWORD]}", "    COMPREPLY=()",
-            "    if [[ $word == -* ]]; then",
-            f'        COMPREPLY=($(compgen -W "{words_of(command.options)}" -- "$word"))',
-            "    fi", "}", f"complete -o default -F {function} {command.name}"]
+             "    case ${COMP_WORDS[1]} in",
+             *(f'        {part or "*"}) options="{words_of(options)}" ;;'
+               for part, (_, options) in parts.items()), "    esac"]
+    if first:
+        lines.append(f'    [[ $COMP_CWORD -eq 1 ]] && options="{" ".join(parts)} --help --version"')
+    return [*lines, f"    if [[ {first}$word == -* ]]; then",
+            '        COMPREPLY=($(compgen -W "$options" -- "$word"))', "    fi", "}",
+            "# With nothing to choose from, bash completes names of files.",
+            f"complete -o default -F {function} {name}"]
 
 
 def words_of(options):
@@ -240,48 +230,33 @@ def zsh_options(options, margin):
             f"{':value:' if item.takes_value() else ''}' \\" for item in options]
 
 
-def zsh_completion(program):
-    """Returns the lines of the completion of `cwtune` for zsh."""
-    lines = [f"#compdef {NAME}", "# Completes the words of cwtune in zsh.", "",
-             "local -a commands=("]
-    lines += [f"    '{name}:{quoted_for_zsh(page.about)}'"
-              for name, page in program.commands.items()]
-    lines += [")", "if (( CURRENT == 2 )); then", "    _describe command commands", "    return",
+def zsh_completion(name, parts):
+    """Returns the lines of the completion of a command for zsh."""
+    lines = [f"#compdef {name}", f"# Completes the words of {name} in zsh.", ""]
+    if "" in parts:
+        return [*lines, "_arguments \\", *zsh_options(parts[""][1], "    "), "    '*:file:_files'"]
+    lines += ["local -a commands=(", *(f"    '{part}:{quoted_for_zsh(about)}'"
+                                       for part, (about, _) in parts.items()),
+              ")", "if (( CURRENT == 2 )); then", "    _describe command commands", "    return",
               "fi", "local command=$words[2]", "shift words", "(( CURRENT-- ))",
               "case $command in"]
-    for name, page in program.commands.items():
-        lines.append(f"    {name}) _arguments \\")
-        lines += zsh_options(page.options(), "        ")
-        lines.append("        '*:file:_files' ;;")
+    for part, (_, options) in parts.items():
+        lines += [f"    {part}) _arguments \\", *zsh_options(options, "        "),
+                  "        '*:file:_files' ;;"]
     return [*lines, "esac"]
 
 
-def author_zsh_completion(command):
-    """Returns the lines of the completion of a command for authors for zsh."""
-    return [f"#compdef {command.name}", f"# Completes the words of {command.name} in zsh.", "",
-            "_arguments \\", *zsh_options(command.options, "    "), "    '*:file:_files'"]
-
-
-def fish_options(start, options):
-    return [f"{start} -l {item.option()}{' -x' if item.takes_value() else ''} "
-            f"-d '{quoted(item.text)}'" for item in options]
-
-
-def fish_completion(program):
-    """Returns the lines of the completion of `cwtune` for fish."""
-    first = f"complete -c {NAME} -n __fish_use_subcommand"
-    lines = ["# Completes the words of cwtune in fish."]
-    for name, page in program.commands.items():
-        lines.append(f"{first} -f -a {name} -d '{quoted(page.about)}'")
-        lines += fish_options(f"complete -c {NAME} -n '__fish_seen_subcommand_from {name}'",
-                              page.options())
+def fish_completion(name, parts):
+    """Returns the lines of the completion of a command for fish."""
+    lines = [f"# Completes the words of {name} in fish."]
+    for part, (about, options) in parts.items():
+        start = f"complete -c {name}"
+        if part:
+            lines.append(f"{start} -n __fish_use_subcommand -f -a {part} -d '{quoted(about)}'")
+            start += f" -n '__fish_seen_subcommand_from {part}'"
+        lines += [f"{start} -l {item.option()}{' -x' if item.takes_value() else ''} "
+                  f"-d '{quoted(item.text)}'" for item in options]
     return lines
-
-
-def author_fish_completion(command):
-    """Returns the lines of the completion of a command for authors for fish."""
-    return [f"# Completes the words of {command.name} in fish.",
-            *fish_options(f"complete -c {command.name}", command.options)]
 
 
 def version_of(path):
@@ -298,22 +273,23 @@ def file_names(command):
     return [name.format(command) for name in FILE_NAMES]
 
 
-def write_files(folder, command, *texts):
-    """Writes the files for a command, each given as its lines, in the order of FILE_NAMES."""
-    for name, lines in zip(file_names(command), texts):
-        (folder / name).write_text("\n".join(lines) + "\n", "utf-8")
+def write_files(folder, name, page, parts):
+    """Writes the files for a command, in the order of FILE_NAMES: the page is given as lines."""
+    texts = [page, *(make(name, parts) for make in (bash_completion, zsh_completion,
+                                                    fish_completion))]
+    for file, lines in zip(file_names(name), texts):
+        (folder / file).write_text("\n".join(lines) + "\n", "utf-8")
 
 
 def write(path, folder):
     """Writes the manual pages and the completions into a folder."""
     program, version = Help(path), version_of(path)
-    write_files(folder, NAME, man_page(program, version), bash_completion(program),
-                zsh_completion(program), fish_completion(program))
+    write_files(folder, NAME, man_page(program, version),
+                {name: (page.about, page.options()) for name, page in program.commands.items()})
     for name, module in COMMANDS.items():
         command = AuthorCommand(name, module)
         write_files(folder, name, author_man_page(command, version),
-                    author_bash_completion(command), author_zsh_completion(command),
-                    author_fish_completion(command))
+                    {"": (command.about, command.options)})
 
 
 def main():

@@ -42,28 +42,16 @@ def read_records(path):
     return [record for record in csv.reader(lines) if record]
 
 
-def read_number(row, word):
-    """Returns a number of a schedule, which may have leading zeros."""
-    if not re.fullmatch("[0-9]{1,9}", word):
-        raise Fault(row, "BadNumber")
-    return int(word)
-
-
 def read_fight(row, record, fields, opponents, rules):
-    """Returns the fight of a record that has to have `fields` fields."""
-    if len(record) != fields:
-        raise Fault(row, "FieldCount")
-    opponent = read_number(row, record[0])
-    if opponent >= opponents:
-        raise Fault(row, "NoSuchOpponent")
-    position = read_number(row, record[1])
-    if not rules.distance <= position <= rules.core - rules.distance:
-        raise Fault(row, "BadPosition")
-    if record[2] not in ("c", "o"):
-        raise Fault(row, "BadFirst")
-    weight = read_number(row, record[3]) if fields == 4 else 1
-    if not 1 <= weight <= MOST_WEIGHT:
-        raise Fault(row, "BadWeight")
+    """Returns the fight of a record that has to have `fields` fields. Its numbers may have leading
+    zeros."""
+    words = [word for column, word in enumerate(record) if column != 2]
+    if len(record) != fields or not all(re.fullmatch("[0-9]{1,9}", word) for word in words):
+        raise Fault(row, "Malformed")
+    opponent, position, weight = map(int, [*words, 1][:3])
+    if not (opponent < opponents and rules.distance <= position <= rules.core - rules.distance
+            and record[2] in ("c", "o") and 1 <= weight <= MOST_WEIGHT):
+        raise Fault(row, "NoFight")
     return Fight(opponent, position, record[2], weight)
 
 

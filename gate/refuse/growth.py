@@ -6,16 +6,16 @@ or to end because a call returned `OutOfMemory` (at line or record 0, never anot
 because a request of the test itself was refused. The last line says how many requests were refused,
 too. Needs `cc` and a system with LD_PRELOAD.
 """
-import concurrent.futures, os, pathlib, subprocess, tempfile
+import functools, pathlib, subprocess, tempfile
 
 from author.lib.endings import run_tool
 from author.lib.program import program_of
 from author.lib.words import module_parser
 
+from ..lib.running import ROOT, ran, side_by_side
 from ..tally import tally
-from .runs import library_of
+from .runs import library_of, refuse_each
 
-ROOT = pathlib.Path(__file__).resolve().parents[2]
 PROGRAMS = [f"crates/{crate}/out/{crate}_tests"
             for crate in ["rc_tests", "mars_tests", "tune_tests"]]
 MODULE = "memory::"
@@ -42,31 +42,17 @@ def tests_of(program):
     return [name for name in names if f"::{MODULE}" in f"::{name}"]
 
 
-def run(library, program, test, number, count=False):
-    """Runs a test with request `number` refused. Returns its status and standard error."""
-    env = dict(os.environ, LD_PRELOAD=library, REFUSE=str(number))
-    if count:
-        env["REFUSE_COUNT"] = "1"
-    done = subprocess.run([program, test], capture_output=True, text=True, env=env)
-    ended = done.stdout.endswith("test result: ok\n") or done.returncode != 0
-    return done.returncode if ended else -1, done.stderr
+def run(library, program, test, **variables):
+    """Runs a test with the library and its variables. Returns its status and standard error."""
+    status, out, err = ran([program, test], LD_PRELOAD=library,
+                           **{key: str(it) for key, it in variables.items()})
+    return status if status or out.endswith("test result: ok\n") else -1, err
 
 
-def refuse_each(library, program, test):
+def refuse_each_of(library, program, test):
     """Refuses each request of a test in turn. Returns how many there were, and what was wrong."""
-    came = run(library, program, test, 0)
-    if came != PASSED:
-        return 0, [f"nothing refused: came {came}"]
-    requests = int(run(library, program, test, 0, count=True)[1])
-    wrong, ended = [], 0
-    for number in range(1, requests + 1):
-        came = run(library, program, test, number)
-        ended += came in REFUSED
-        if came != PASSED and came not in REFUSED:
-            wrong.append(f"request {number} refused: came {came}")
-    if ended == 0:
-        wrong.append("no run ended out of memory")
-    return requests, wrong
+    run_test = functools.partial(run, library, program, test)
+    return refuse_each(run_test, lambda: int(run_test(REFUSE_COUNT=1)[1]), PASSED, REFUSED)
 
 
 def main():
@@ -79,8 +65,7 @@ def main():
     tests = [(program, name) for program, names in found.items() for name in names]
     with tempfile.TemporaryDirectory() as work:
         library = library_of("memory.c", work)
-        with concurrent.futures.ThreadPoolExecutor(os.cpu_count()) as pool:
-            came = list(pool.map(lambda test: refuse_each(library, *test), tests))
+        came = side_by_side(lambda test: refuse_each_of(library, *test), tests)
     total = sum(requests for requests, _ in came)
     trials = [(f"tests of {pathlib.Path(program).name}", [] if names else [f"none in {MODULE}"])
               for program, names in found.items()]

@@ -108,6 +108,18 @@ def all_runs():
     return runs + [(words, with_rules(words), "", wanted) for words, wanted in TEXTS + TUNINGS]
 
 
+def refuse_each(run, count, expected, refused):
+    """Refuses each request of a run in turn: `run` takes a variable for the library, and `count`
+    says how many requests there are. Returns that number, and what was wrong."""
+    came = run()
+    wrong = [] if came == expected else [f"nothing refused: expected {expected}, came {came}"]
+    ends = [run(REFUSE=number) for number in range(1, count() + 1)]
+    wrong += [f"request {number} refused: came {came}" for number, came in enumerate(ends, 1)
+              if came != expected and came not in refused]
+    wrong += ["no run ended out of memory"] * (not any(came in refused for came in ends))
+    return len(ends), wrong
+
+
 def library_of(source, work):
     """Compiles a library for LD_PRELOAD in the folder `work`. Returns its path. Needs `cc`."""
     library, source = f"{work}/refuse.so", str(HERE / source)

@@ -8,11 +8,12 @@ standard output. CERT.inputs is written after the report; a step of it that fail
 how the run ends. Only a kill leaves an unfinished file. The last line says how many steps failed,
 too. Needs `cc` and a system with LD_PRELOAD.
 """
-import concurrent.futures, os, signal, tempfile
+import os, signal, tempfile
 
 from author.lib.endings import run_tool
 from author.lib.words import program_word
 
+from ..lib.running import side_by_side
 from ..play import Place, end, play
 from ..tally import tally
 from .runs import FILES, TUNINGS, all_runs, library_of, with_rules
@@ -108,8 +109,7 @@ def main():
     program, runs = program_word("gate.refuse.writes", __doc__), all_runs()
     with tempfile.TemporaryDirectory() as work:
         library = library_of("writes.c", work)
-        with concurrent.futures.ThreadPoolExecutor(os.cpu_count()) as pool:
-            came = list(pool.map(lambda one: fail_each(program, library, *one[1:]), runs))
+        came = side_by_side(lambda one: fail_each(program, library, *one[1:]), runs)
         explained = explain_flush(program, library)
     total = sum(steps for steps, _ in came)
     trials = [(name, wrong) for (name, *_), (_, wrong) in zip(runs, came)]

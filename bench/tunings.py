@@ -1,0 +1,26 @@
+"""Measures how long `cwtune tune` takes for templates of examples/tuning/. README.md says what is
+measured."""
+import pathlib, tempfile
+
+from .runs import least, run
+
+FOLDER = pathlib.Path(__file__).resolve().parent.parent / "examples/tuning"
+# The templates with the report that each must give, and the opponents in the order of their
+# indices.
+TEMPLATES = {"stone": "report.txt", "decoy": "decoy-report.txt"}
+OPPONENTS = ["dwarf", "imp-ring", "scanner", "replicator", "core-clear"]
+
+
+def print_tunings(program, runs):
+    """Prints the settings a second of processor time of each tuning, with the start of the
+    process."""
+    print(f"{'tuning':<14}{'settings':>10}{'settings/s':>12}")
+    opponents = [FOLDER.parent / f"warriors/{name}.red" for name in OPPONENTS]
+    for name, report in TEMPLATES.items():
+        expected = (FOLDER / report).read_text("ascii")
+        with tempfile.TemporaryDirectory() as folder:
+            words = [program, "tune", FOLDER / f"{name}.red", FOLDER / "schedule.csv",
+                     pathlib.Path(folder, "cert"), *opponents]
+            seconds, = least([lambda: run(words, "", expected).processor], runs)
+        settings = int(expected.split()[1])
+        print(f"{name:<14}{settings:>10}{settings / seconds:>12.1f}", flush=True)

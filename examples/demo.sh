@@ -1,0 +1,107 @@
+#!/bin/sh
+# Plays the fights, assembles the warriors, tunes the templates and checks certificates, and
+# compares with what is stored here. Prints the lines of fights and checks, the reports, and what
+# differs. Ends with status 0 if all is as expected, otherwise with 1.
+# Use: examples/demo.sh [PROGRAM]; otherwise the program built here, or else the one on the PATH
+
+program=${1:-$(dirname "$0")/../crates/cwtune/out/cwtune}
+[ $# -gt 0 ] || [ -x "$program" ] || program=$(command -v cwtune)
+if [ ! -x "$program" ]; then
+    echo "demo.sh: no program ${program:-here or on the PATH}" >&2
+    exit 1
+fi
+program=$(realpath "$program") work=$(mktemp -d) wrong=0 || exit 1
+trap 'rm -rf "$work"' EXIT
+cd "$(dirname "$0")" || exit 1
+# shellcheck source=examples/opponents.sh
+. ./opponents.sh
+# shellcheck disable=SC2086
+opponents=$(printf 'warriors/%s ' $opponents)
+nothing=$work/nothing line=$work/line
+: >"$nothing"
+
+# Runs the program and compares status, output and errors: expect STATUS OUTPUT ERRORS WORD..
+expect() {
+    status=$1 output=$2 errors=$3
+    shift 3
+    "$program" "$@" >"$work/output" 2>"$work/errors"
+    came=$?
+    if [ "$came" -ne "$status" ] || ! cmp -s "$output" "$work/output" ||
+        ! cmp -s "$errors" "$work/errors"; then
+        echo "cwtune $*: not as expected (status $came; expected: $status)"
+        diff "$output" "$work/output"
+        diff "$errors" "$work/errors"
+        wrong=1
+    fi
+}
+
+# Compares a line that the program prints, after its name: expect_line NAME STATUS LINE WORD..
+expect_line() {
+    name=$1 status=$2
+    echo "$3" >"$line"
+    shift 3
+    expect "$status" "$line" "$nothing" "$@"
+    printf '%-28s %s\n' "$name" "$(cat "$work/output")"
+}
+
+# Tunes a template, and prints the report: tuned TEMPLATE SCHEDULE REPORT
+tuned() {
+    # shellcheck disable=SC2086
+    expect 0 "tuning/$3" "$nothing" tune "tuning/$1" "tuning/$2" "$work/tuned.cert" $opponents
+    cat "$work/output"
+    echo
+}
+
+# Checks a certificate of the stone: checked NAME CERT STATUS LINE
+checked() {
+    # shellcheck disable=SC2086
+    expect_line "$1" "$3" "$4" check tuning/stone.red "$schedule" "$2" $opponents
+}
+
+# Checks what was tuned by the schedule, and what certify.py makes in its own way: both REPORT
+both() {
+    # shellcheck disable=SC2086
+    python3 tuning/certify.py "$program" tuning/stone.red "$schedule" $opponents \
+        >"$work/own.cert" || wrong=1
+    accepted=$(sed -n -e 's/^best \(.*\)/accepted best \1/p' -e 's/^total \(.*\) of .*/total \1/p' \
+        "$1" | paste -s -d ' ' -)
+    checked "the tuner's certificate" "$work/tuned.cert" 0 "$accepted"
+    checked "another certificate" "$work/own.cert" 0 "$accepted"
+}
+
+while read -r name expected; do
+    expect_line "$name" 0 "$expected" fight <"$name.fight"
+done <expected.txt
+set -- *.fight
+[ $# -eq "$(grep -c . expected.txt)" ] || { echo "expected.txt has not all of $*" && wrong=1; }
+for text in warriors/*.red; do
+    expect 0 "${text%.red}.load" "$nothing" asm "$text"
+    # A load file is a text, too, and gives itself.
+    expect 0 "${text%.red}.load" "$nothing" asm "${text%.red}.load"
+done
+for text in warriors/refused/*.red; do
+    expect 1 "$nothing" "${text%.red}.fault" asm "$text"
+done
+echo
+tuned decoy.red schedule.csv decoy-report.txt
+
+# The stored certificate lists all fights; its third line is the row of setting 0, which loses a
+# fight. In the changed one it ties it.
+schedule=tuning/schedule.csv
+tuned stone.red schedule.csv report.txt
+both tuning/report.txt
+checked "the stored certificate" tuning/all-fights.cert 0 "$accepted"
+sed '3s/:0/:1/' tuning/all-fights.cert >"$work/changed.cert"
+checked "one byte changed" "$work/changed.cert" 1 "rejected row 2 WrongPoints"
+# shellcheck disable=SC2086
+"$program" tune --all tuning/stone.red "$schedule" "$work/all.cert" $opponents >"$work/output"
+cmp "$work/all.cert" tuning/all-fights.cert || wrong=1
+echo
+
+schedule=tuning/weighted.csv
+tuned stone.red weighted.csv weighted-report.txt
+both tuning/weighted-report.txt
+sed '1s/,2,/,1,/' "$work/tuned.cert" >"$work/changed.cert"
+checked "version 1, with weights" "$work/changed.cert" 1 "rejected row 0 Version"
+
+exit "$wrong"
