@@ -10,7 +10,8 @@ HERE = pathlib.Path(__file__).resolve().parent
 OPCODES = "DAT MOV ADD SUB MUL DIV MOD JMP JMZ JMN DJN SEQ SNE SLT SPL NOP".split()
 MODIFIERS = "A B AB BA F X I I".split()
 MODES = "#$*@{<}>"
-FIRST = 40
+# The classes of `execute_by_class`, and the keys of one part of `class_of_key`.
+FIRST, PART = 64, 32
 
 
 def parsed(line):
@@ -22,32 +23,39 @@ def parsed(line):
 
 CLASSES = [parsed(line) for line in (HERE / "classes.txt").read_text("utf-8").splitlines()]
 PAIRS = [(a, b) for b in range(8) for a in range(8)]
+COUNT = len(CLASSES)
 CODES = [(o, m) for o in range(16) for m in range(8)]
 
 
-def tests(first, last, rest):
-    for n in range(first, last):
+def part_of_keys(first):
+    return "class_of_key" if first == 0 else f"class_from_{first}"
+
+
+def tests(first):
+    for n in range(first, first + PART):
         name, _, key = CLASSES[n]
         word = "if" if n == first else "else if"
         yield f"    {word} k == {key} then {n}  -- {name}"
-    yield f"    else {rest}"
+    last = first + PART == COUNT
+    yield f"    else {'first_of_modes + k / 256' if last else f'{part_of_keys(first + PART)} k'}"
 
 
-def keys(first, last):
-    for n in range(first, last):
+def keys(first):
+    for n in range(first, first + PART):
         name, _, key = CLASSES[n]
         yield f"        {key} => {n}, // {name}"
 
 
-def arms():
-    for n, (name, (o, m, a, b), _) in enumerate(CLASSES):
-        label = "_" if n == 63 else n
+def arms(first, last):
+    for n in range(first, last):
+        name, (o, m, a, b), _ = CLASSES[n]
+        label = "_" if n == last - 1 else n
         yield f"        {label} => arm::<C, {o}, {m}, {a}, {b}>(cells, size, pc, cell), // {name}"
 
 
 def pairs():
     for n, (a, b) in enumerate(PAIRS):
-        label = "_" if n == 63 else 64 + n
+        label = "_" if n == 63 else COUNT + n
         modes = f"{MODES[a]}, {MODES[b]}"
         yield f"        {label} => pair_in::<C, {a}, {b}>(cells, size, pc, cell), // {modes}"
 
@@ -65,45 +73,56 @@ def key_in():
     yield "    else 0"
 
 
-def leads():
-    for n, (_, _, key) in enumerate(CLASSES):
+def leads(first):
+    for n in range(first, first + PART):
+        _, _, key = CLASSES[n]
         yield f"    leads_if (k == {key}) k {n} _ {key} (λ e. eqb-true _ _ e) (omega arith) refl ("
-    yield "    inr refl" + ")" * len(CLASSES)
+    last = first + PART == COUNT
+    yield f"    {'inr refl' if last else f'leads_from_{first + PART} k'}{')' * PART}"
 
 
-def goal(call, n, first, clause):
-    return f"{call}-requires-clause-{clause}" if first else f"{call}-requires-in-{n}-clause-{clause}"
+def goal(call, label, clause):
+    return f"{call}-requires{label}-clause-{clause}"
 
 
-def coded():
-    for n, (_, (o, m, a, b), _) in enumerate(CLASSES[:-1]):
-        name = goal("arm", n, n == 0, "coded")
+def coded(first, last, bounds):
+    for n in range(first, last):
+        label, is_class = f"-in-{n}", f"c.in-{n}.is"
+        if n == first:
+            label = ""
+        if n == last - 1:
+            label, is_class = "-in_default", f"(omega (arith, c.in_default, {bounds}))"
+        name = goal("arm", label, "coded")
         yield f"pub {name} : goal.{name}"
         below = " ".join(["(omega arith)"] * 4)
-        parts = f"{n} {o} {m} {a} {b} c.requires.class c.in-{n}.is (omega arith) refl {below}"
-        yield f"{name} g c = coded _ _ {parts}"
+        parts = " ".join(map(str, CLASSES[n][1]))
+        known = f"c.requires.class {is_class} (omega arith) refl {below}"
+        yield f"{name} g c = coded _ _ {n} {parts} {known}"
         yield ""
 
 
 def moded():
     for n, (a, b) in enumerate(PAIRS[:-1]):
-        name = goal("pair_in", 64 + n, n == 0, "moded")
+        name = goal("pair_in", f"-in-{COUNT + n}" if n else "", "moded")
         yield f"pub {name} : goal.{name}"
-        parts = f"{a} {b} c.requires.class c.in-{64 + n}.is (omega arith) (omega arith)"
+        parts = f"{a} {b} c.requires.class c.in-{COUNT + n}.is (omega arith) (omega arith)"
         yield f"{name} g c = moded _ _ {parts}"
         yield ""
 
 
+PARTS = range(0, COUNT, PART)
 TABLES = {
-    "specs/Classes.antt": {
-        "further keys": tests(FIRST, 64, "first_of_modes + k / 256"),
-        "keys": tests(0, FIRST, "further_class_of_key k"),
-    },
-    "src/classes.rt": {"keys": keys(0, FIRST), "further keys": keys(FIRST, 64)},
-    "src/turn.rt": {"classes": arms()},
+    "specs/Classes.antt": {f"keys from {n}": tests(n) for n in PARTS},
+    "src/classes.rt": {f"keys from {n}": keys(n) for n in PARTS},
+    "src/turn.rt": {"classes": arms(0, FIRST), "further classes": arms(FIRST, COUNT)},
     "src/general.rt": {"modes": pairs(), "codes": codes()},
-    "proofs/Keys.antt": {"keys": key_in(), "tests": leads()},
-    "proofs/turn/execute_by_class/Answers.antt": {"classes": coded()},
+    "proofs/Keys.antt": {"keys": key_in()} | {f"tests from {n}": leads(n) for n in PARTS},
+    "proofs/turn/execute_by_class/Answers.antt": {
+        "classes": coded(0, FIRST, "c.requires.frequent"),
+    },
+    "proofs/turn/execute_further/Answers.antt": {
+        "classes": coded(FIRST, COUNT, "c.requires.further, c.requires.frequent"),
+    },
     "proofs/general/operands/Answers.antt": {"modes": moded()},
 }
 

@@ -26,18 +26,18 @@ parted i o k a b e lk lo la lb =
       b_mode_is = sym sn.1 ∙ ap mode_of eb;
     }
 
-led_own : (i : Instruction) (n c : ℕ) → n ≡ class_of i → n ≡ c → c < 64 → Leads (key_of i) (class_of i) → key_of i ≡ key_in c
+led_own : (i : Instruction) (n c : ℕ) → n ≡ class_of i → n ≡ c → c < 128 → Leads (key_of i) (class_of i) → key_of i ≡ key_in c
 led_own i n c p e s (inl q) = sym q.1 ∙ ap key_in (sym p ∙ e)
 led_own i n c p e s (inr q) = absurd (omega (arith, p, q, e, s))
 
-led : (i : Instruction) (n c : ℕ) → IsClassOf i n → n ≡ c → c < 64 → key_of i ≡ key_in c
+led : (i : Instruction) (n c : ℕ) → IsClassOf i n → n ≡ c → c < 128 → key_of i ≡ key_in c
 led i n c h e s = led_own i n c (h.own (omega (arith, e, s))) e s (leads (key_of i))
 
--- one of the first 64 classes says the opcode, the modifier and the modes
-pub coded : (i : Instruction) (n c o k a b : ℕ) → IsClassOf i n → n ≡ c → c < 64 → key_in c ≡ k + 8 * o + 256 * (a + 8 * b) → k < 8 → o < 16 → a < 8 → b < 8 → IsCoded o k a b i
+-- one of the first 128 classes says the opcode, the modifier and the modes
+pub coded : (i : Instruction) (n c o k a b : ℕ) → IsClassOf i n → n ≡ c → c < 128 → key_in c ≡ k + 8 * o + 256 * (a + 8 * b) → k < 8 → o < 16 → a < 8 → b < 8 → IsCoded o k a b i
 coded i n c o k a b h e s f lk lo la lb = parted i o k a b (led i n c h e s ∙ f) lk lo la lb
 
-modes_are : (i : Instruction) (n a b : ℕ) → n ≡ modes_class_of i → n ≡ 64 + a + 8 * b → a < 8 → b < 8 → IsModed a b i
+modes_are : (i : Instruction) (n a b : ℕ) → n ≡ modes_class_of i → n ≡ 128 + a + 8 * b → a < 8 → b < 8 → IsModed a b i
 modes_are i n a b p e la lb =
     let sm = mode_small i.a_mode in
     let sn = mode_small i.b_mode in
@@ -46,13 +46,13 @@ modes_are i n a b p e la lb =
     record { a_mode_is = sym sm.1 ∙ ap mode_of ea; b_mode_is = sym sn.1 ∙ ap mode_of eb }
 
 -- one of the others says the modes
-pub moded : (i : Instruction) (n a b : ℕ) → IsClassOf i n → n ≡ 64 + a + 8 * b → a < 8 → b < 8 → IsModed a b i
+pub moded : (i : Instruction) (n a b : ℕ) → IsClassOf i n → n ≡ 128 + a + 8 * b → a < 8 → b < 8 → IsModed a b i
 moded i n a b h e la lb = modes_are i n a b (h.modes (omega (arith, e))) e la lb
 
--- there are 128 classes
-pub class_most : (i : Instruction) (n : ℕ) → IsClassOf i n → n < 128
+-- there are 192 classes
+pub class_most : (i : Instruction) (n : ℕ) → IsClassOf i n → n < 192
 class_most i n h =
-    elim (cases_lt n 64) [
+    elim (cases_lt n 128) [
       | inl l ↦ omega (arith, l)
       | inr l ↦
           let sm = mode_small i.a_mode in

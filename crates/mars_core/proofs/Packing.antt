@@ -70,7 +70,7 @@ key_small i =
     let sn = mode_small i.b_mode in
     omega (arith, so.0, sk.0, sm.0, sn.0)
 
-modes_led : (i : Instruction) (n : ℕ) → n ≡ class_of i → 64 ≤ n → Leads (key_of i) (class_of i) → n ≡ modes_class_of i
+modes_led : (i : Instruction) (n : ℕ) → n ≡ class_of i → 128 ≤ n → Leads (key_of i) (class_of i) → n ≡ modes_class_of i
 modes_led i n e l (inl h) = absurd (omega (arith, e, l, h.0))
 modes_led i n e l (inr h) =
     let so = opcode_small i.opcode in

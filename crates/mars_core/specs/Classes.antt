@@ -1,16 +1,20 @@
 -- Classes of instructions. Each below `first_of_modes` is a frequent opcode with its modifier and
--- its modes; docs/HOT_LOOP.md says how these were chosen. Each of the others says the modes of both
--- operands, and nothing else. classes.py writes the tables.
+-- its modes, the most frequent first; docs/HOT_LOOP.md says how these were chosen. Each of the
+-- others says the modes of both operands, and nothing else. classes.py writes the tables.
 use Rattle.std.specs.Prelude.{◌≡◌, ℕ, ◌+◌, ◌*◌, ◌/◌, ◌<◌, ◌≤◌, ◌==◌, if◌then◌else◌}
 use Rattle.rc_instr.specs.Instruction.{opcode_number, modifier_number, mode_number}
 use Rattle.rc_instr.specs.declared.instruction.Instruction.{Instruction}
 use Rattle.mars_core.specs.Codes.{opcode_of, modifier_of, mode_of}
 
-abbrev pub first_of_modes : ℕ
-first_of_modes = 64
+abbrev pub first_of_further : ℕ
+first_of_further = 64
 
+abbrev pub first_of_modes : ℕ
+first_of_modes = 128
+
+-- A class is a byte.
 abbrev pub class_count : ℕ
-class_count = 128
+class_count = 256
 
 -- The opcode, modifier and modes of an instruction have these numbers.
 pub record IsCoded (opcode modifier a_mode b_mode : ℕ) (i : Instruction) : Type 0 where
@@ -28,12 +32,95 @@ pub record IsModed (a_mode b_mode : ℕ) (i : Instruction) : Type 0 where
 abbrev pub key_of : Instruction → ℕ
 key_of i = modifier_number i.modifier + 8 * opcode_number i.opcode + 256 * (mode_number i.a_mode + 8 * mode_number i.b_mode)
 
--- Classes 40 to 127 of `class_of_key`. They have a definition of their own, since the prover does
--- not search through a table of 64 at once.
-unfoldable pub further_class_of_key : ℕ → ℕ
-further_class_of_key k =
-    -- table of further keys
-    if k == 10353 then 40  -- SPL.B #, <
+-- The class of each key, in parts: the prover does not search through a long table at once.
+unfoldable pub class_from_96 : ℕ → ℕ
+class_from_96 k =
+    -- table of keys from 96
+    if k == 14673 then 96  -- DJN.B $, >
+    else if k == 6481 then 97  -- DJN.B $, @
+    else if k == 8534 then 98  -- DJN.I $, {
+    else if k == 12630 then 99  -- DJN.I $, }
+    else if k == 14678 then 100  -- DJN.I $, >
+    else if k == 4420 then 101  -- JMZ.F $, *
+    else if k == 6468 then 102  -- JMZ.F $, @
+    else if k == 14660 then 103  -- JMZ.F $, >
+    else if k == 8513 then 104  -- JMZ.B $, {
+    else if k == 10561 then 105  -- JMZ.B $, <
+    else if k == 4417 then 106  -- JMZ.B $, *
+    else if k == 4425 then 107  -- JMN.B $, *
+    else if k == 6473 then 108  -- JMN.B $, @
+    else if k == 8561 then 109  -- SPL.B $, {
+    else if k == 14705 then 110  -- SPL.B $, >
+    else if k == 12657 then 111  -- SPL.B $, }
+    else if k == 4209 then 112  -- SPL.B #, *
+    else if k == 2673 then 113  -- SPL.B *, $
+    else if k == 8817 then 114  -- SPL.B *, {
+    else if k == 10613 then 115  -- SPL.X $, <
+    else if k == 2064 then 116  -- ADD.A #, $
+    else if k == 2072 then 117  -- SUB.A #, $
+    else if k == 2068 then 118  -- ADD.F #, $
+    else if k == 2096 then 119  -- MOD.A #, $
+    else if k == 2329 then 120  -- SUB.B $, $
+    else if k == 2325 then 121  -- ADD.X $, $
+    else if k == 2333 then 122  -- SUB.X $, $
+    else if k == 2154 then 123  -- SLT.AB #, $
+    else if k == 2152 then 124  -- SLT.A #, $
+    else if k == 2397 then 125  -- SEQ.X $, $
+    else if k == 2405 then 126  -- SNE.X $, $
+    else if k == 10500 then 127  -- DAT.F $, <
+    else first_of_modes + k / 256
+    -- end of keys from 96
+
+unfoldable pub class_from_64 : ℕ → ℕ
+class_from_64 k =
+    -- table of keys from 64
+    if k == 10254 then 64  -- MOV.I #, <
+    else if k == 14350 then 65  -- MOV.I #, >
+    else if k == 9230 then 66  -- MOV.I {, {
+    else if k == 15374 then 67  -- MOV.I {, >
+    else if k == 13070 then 68  -- MOV.I @, }
+    else if k == 12302 then 69  -- MOV.I #, }
+    else if k == 9998 then 70  -- MOV.I >, {
+    else if k == 13582 then 71  -- MOV.I <, }
+    else if k == 12814 then 72  -- MOV.I *, }
+    else if k == 8206 then 73  -- MOV.I #, {
+    else if k == 7950 then 74  -- MOV.I >, @
+    else if k == 13326 then 75  -- MOV.I {, }
+    else if k == 15118 then 76  -- MOV.I @, >
+    else if k == 12046 then 77  -- MOV.I >, <
+    else if k == 11790 then 78  -- MOV.I }, <
+    else if k == 3598 then 79  -- MOV.I }, $
+    else if k == 13838 then 80  -- MOV.I }, }
+    else if k == 9742 then 81  -- MOV.I }, {
+    else if k == 16142 then 82  -- MOV.I >, >
+    else if k == 15630 then 83  -- MOV.I <, >
+    else if k == 2830 then 84  -- MOV.I @, $
+    else if k == 2574 then 85  -- MOV.I *, $
+    else if k == 14649 then 86  -- JMP.B $, >
+    else if k == 12601 then 87  -- JMP.B $, }
+    else if k == 10297 then 88  -- JMP.B #, <
+    else if k == 8249 then 89  -- JMP.B #, {
+    else if k == 2105 then 90  -- JMP.B #, $
+    else if k == 2388 then 91  -- DJN.F $, $
+    else if k == 6484 then 92  -- DJN.F $, @
+    else if k == 10321 then 93  -- DJN.B #, <
+    else if k == 8529 then 94  -- DJN.B $, {
+    else if k == 12625 then 95  -- DJN.B $, }
+    else class_from_96 k
+    -- end of keys from 64
+
+unfoldable pub class_from_32 : ℕ → ℕ
+class_from_32 k =
+    -- table of keys from 32
+    if k == 2385 then 32  -- DJN.B $, $
+    else if k == 11022 then 33  -- MOV.I @, <
+    else if k == 11524 then 34  -- DAT.F <, <
+    else if k == 15217 then 35  -- SPL.B @, >
+    else if k == 10577 then 36  -- DJN.B $, <
+    else if k == 2377 then 37  -- JMN.B $, $
+    else if k == 3844 then 38  -- DAT.F >, $
+    else if k == 4 then 39  -- DAT.F #, #
+    else if k == 10353 then 40  -- SPL.B #, <
     else if k == 8305 then 41  -- SPL.B #, {
     else if k == 12401 then 42  -- SPL.B #, }
     else if k == 113 then 43  -- SPL.B #, #
@@ -57,13 +144,12 @@ further_class_of_key k =
     else if k == 6758 then 61  -- SNE.I *, @
     else if k == 6757 then 62  -- SNE.X *, @
     else if k == 3332 then 63  -- DAT.F <, $
-    else first_of_modes + k / 256
-    -- end of further keys
+    else class_from_64 k
+    -- end of keys from 32
 
--- The class of each key: 40 here, the others in `further_class_of_key`.
 unfoldable pub class_of_key : ℕ → ℕ
 class_of_key k =
-    -- table of keys
+    -- table of keys from 0
     if k == 2318 then 0  -- MOV.I $, $
     else if k == 2361 then 1  -- JMP.B $, $
     else if k == 6414 then 2  -- MOV.I $, @
@@ -96,16 +182,8 @@ class_of_key k =
     else if k == 10609 then 29  -- SPL.B $, <
     else if k == 2416 then 30  -- SPL.A $, $
     else if k == 2062 then 31  -- MOV.I #, $
-    else if k == 2385 then 32  -- DJN.B $, $
-    else if k == 11022 then 33  -- MOV.I @, <
-    else if k == 11524 then 34  -- DAT.F <, <
-    else if k == 15217 then 35  -- SPL.B @, >
-    else if k == 10577 then 36  -- DJN.B $, <
-    else if k == 2377 then 37  -- JMN.B $, $
-    else if k == 3844 then 38  -- DAT.F >, $
-    else if k == 4 then 39  -- DAT.F #, #
-    else further_class_of_key k
-    -- end of keys
+    else class_from_32 k
+    -- end of keys from 0
 
 abbrev pub class_of : Instruction → ℕ
 class_of i = class_of_key (key_of i)

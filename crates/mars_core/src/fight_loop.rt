@@ -1,5 +1,5 @@
 //! The loop of a fight: the sides take turns until one of them has no task.
-ghost use Rattle.std.specs.Prelude.{◌≡◌, ◌+◌, ◌*◌, ◌≤◌, length};
+ghost use Rattle.std.specs.Prelude.{◌≡◌, ◌<◌, ◌+◌, ◌*◌, ◌≤◌, length};
 ghost use Rattle.mars_core.specs.Played.{CanPlay, IsPlayed};
 ghost use Rattle.mars_core.specs.Queue.{stretch};
 
@@ -11,14 +11,12 @@ use crate::turn::next_turn;
 // Alternates turns, `mine` first, until a queue is empty or `cycles` are over. Returns the cells,
 // both queues and the number of turns.
 //
-// Owns the cells and the queues while it runs, so that the compiler keeps their fields in
-// registers: it has to assume that a write to a cell changes what is behind a reference. Too large
-// to be inlined.
-#[inline(never)]
+// The loop is a function of its own: beside a return before the loop, the compiler would take its
+// body to be rare, and leave calls in it.
 pub(crate) fn take_turns<C: Store>(
-    mut cells: C,
-    mut mine: C::Queue,
-    mut theirs: C::Queue,
+    cells: C,
+    mine: C::Queue,
+    theirs: C::Queue,
     size: u32,
     cycles: u32,
 ) -> (C, C::Queue, C::Queue, u32)
@@ -30,6 +28,29 @@ pub(crate) fn take_turns<C: Store>(
     if mine.is_empty() || theirs.is_empty() {
         return (cells, mine, theirs, 0);
     }
+    alternate_turns(cells, mine, theirs, size, cycles)
+}
+
+// Does what `take_turns` does, for two queues that are not empty.
+//
+// Owns the cells and the queues while it runs, so that the compiler keeps their fields in
+// registers: it has to assume that a write to a cell changes what is behind a reference. Too large
+// to be inlined.
+#[inline(never)]
+fn alternate_turns<C: Store>(
+    mut cells: C,
+    mut mine: C::Queue,
+    mut theirs: C::Queue,
+    size: u32,
+    cycles: u32,
+) -> (C, C::Queue, C::Queue, u32)
+    requires can_play { CanPlay size (C.items cells) (C.Queue.held mine) (C.Queue.held theirs) cycles }
+    requires few { cycles ≤ stretch }
+    requires mine { 0 < length (C.Queue.held mine).items }
+    requires theirs { 0 < length (C.Queue.held theirs).items }
+    ensures played { IsPlayed size (C.items cells) (C.Queue.held mine) (C.Queue.held theirs) cycles result.3 (C.items result.0) (C.Queue.held result.1) (C.Queue.held result.2) }
+    ensures marks { C.marks result.0 ≤ C.marks cells + 3 * result.3 }
+{
     mine.make_room();
     theirs.make_room();
     let mut my_task = mine.first();

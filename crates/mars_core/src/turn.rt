@@ -1,7 +1,7 @@
 //! One turn of a side: its first task executes an instruction, and queues what follows.
 ghost use Rattle.std.specs.Prelude.{◌≡◌, ◌<◌, ◌≤◌, ◌+◌, Some, length, slice_get};
 ghost use Rattle.mars_core.specs.Queue.{queue_with, queue_after, without_first};
-ghost use Rattle.mars_core.specs.Classes.{first_of_modes, IsClassOf};
+ghost use Rattle.mars_core.specs.Classes.{first_of_further, first_of_modes, IsClassOf};
 ghost use Rattle.mars_core.specs.Core.{IsCore, AreTasks};
 ghost use Rattle.mars_core.specs.State.{core_after};
 ghost use Rattle.mars_core.specs.Seen.{addresses};
@@ -10,7 +10,7 @@ ghost use Rattle.mars_core.specs.Executed.{IsFetched, IsExecuted};
 use crate::arm::arm;
 use crate::cell::Cell;
 use crate::cells::{Store, read};
-use crate::classes::FIRST_OF_MODES;
+use crate::classes::{FIRST_OF_FURTHER, FIRST_OF_MODES};
 use crate::effect::Queued;
 use crate::general::execute_by_modes;
 use crate::number::sum;
@@ -75,8 +75,8 @@ pub(crate) fn next_turn<C: Store, const PLACE: u64>(
 
 // Executes the instruction at `pc`, which is `cell`, by its class (1994 draft).
 //
-// Classes of modes are tested for first: as the last arm of the match they would count as rare, and
-// the compiler would inline nothing below that arm.
+// Tests come before each match: as the last arm of a match the others would count as rare, and the
+// compiler would inline nothing below that arm.
 #[inline(always)]
 fn execute<C: Store, const PLACE: u64>(
     cells: &mut C,
@@ -90,14 +90,17 @@ fn execute<C: Store, const PLACE: u64>(
     ensures executed { IsExecuted size (C.items cells.old) pc (C.items cells.new) result.jump result.queued }
     ensures marks { C.marks cells.new ≤ C.marks cells.old + 3 }
 {
-    if class >= FIRST_OF_MODES {
-        return execute_by_modes::<C, PLACE>(cells, size, pc, cell, class);
+    if class < FIRST_OF_FURTHER {
+        return execute_by_class(cells, size, pc, cell, class);
     }
-    execute_by_class(cells, size, pc, cell, class)
+    if class < FIRST_OF_MODES {
+        return execute_further::<C, PLACE>(cells, size, pc, cell, class);
+    }
+    execute_by_modes::<C, PLACE>(cells, size, pc, cell, class)
 }
 
-// Executes the instruction at `pc`, which is `cell`, if it is one of the frequent ones. Each has an
-// arm, in which the numbers of its opcode, modifier and modes are constants.
+// Executes the instruction at `pc`, which is `cell`, if it is one of the most frequent ones. Each has
+// an arm, in which the numbers of its opcode, modifier and modes are constants.
 #[inline(always)]
 fn execute_by_class<C: Store>(
     cells: &mut C,
@@ -108,7 +111,7 @@ fn execute_by_class<C: Store>(
 ) -> Executed
     requires fetched { IsFetched size (C.items cells.old) pc (C.Kept.held cell) }
     requires class { IsClassOf (C.Kept.held cell) class }
-    requires frequent { class < first_of_modes }
+    requires frequent { class < first_of_further }
     ensures executed { IsExecuted size (C.items cells.old) pc (C.items cells.new) result.jump result.queued }
     ensures marks { C.marks cells.new ≤ C.marks cells.old + 3 }
 {
@@ -179,6 +182,93 @@ fn execute_by_class<C: Store>(
         62 => arm::<C, 12, 5, 2, 3>(cells, size, pc, cell), // SNE.X *, @
         _ => arm::<C, 0, 4, 5, 1>(cells, size, pc, cell), // DAT.F <, $
         // end of classes
+    }
+}
+
+// Does what `execute_by_class` does for the further frequent instructions: the compiler inlines a
+// match of 64 such arms, not of more.
+#[inline]
+fn execute_further<C: Store, const PLACE: u64>(
+    cells: &mut C,
+    size: u32,
+    pc: u32,
+    cell: C::Kept,
+    class: u64,
+) -> Executed
+    requires fetched { IsFetched size (C.items cells.old) pc (C.Kept.held cell) }
+    requires class { IsClassOf (C.Kept.held cell) class }
+    requires further { first_of_further ≤ class }
+    requires frequent { class < first_of_modes }
+    ensures executed { IsExecuted size (C.items cells.old) pc (C.items cells.new) result.jump result.queued }
+    ensures marks { C.marks cells.new ≤ C.marks cells.old + 3 }
+{
+    match class {
+        // table of further classes
+        64 => arm::<C, 1, 6, 0, 5>(cells, size, pc, cell), // MOV.I #, <
+        65 => arm::<C, 1, 6, 0, 7>(cells, size, pc, cell), // MOV.I #, >
+        66 => arm::<C, 1, 6, 4, 4>(cells, size, pc, cell), // MOV.I {, {
+        67 => arm::<C, 1, 6, 4, 7>(cells, size, pc, cell), // MOV.I {, >
+        68 => arm::<C, 1, 6, 3, 6>(cells, size, pc, cell), // MOV.I @, }
+        69 => arm::<C, 1, 6, 0, 6>(cells, size, pc, cell), // MOV.I #, }
+        70 => arm::<C, 1, 6, 7, 4>(cells, size, pc, cell), // MOV.I >, {
+        71 => arm::<C, 1, 6, 5, 6>(cells, size, pc, cell), // MOV.I <, }
+        72 => arm::<C, 1, 6, 2, 6>(cells, size, pc, cell), // MOV.I *, }
+        73 => arm::<C, 1, 6, 0, 4>(cells, size, pc, cell), // MOV.I #, {
+        74 => arm::<C, 1, 6, 7, 3>(cells, size, pc, cell), // MOV.I >, @
+        75 => arm::<C, 1, 6, 4, 6>(cells, size, pc, cell), // MOV.I {, }
+        76 => arm::<C, 1, 6, 3, 7>(cells, size, pc, cell), // MOV.I @, >
+        77 => arm::<C, 1, 6, 7, 5>(cells, size, pc, cell), // MOV.I >, <
+        78 => arm::<C, 1, 6, 6, 5>(cells, size, pc, cell), // MOV.I }, <
+        79 => arm::<C, 1, 6, 6, 1>(cells, size, pc, cell), // MOV.I }, $
+        80 => arm::<C, 1, 6, 6, 6>(cells, size, pc, cell), // MOV.I }, }
+        81 => arm::<C, 1, 6, 6, 4>(cells, size, pc, cell), // MOV.I }, {
+        82 => arm::<C, 1, 6, 7, 7>(cells, size, pc, cell), // MOV.I >, >
+        83 => arm::<C, 1, 6, 5, 7>(cells, size, pc, cell), // MOV.I <, >
+        84 => arm::<C, 1, 6, 3, 1>(cells, size, pc, cell), // MOV.I @, $
+        85 => arm::<C, 1, 6, 2, 1>(cells, size, pc, cell), // MOV.I *, $
+        86 => arm::<C, 7, 1, 1, 7>(cells, size, pc, cell), // JMP.B $, >
+        87 => arm::<C, 7, 1, 1, 6>(cells, size, pc, cell), // JMP.B $, }
+        88 => arm::<C, 7, 1, 0, 5>(cells, size, pc, cell), // JMP.B #, <
+        89 => arm::<C, 7, 1, 0, 4>(cells, size, pc, cell), // JMP.B #, {
+        90 => arm::<C, 7, 1, 0, 1>(cells, size, pc, cell), // JMP.B #, $
+        91 => arm::<C, 10, 4, 1, 1>(cells, size, pc, cell), // DJN.F $, $
+        92 => arm::<C, 10, 4, 1, 3>(cells, size, pc, cell), // DJN.F $, @
+        93 => arm::<C, 10, 1, 0, 5>(cells, size, pc, cell), // DJN.B #, <
+        94 => arm::<C, 10, 1, 1, 4>(cells, size, pc, cell), // DJN.B $, {
+        95 => arm::<C, 10, 1, 1, 6>(cells, size, pc, cell), // DJN.B $, }
+        96 => arm::<C, 10, 1, 1, 7>(cells, size, pc, cell), // DJN.B $, >
+        97 => arm::<C, 10, 1, 1, 3>(cells, size, pc, cell), // DJN.B $, @
+        98 => arm::<C, 10, 6, 1, 4>(cells, size, pc, cell), // DJN.I $, {
+        99 => arm::<C, 10, 6, 1, 6>(cells, size, pc, cell), // DJN.I $, }
+        100 => arm::<C, 10, 6, 1, 7>(cells, size, pc, cell), // DJN.I $, >
+        101 => arm::<C, 8, 4, 1, 2>(cells, size, pc, cell), // JMZ.F $, *
+        102 => arm::<C, 8, 4, 1, 3>(cells, size, pc, cell), // JMZ.F $, @
+        103 => arm::<C, 8, 4, 1, 7>(cells, size, pc, cell), // JMZ.F $, >
+        104 => arm::<C, 8, 1, 1, 4>(cells, size, pc, cell), // JMZ.B $, {
+        105 => arm::<C, 8, 1, 1, 5>(cells, size, pc, cell), // JMZ.B $, <
+        106 => arm::<C, 8, 1, 1, 2>(cells, size, pc, cell), // JMZ.B $, *
+        107 => arm::<C, 9, 1, 1, 2>(cells, size, pc, cell), // JMN.B $, *
+        108 => arm::<C, 9, 1, 1, 3>(cells, size, pc, cell), // JMN.B $, @
+        109 => arm::<C, 14, 1, 1, 4>(cells, size, pc, cell), // SPL.B $, {
+        110 => arm::<C, 14, 1, 1, 7>(cells, size, pc, cell), // SPL.B $, >
+        111 => arm::<C, 14, 1, 1, 6>(cells, size, pc, cell), // SPL.B $, }
+        112 => arm::<C, 14, 1, 0, 2>(cells, size, pc, cell), // SPL.B #, *
+        113 => arm::<C, 14, 1, 2, 1>(cells, size, pc, cell), // SPL.B *, $
+        114 => arm::<C, 14, 1, 2, 4>(cells, size, pc, cell), // SPL.B *, {
+        115 => arm::<C, 14, 5, 1, 5>(cells, size, pc, cell), // SPL.X $, <
+        116 => arm::<C, 2, 0, 0, 1>(cells, size, pc, cell), // ADD.A #, $
+        117 => arm::<C, 3, 0, 0, 1>(cells, size, pc, cell), // SUB.A #, $
+        118 => arm::<C, 2, 4, 0, 1>(cells, size, pc, cell), // ADD.F #, $
+        119 => arm::<C, 6, 0, 0, 1>(cells, size, pc, cell), // MOD.A #, $
+        120 => arm::<C, 3, 1, 1, 1>(cells, size, pc, cell), // SUB.B $, $
+        121 => arm::<C, 2, 5, 1, 1>(cells, size, pc, cell), // ADD.X $, $
+        122 => arm::<C, 3, 5, 1, 1>(cells, size, pc, cell), // SUB.X $, $
+        123 => arm::<C, 13, 2, 0, 1>(cells, size, pc, cell), // SLT.AB #, $
+        124 => arm::<C, 13, 0, 0, 1>(cells, size, pc, cell), // SLT.A #, $
+        125 => arm::<C, 11, 5, 1, 1>(cells, size, pc, cell), // SEQ.X $, $
+        126 => arm::<C, 12, 5, 1, 1>(cells, size, pc, cell), // SNE.X $, $
+        _ => arm::<C, 0, 4, 1, 5>(cells, size, pc, cell), // DAT.F $, <
+        // end of further classes
     }
 }
 

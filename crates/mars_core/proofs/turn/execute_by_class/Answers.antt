@@ -192,8 +192,7 @@ arm-requires-in-61-clause-coded g c = coded _ _ 61 12 6 2 3 c.requires.class c.i
 pub arm-requires-in-62-clause-coded : goal.arm-requires-in-62-clause-coded
 arm-requires-in-62-clause-coded g c = coded _ _ 62 12 5 2 3 c.requires.class c.in-62.is (omega arith) refl (omega arith) (omega arith) (omega arith) (omega arith)
 
--- end of classes
-
 pub arm-requires-in_default-clause-coded : goal.arm-requires-in_default-clause-coded
-arm-requires-in_default-clause-coded g c =
-    coded _ _ 63 0 4 5 1 c.requires.class (omega (arith, c.in_default, c.requires.frequent)) (omega arith) refl (omega arith) (omega arith) (omega arith) (omega arith)
+arm-requires-in_default-clause-coded g c = coded _ _ 63 0 4 5 1 c.requires.class (omega (arith, c.in_default, c.requires.frequent)) (omega arith) refl (omega arith) (omega arith) (omega arith) (omega arith)
+
+-- end of classes

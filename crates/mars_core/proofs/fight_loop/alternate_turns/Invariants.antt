@@ -5,7 +5,7 @@ use Rattle.mars_core.specs.Queue.{stretch}
 use Rattle.mars_core.specs.State.{seen_from}
 use Rattle.mars_core.specs.declared.side.Side.{Side}
 use Rattle.mars_core.proofs.Going.{IsGoing}
-use Rattle.mars_core.proofs.fight_loop.take_turns.Given as goal
+use Rattle.mars_core.proofs.fight_loop.alternate_turns.Given as goal
 
 -- whole cycles were made, and both sides have tasks
 abbrev pub invariant-loop-cycle : goal.invariant-loop-cycle
