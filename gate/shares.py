@@ -5,7 +5,7 @@ setting and total, and their rejections, put together, have to give its line. Ea
 done to each row of the certificates of templates of at most six settings.
 """
 from author.lib.endings import run_tool
-from author.lib.spread_shares import is_verdict, verdict_of
+from author.lib.spread.shares import is_verdict, verdict_of
 from author.lib.words import program_word
 
 from . import inputs

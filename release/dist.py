@@ -45,10 +45,10 @@ Description: tunes Core War warriors, with a certificate of the answer
  writes a certificate that a separate checker accepts exactly if the answer is right.
  {proof}
 """
-# Python leaves this beside the commands' modules. dpkg does not know of it, so a package removes it
-# itself.
-CACHE = SHARE / "author/lib/__pycache__"
-DEBIAN_PRERM = f"#!/bin/sh\nrm -rf /usr/{CACHE}\n"
+# Python leaves these beside the commands' modules. dpkg does not know of them, so a package removes
+# them itself.
+CACHES = [SHARE / "author/lib" / folder / "__pycache__" for folder in ["", "spread", "study"]]
+DEBIAN_PRERM = f"#!/bin/sh\nrm -rf {' '.join(f'/usr/{cache}' for cache in CACHES)}\n"
 
 
 class Build(NamedTuple):
@@ -246,7 +246,8 @@ def uninstall(prefix):
         placed = (prefix / INSTALLED).read_text().splitlines()
     except FileNotFoundError:
         raise Fault(f"cwtune is not installed below {prefix}") from None
-    shutil.rmtree(prefix / CACHE, ignore_errors=True)
+    for cache in CACHES:
+        shutil.rmtree(prefix / cache, ignore_errors=True)
     for path in reversed(placed):
         (prefix / path).unlink(missing_ok=True)
     folders = {folder for path in placed for folder in pathlib.Path(path).parents

@@ -1,4 +1,4 @@
-"""Holds the commands for authors: a module for each, and the modules that they share.
+"""Holds the commands for authors: a module or a package for each, and what they share.
 
 The modules of commands are adapt, files, holdout, landscape, scores, seek, series, spread, study,
 vary and warrior. Several commands use
@@ -19,25 +19,25 @@ vary and warrior. Several commands use
 - series, holdout, landscape and vary: commands of which `cwtune-study` imports functions;
 - adapt: texts of pMARS as `cwtune` reads them.
 
-To adapt a text, pmars_tokens, pmars_values, pmars_text and pmars_code read it as pMARS does and make
-its load file. adapt_changes collects meanwhile what has to be written otherwise, expressions by
-adapt_values and CURLINE by adapt_counts. adapt_passes writes it, in lines that know where they come
-from (traced), and pmars_program runs pMARS itself.
+To adapt a text, pmars_tokens, pmars_values, pmars_text and pmars_code read it as pMARS does and
+make its load file. Meanwhile adapt_changes collects what has to be written otherwise, CURLINE by
+adapt_counts. adapt_passes writes it, in lines that know where they come from (traced), and
+pmars_program runs pMARS itself.
 
 The words of `cwtune-vary` are read in openings.
 
-A spread has its options in spread_words. spread_parts and spread_shares say what its jobs are, in a
-folder as spread_folder makes it. spread_jobs runs them here, and spread_hosts, with spread_job.sh,
-on other hosts; spread_progress shows how far they are, and spread_report puts parts together.
+A spread has its options in spread/words. spread/parts and shares say what its jobs are, in a folder
+as spread/folder makes it. spread/jobs runs them here, and spread/hosts, with job.sh, on other
+hosts; progress shows how far they are, and report puts parts together.
 
 A race is in race. race_settings makes its new settings, race_model guesses what they make,
 race_fights plays its fights and keeps its budget, race_hosts, with race_job.sh, has hosts play what
 it is about to play, and race_journal keeps what was played in a file.
 
-A study reads its inputs in study_inputs, and keeps its stages in study_folder. study_race has the
-stages of a template that is too large to be tuned whole; of others study_fresh plays the heats.
-study_result collects the numbers of report.json, and study_report makes the page of these, with the
-pictures of study_charts and study_map, the pieces of study_page and the style sheet of study_style.
+A study reads its inputs in study/inputs, and keeps its stages in study/folder. study/race has the
+stages of a template that is too large to be tuned whole; of others study/fresh plays the heats.
+study/result collects the numbers of report.json, and study/report makes the page of these, with the
+pictures of charts and maps, the pieces of page and the style sheet of style.
 
 Where nothing else is said, a name means this:
 

@@ -7,9 +7,9 @@ import collections, re
 from typing import NamedTuple
 
 from .adapt_counts import Curline
-from .adapt_values import can_stay, extents_of, has_large_number, is_large, is_other_here
 from .pmars_tokens import OPCODES, P_SPACE_OPCODES, comment_sign, tokens_of
-from .pmars_values import Registers, written
+from .pmars_values import (Registers, can_stay, extents_of, has_large_number, is_large,
+                           is_other_here, written)
 from .traced import Traced, joined
 
 DEEPEST_BLOCK = 8

@@ -7,7 +7,7 @@ A reader believes it only if the certificate has the digest that it names.
 import dataclasses, os, re
 from typing import Annotated
 
-from .endings import Fault, say
+from .endings import Fault, note
 from .program import HILLS, Rules, fill_rules
 from .regular import NotRegular, digest_of, read_regular
 from .schema import checked
@@ -116,7 +116,7 @@ def settle(args):
 def print_note(why_unused):
     """Notes on standard error that nothing was compared, and why, if `settle` returned that."""
     if why_unused:
-        say("note", f"{why_unused}, so files and rules cannot be compared with the tuning's", 0)
+        note(f"{why_unused}, so files and rules cannot be compared with the tuning's")
 
 
 def refuse_other_tuning(args, cert, part, method):

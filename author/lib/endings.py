@@ -85,9 +85,13 @@ def quoted(word):
 def run_tool(main):
     """Runs a command, and ends it with a line and a status after a fault.
 
-    A closed pipe and Ctrl-C end it by their signals and without a word, as they end `cat`.
+    A closed pipe and Ctrl-C end it by their signals and without a word, as they end `cat`. What
+    `kill` and a terminal that is closed send ends it as Ctrl-C does, unless `nohup` or another
+    parent has it ignored.
     """
-    end_by_kill_as_by_interrupt()
+    for signal_number in (signal.SIGINT, signal.SIGTERM, signal.SIGHUP):
+        if signal.getsignal(signal_number) != signal.SIG_IGN:
+            signal.signal(signal_number, signal.default_int_handler)
     sys.unraisablehook = interrupt_again
     try:
         status = main()
@@ -134,6 +138,16 @@ def say(word, message, status):
     return status
 
 
+def note(text):
+    """Writes a note on standard error."""
+    say("note", text, 0)
+
+
+def tell(line):
+    """Writes a line on standard error."""
+    print(line, file=sys.stderr, flush=True)
+
+
 def status_of(returncode):
     """Returns the status of a command whose `cwtune` has no result: its `returncode` if that is 1
     or 2, else 3, since it then was killed, or ended with 0 where it had to refuse something."""
@@ -168,14 +182,6 @@ def fault_of(completed):
 def end_by(signal_number):
     signal.signal(signal_number, signal.SIG_DFL)
     os.kill(os.getpid(), signal_number)
-
-
-def end_by_kill_as_by_interrupt():
-    """Has Ctrl-C raise a KeyboardInterrupt, and so what `kill` and a terminal that is closed send,
-    unless `nohup` or another parent has it ignored."""
-    for signal_number in (signal.SIGINT, signal.SIGTERM, signal.SIGHUP):
-        if signal.getsignal(signal_number) != signal.SIG_IGN:
-            signal.signal(signal_number, signal.default_int_handler)
 
 
 def interrupt_again(unraisable):

@@ -21,8 +21,8 @@ from .endings import Fault, escaped, fault_of
 from .mean_error import error_of_mean
 from .program import EXPLAIN, rules_of, run_program
 from .series import refuse_distance, refuse_fights
-from .words import (add_files, add_json, add_opponents_of_tuning, add_program, add_rules,
-                    command_parser, counted, number_from, print_json)
+from .words import (FILE_HELP, add_cwtune, add_files, add_json, command_parser, counted,
+                    number_from, print_json)
 from .writing import temporary_folder
 
 
@@ -131,22 +131,18 @@ def gain_of(points, weights):
     return first.minus(second) if first.by_opponent else None
 
 
-def is_gain(difference):
-    """Returns whether differences of points are a gain: by more than two standard errors."""
-    return difference.mean() > 2 * difference.error()
-
-
-def gain_words(difference):
-    """Returns words that say whether differences of points are a gain."""
-    if abs(difference.mean()) > 2 * difference.error():
-        return "a gain" if difference.mean() > 0 else "a loss"
-    return "no difference that these fights show"
-
-
 def gain_numbers(difference):
-    """Returns a gain in percentage points with its error, and what it is in words."""
-    return {"percent": difference.mean(), "error": difference.error(),
-            "words": gain_words(difference)}
+    """Returns a gain in percentage points with its error, and what it is in words: a gain or a loss
+    is more than two standard errors."""
+    percent, error = difference.mean(), difference.error()
+    words = ("no difference that these fights show" if abs(percent) <= 2 * error
+             else "a gain" if percent > 0 else "a loss")
+    return {"percent": percent, "error": error, "words": words}
+
+
+def gain_text(gain):
+    """Returns the text of a gain, given its numbers."""
+    return f"{gain['percent']:+.1f}% +- {gain['error']:.1f}, {gain['words']}"
 
 
 class Holdout:
@@ -218,8 +214,7 @@ class Holdout:
             print(f"START, setting {start}: does not assemble")
         if points:
             gain = self.fresh_points(self.cert.best).minus(points)
-            print(f"over {other}, setting {self.cert.best}: {gain.mean():+.1f}% +- "
-                  f"{gain.error():.1f}, {gain_words(gain)}")
+            print(f"over {other}, setting {self.cert.best}: {gain_text(gain_numbers(gain))}")
 
     def print_dropped(self):
         """Prints how far the ranking is exact, if settings were dropped."""
@@ -255,10 +250,10 @@ def make_parser():
     parser.add_argument("--against", metavar="FILE",
                         help="compare with the warrior of this Redcode text, and not with START")
     add_json(parser)
-    add_program(parser)
-    add_rules(parser, of_tuning=True)
+    add_cwtune(parser, of_tuning=True)
     add_files(parser, "template", "cert")
-    add_opponents_of_tuning(parser)
+    parser.add_argument("opponents", metavar="OPPONENT", nargs="*", default=[],
+                        help=FILE_HELP["opponent"] + " [default: those of the tuning]")
     return parser
 
 

@@ -3,9 +3,9 @@
 Of one constant it is a line, of two a map of colours, of more a map for each choice of the others.
 The best setting is a star, and START a ring. A setting that does not assemble is left white. One
 that was dropped is grey: in a map a square, lighter if its total can be greater, on a line a
-triangle, as high as its total can be at most. A second picture shows for each constant the mean total of each of its values, with its standard
-error, to one scale; it needs every total, so a certificate of `cwtune tune --all`. Needs matplotlib
-(Debian: python3-matplotlib).
+triangle, as high as its total can be at most. A second picture shows for each constant the mean
+total of each of its values, with its standard error, to one scale; it needs every total, so a
+certificate of `cwtune tune --all`. Needs matplotlib (Debian: python3-matplotlib).
 
 Example: cwtune-landscape my.red my.cert totals.png --effects effects.png
 """
@@ -38,8 +38,8 @@ def load_pyplot():
             matplotlib.use("Agg")
             import matplotlib.pyplot
     except ModuleNotFoundError:
-        raise Fault("no matplotlib for this Python; on Debian: apt-get install "
-                    f"python3-matplotlib, then /usr/bin/python3 {quoted(sys.argv[0])} ..", 3) from None
+        raise Fault("no matplotlib for this Python; on Debian: apt-get install python3-matplotlib, "
+                    f"then /usr/bin/python3 {quoted(sys.argv[0])} ..", 3) from None
     except ImportError as error:
         raise Fault(f"matplotlib cannot be loaded: {error}", 3) from None
     matplotlib.rcParams.update({"svg.hashsalt": "cwtune", "svg.fonttype": "none",
@@ -101,9 +101,9 @@ def draw_line(plot, totals):
     axes.scatter([values[best]], [totals.totals[best]], marker="*", s=220, color="C3",
                  label=f"best: {template.constants(best)}", zorder=3)
     start = template.start
-    axes.scatter([values[start]], [greater(totals.totals[start], totals.caps[start])], marker="o",
-                 s=120, facecolors="none", edgecolors="black", zorder=4,
-                 label=f"START: {template.constants(start)}")
+    height = totals.caps[start] if math.isnan(totals.totals[start]) else totals.totals[start]
+    axes.scatter([values[start]], [height], marker="o", s=120, facecolors="none",
+                 edgecolors="black", zorder=4, label=f"START: {template.constants(start)}")
     label_values(axes, template, 0)
     axes.set_ylabel("points")
     axes.locator_params(axis="y", integer=True)
@@ -120,11 +120,6 @@ def label_values(axes, template, constant):
         axes.set_xticks(list(values), [template.shown_value(name, value) for value in values])
 
 
-def greater(total, cap):
-    """Returns which of a total and a cap is a number; NaN if none is."""
-    return cap if math.isnan(total) else total
-
-
 def maps_of(totals, x, y, others):
     """Returns the totals and the caps as arrays: for each choice of the constants `others` a map
     over the constants y and x."""
@@ -139,12 +134,6 @@ def label_ticks(set_ticks, values, most):
     """Labels an axis with at most `most` of its values."""
     indices = range(0, len(values), -(-len(values) // most))
     set_ticks(list(indices), [str(values[index]) for index in indices])
-
-
-def most_across(values, columns):
-    """Returns how many values have room from left to right in one of `columns` maps."""
-    longest = max(len(str(value)) for value in values)
-    return max(1, min(8, int(inches_across(columns) * 72 * 0.7 // (7 * longest + 8))))
 
 
 def inches_across(columns):
@@ -178,12 +167,15 @@ def draw_maps(plot, totals, x, y):
     greys, settings = totals.greys(), totals.template.values_of_settings
     marked = [(settings[totals.template.start], START_MARK), (settings[totals.best], BEST_MARK)]
     choices = itertools.product(*(ranges[constant] for constant in others))
+    # How many values have room from left to right.
+    longest = max(len(str(value)) for value in shown[x])
+    most_across = max(1, min(8, int(inches_across(grid.shape[1]) * 72 * 0.7 // (7 * longest + 8))))
     for axes, choice, total_map, cap_map in zip(axes_of_maps, choices, total_maps, cap_maps):
         if greys:
             axes.imshow(cap_map, **greys, **MAP_SCALE)
         image = axes.imshow(total_map, cmap="viridis", vmin=min(numbers), vmax=max(numbers),
                             **MAP_SCALE)
-        label_ticks(axes.set_xticks, shown[x], most_across(shown[x], grid.shape[1]))
+        label_ticks(axes.set_xticks, shown[x], most_across)
         label_ticks(axes.set_yticks, shown[y], 8)
         axes.set_title(" ".join(f"{names[constant]}="
                                 f"{totals.template.shown_value(names[constant], value)}"
@@ -271,17 +263,12 @@ def save(figure, title, path):
         figure.savefig(file, format=kind, dpi=110, metadata=date)
 
 
-def refuse_pictures(parser, pictures):
-    """Refuses a picture of another kind than PNG and SVG."""
-    for picture in pictures:
-        if picture[-4:] not in (".png", ".svg"):
-            parser.error(f"the picture's name has to end with .png or .svg: {picture}")
-
-
 def main():
     parser = make_parser()
     args = parser.parse_args()
-    refuse_pictures(parser, filter(None, [args.picture, args.effects]))
+    for picture in filter(None, [args.picture, args.effects]):
+        if picture[-4:] not in (".png", ".svg"):
+            parser.error(f"the picture's name has to end with .png or .svg: {picture}")
     template = tuning_files.Template(args.template)
     cert = tuning_files.Certificate(args.cert)
     why_unused = cert_inputs.settle(args)
@@ -295,9 +282,8 @@ def main():
              f"{fights.greatest}")
     if args.opponent is not None:
         title += f"\nthe fights against opponent {args.opponent}"
-    picture = (draw_line(plot, totals) if len(template.names) == 1
-               else draw_maps(plot, totals, *axes))
-    save(picture, title, args.picture)
+    save(draw_line(plot, totals) if len(template.names) == 1 else draw_maps(plot, totals, *axes),
+         title, args.picture)
     if args.effects:
         save(draw_effects(plot, totals), title, args.effects)
     cert_inputs.print_note(why_unused)

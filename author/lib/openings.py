@@ -90,14 +90,6 @@ def once(texts):
     return list(dict.fromkeys(texts))
 
 
-def range_through(number, values):
-    """Returns the values of a range, moved by less than a step so that the number is one of them,
-    and with those between it and the number."""
-    step = values.step
-    low, high = min(values.start, number), max(values.stop - 1, number)
-    return range(number - (number - low) // step * step, high + 1, step)
-
-
 def constant_of(spot, opening, text):
     """Returns the constant for a place, and a note if it has other values than were asked for, or
     an empty text. `text` is the warrior's."""
@@ -107,12 +99,15 @@ def constant_of(spot, opening, text):
     if abs(start) > MOST_VALUE:
         raise Fault(f"{spot.name} is {start}; values are -{MOST_VALUE} to {MOST_VALUE}")
     if isinstance(values, range):
-        values = range_through(start, values)
+        # Moved by less than a step so that the number is one of them, and reaching to it.
+        low, high, step = min(values.start, start), max(values.stop - 1, start), values.step
+        values = range(start - (start - low) // step * step, high + 1, step)
         note = (f"{spot.name} is {start}, so its values are {values[0]} to {values[-1]} by "
                 f"{values.step}" if values != opening.values else "")
         return Constant(number_name(spot, text), values, start, []), note
-    values = as_range(sorted({start, *map(int, values)}))
-    if values is None:
+    numbers = sorted({start, *map(int, values)})
+    values = range(numbers[0], numbers[-1] + 1, numbers[1] - numbers[0] if numbers[1:] else 1)
+    if list(values) != numbers:
         return constant_of_list(spot, f"{spot.name}.choice", list(opening.values), text)
     return Constant(number_name(spot, text), values, start, []), tried_too(spot, opening)
 
@@ -126,7 +121,8 @@ def constant_of_list(spot, name, texts, text):
         texts = [own, *texts]
     start = [SAME.get(word, word) for word in texts].index(own)
     dot = "." if spot.kind == "modifier" else ""
-    texts = [spelled if index == start else dot + (word.upper() if spot.is_upper() else word)
+    is_upper = spot.line.text[slice(*spot.line.fields.get("opcode", (0, 0)))].isupper()
+    texts = [spelled if index == start else dot + (word.upper() if is_upper else word)
              for index, word in enumerate(texts)]
     return Constant(free_name(name, text), range(len(texts)), start, texts), note
 
@@ -151,13 +147,6 @@ def number_name(spot, text):
     """Returns the name of the constant that is the number at a place: the name of an EQU line that
     is no more than a number, else a free one."""
     return spot.name if spot.field == "equ" and "." not in spot.name else free_name(spot.name, text)
-
-
-def as_range(numbers):
-    """Returns rising numbers as a range, or None if they are none."""
-    step = numbers[1] - numbers[0] if len(numbers) > 1 else 1
-    values = range(numbers[0], numbers[-1] + 1, step)
-    return values if list(values) == numbers else None
 
 
 def name_of(place):

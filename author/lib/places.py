@@ -12,6 +12,7 @@ from typing import NamedTuple
 
 from .endings import Fault, shown
 from .grid import NAME
+from .pmars_tokens import code_of
 from .traced import Place
 from .words import counted
 
@@ -80,22 +81,12 @@ class Line(NamedTuple):
 
     def is_own(self, span):
         """Returns whether characters are in the author's text, and in no other line that has places
-        itself, nor are the count of a block in a sum for CURLINE."""
-        origin = self.origin(span)
-        return origin and (origin.line == self.number or origin.line not in self.numbers
-                           and not self.is_in_sum(span))
-
-    def is_in_sum(self, span):
-        """Returns whether a number comes after a parenthesis that `cwtune-adapt` wrote into a
-        count."""
-        before = Span(span.start - 1, span.start)
-        return self.word == "for" and self.spelled(before) == "(" and not self.origin(before)
-
-    def spans_from(self, field, origin, length):
-        """Returns the spans of a field whose characters come from a place of the author's text."""
-        start, end = self.fields[field]
-        spans = [Span(at, at + length) for at in range(start, end - length + 1)]
-        return [span for span in spans if self.origin(span) == origin]
+        itself, nor are the count of a block in a sum for CURLINE: after a parenthesis that
+        `cwtune-adapt` wrote into a count."""
+        origin, before = self.origin(span), Span(span.start - 1, span.start)
+        is_in_sum = self.word == "for" and self.spelled(before) == "(" and not self.origin(before)
+        return origin and (origin.line == self.number
+                           or origin.line not in self.numbers and not is_in_sum)
 
 
 class Spot(NamedTuple):
@@ -111,10 +102,6 @@ class Spot(NamedTuple):
     def spelled(self):
         return self.line.spelled(self.span)
 
-    def is_upper(self):
-        """Returns whether the opcode of the line is in capital letters."""
-        return self.line.text[slice(*self.line.fields.get("opcode", (0, 0)))].isupper()
-
     def source(self):
         """Returns what kind of thing is there, where it is in the author's text, and its length."""
         return self.kind, self.line.origin(self.span), self.span.end - self.span.start
@@ -122,9 +109,10 @@ class Spot(NamedTuple):
     def twins(self, lines):
         """Returns all that the adapted text has of this place."""
         _, origin, length = self.source()
-        return [self._replace(line=line, field=field, span=span)
-                for line in lines for field in line.fields if kind_of(field) == self.kind
-                for span in line.spans_from(field, origin, length)]
+        return [self._replace(line=line, field=field, span=Span(at, at + length))
+                for line in lines for field, (start, end) in line.fields.items()
+                if kind_of(field) == self.kind for at in range(start, end - length + 1)
+                if line.origin(Span(at, at + length)) == origin]
 
     def overlaps(self, other):
         """Returns whether another place is the same one, or has some of its characters."""
@@ -144,11 +132,6 @@ def place_of(adapted, row, start, end):
     if before:
         return before._replace(column=before.column + 1)
     return adapted.span(row, start, max(end, start + 1))
-
-
-def code_of(line):
-    """Returns a line without its comment."""
-    return line.partition(";")[0]
 
 
 def assembled_lines(text):
@@ -235,7 +218,9 @@ def fields_of(code, head, word):
     if word == "rof" or word == "equ" and not names_in(head[1]):
         return {}
     if word not in OPCODES:
-        return {"equ" if word == "equ" else "a": stripped(code, rest)}
+        end = len(code.rstrip())
+        start = len(code) - len(code[rest:].lstrip())
+        return {"equ" if word == "equ" else "a": Span(start, max(start, end))}
     fields = {"opcode": Span(*head.span(2))}
     modifier = MODIFIER.match(code, rest)
     rest = modifier.end() if modifier else rest
@@ -257,18 +242,6 @@ def operands_of(code, rest):
         operands.append((Span(*match.span(1)), Span(*match.span(2))))
         rest += len(operand) + 1
     return operands
-
-
-def stripped(code, start):
-    """Returns the span from `start` on, without blanks round it."""
-    text = code[start:]
-    return Span(start + len(text) - len(text.lstrip()), max(start, start + len(text.rstrip())))
-
-
-def near_name(name, names):
-    """Returns a name that differs in case, else one that is spelled nearly alike, or None."""
-    alike = [other for other in names if other.lower() == name.lower()]
-    return next(iter(alike or difflib.get_close_matches(name, names, 1)), None)
 
 
 def spot_of(path, lines, place):
@@ -333,10 +306,11 @@ def line_of(path, lines, name, field):
         raise Fault(f"{path}: the EQU line {name} is opened where it is used, as "
                     f"{', '.join(spots)}")
     if not named:
-        near = near_name(name, [label for line in (instructions if field else equs)
-                                for label in line.labels])
+        labels = [label for line in (instructions if field else equs) for label in line.labels]
+        near = ([label for label in labels if label.lower() == name.lower()]
+                or difflib.get_close_matches(name, labels, 1))
         what = f"label `{name}`" if field else f"line `{name} EQU number`"
-        raise Fault(f"{path}: no {what}{f'; did you mean {near}?' if near else ''}")
+        raise Fault(f"{path}: no {what}{f'; did you mean {near[0]}?' if near else ''}")
     return named[0]
 
 

@@ -196,17 +196,13 @@ class Load:
             self.text.finder.end_over_org(self.org_codes)
 
     def add(self, instruction):
-        numbers = [self.near_zero(instruction.value(operand))
-                   for operand in (instruction.a, instruction.b)]
+        core = self.text.rules.core
+        values = [instruction.value(operand) % core for operand in (instruction.a, instruction.b)]
+        numbers = [value - core * (2 * value > core) for value in values]
         self.text.finder.instruction(instruction)
         opcode = "SEQ" if instruction.opcode == "CMP" else instruction.opcode
         self.lines.append(f"{opcode}.{instruction.modifier} {instruction.a.mode}{numbers[0]}, "
                           f"{instruction.b.mode}{numbers[1]}")
-
-    def near_zero(self, value):
-        """Returns a number as a load file has it."""
-        core = self.text.rules.core
-        return value % core - core * (2 * (value % core) > core)
 
     def bytes(self):
         return "".join(f"{line}\n" for line in [f"ORG {self.start}", *self.lines]).encode()

@@ -1,8 +1,10 @@
-"""Evaluates expressions as pMARS 0.9.2 does, and writes them so that `cwtune` reads them alike."""
+"""Evaluates expressions as pMARS 0.9.2 does, says which parts `cwtune` reads alike, and writes them
+so that it does.
+"""
 import random, re
 from typing import NamedTuple
 
-from .pmars_tokens import BLANKS, LETTERS
+from .pmars_tokens import BLANKS, LETTERS, tokens_of
 
 # How tightly an operator binds, in pMARS and here.
 THERE = {"*": 5, "/": 5, "%": 5, "+": 4, "-": 4, **dict.fromkeys([">", "<", "==", "!=", ">=", "<="],
@@ -197,13 +199,6 @@ class ParserHere(Parser):
         return left
 
 
-def number_at(text, node):
-    """Returns the number of a leaf, as `sscanf` of C reads it. pMARS has no room for more."""
-    if node.end - node.start > LONGEST_NUMBER:
-        raise AnyValue(f"a number of more than {LONGEST_NUMBER} digits")
-    return min(int(text[node.start:node.end]), (1 << 63) - 1)
-
-
 class Registers(dict):
     """The registers of pMARS, each 0 at first."""
 
@@ -212,8 +207,10 @@ class Registers(dict):
         return value_of(node, lambda leaf: self.leaf_value(text, leaf))
 
     def leaf_value(self, text, leaf):
-        if leaf.kind == "number":
-            return number_at(text, leaf)
+        if leaf.kind == "number":  # as `sscanf` of C reads it; pMARS has no room for more
+            if leaf.end - leaf.start > LONGEST_NUMBER:
+                raise AnyValue(f"a number of more than {LONGEST_NUMBER} digits")
+            return min(int(text[leaf.start:leaf.end]), (1 << 63) - 1)
         name = text[leaf.start].upper()
         if leaf.kind == "set":
             self[name] = self.value(text, leaf.parts[0])
@@ -261,3 +258,34 @@ def in_parentheses(node, least, leaf_text):
     text = written(node, leaf_text)
     tightness = HERE.get(node.kind, UNARY if node.kind == "unary" else OPERAND)
     return text if tightness >= least else f"({text})"
+
+
+def is_large(text):
+    return text.isdecimal() and int(text) > MOST_DECIMAL
+
+
+def has_large_number(text):
+    return any(is_large(token.text) for token in tokens_of(text))
+
+
+def can_stay(text):
+    """Returns whether an expression that is part of another one may stay as it is."""
+    return not is_other_here(text, ParserThere(text).whole(), {})
+
+
+def extents_of(chars):
+    """Returns for each root its first character, and the end of its last one, without blanks."""
+    extents = {}
+    for at, (char, root) in enumerate(zip(chars.text, chars.roots)):
+        if char != " " and root:
+            extents[root] = (extents.get(root, (at,))[0], at + 1)
+    return extents
+
+
+def is_other_here(text, node, extents):
+    """Returns whether `cwtune` refuses an expression, or gives it another value."""
+    leaves = leaves_of(node)
+    starts = {start for start, _ in extents.values()}
+    return (not is_read_alike(text, node)
+            or any(leaf.kind != "number" or is_large(text[leaf.start:leaf.end])
+                   or starts & set(range(leaf.start + 1, leaf.end)) for leaf in leaves))

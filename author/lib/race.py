@@ -18,7 +18,7 @@ from typing import NamedTuple
 
 from .endings import Fault
 from .race_model import PRIOR_BLOCKS, Model
-from .race_settings import anywhere, child, spread_evenly
+from .race_settings import child, spread_evenly
 
 # Which part of the budget is used when exploring, the rounds and the final end.
 EXPLORED, RACED, DECIDED = 0.33, 0.70, 0.88
@@ -195,7 +195,7 @@ class Race:
         reach = FAR * (NEAR / FAR) ** min(1, max(0, part))
         parents = [survivor.values for survivor in self.survivors]
         for index in range(NEW_SETTINGS):
-            tries = [anywhere(self.grid.ranges, self.dice) if index < FROM_ANYWHERE
+            tries = [tuple(map(self.dice.choice, self.grid.ranges)) if index < FROM_ANYWHERE
                      else child(parents, self.grid.ranges, reach, self.dice)
                      for _ in range(TRIES)]
             yield max(tries, key=self.model.guess)

@@ -5,14 +5,15 @@ side by side. What was played is a list of records, which a study keeps in a fil
 begun again with these takes the points from them, up to where it was stopped.
 """
 import argparse, concurrent.futures, operator, os, pathlib, random, resource, shutil
-import subprocess, sys, time
+import subprocess, time
 from typing import NamedTuple
 
-from .endings import Fault, fault_of
+from .endings import Fault, fault_of, tell
 from .program import NO_CANDIDATE, reading_output, rules_of
 from .race_hosts import Hosts, points_of
-from .spread_hosts import read_hosts, refuse_missing_tools
+from .spread.hosts import read_hosts, refuse_missing_tools
 from .tuning_files import Fight, schedule_text
+from .watching import Pace
 from .words import counted, number_from
 
 # The fights of a race that is given no budget.
@@ -23,8 +24,6 @@ BLOCKS_OF_PROCESS = 8
 TRIAL_BLOCKS, TRIAL_FIGHTS = 16, 200
 # How much of --minutes is left for the end of the command: a part of them, and some seconds.
 END_PART, END_SECONDS = 0.01, 0.4
-# The seconds between two lines of progress.
-PROGRESS_SECONDS = 15
 # Has the kernel end a process with the thread that started it. A function that is called in the
 # new process would do so, too, but it takes Python three times as long.
 WITH_PARENT = ["setpriv", "--pdeathsig", "KILL", "--"] if shutil.which("setpriv") else []
@@ -94,7 +93,7 @@ class Arena:
         self.began_at, self.seconds = clock(), 0.0
         self.seconds_of_play, self.seconds_of_jobs, self.plays_of_jobs = 0.0, 0.0, 0
         self.hosts = Hosts(self)
-        self.news, self.told_at = "", time.monotonic()
+        self.news, self.pace = "", Pace()
 
     def __enter__(self):
         self.running, self.is_over = set(), False
@@ -225,20 +224,17 @@ class Arena:
     def tell_estimate(self, what):
         """Prints about how long the budget lasts, by the fights so far."""
         if not self.seconds_of_jobs:
-            print(f"{what}: goes on where it was stopped", file=sys.stderr, flush=True)
+            tell(f"{what}: goes on where it was stopped")
             return
         rate = self.args.jobs * self.fights / self.seconds_of_jobs
         limits = [self.budget.seconds, self.budget.fights and self.budget.fights / rate]
         seconds = min(filter(None, limits))
-        print(f"{what}: about {round(seconds * rate, -2):.0f} fights in {duration(seconds)} on "
-              f"{counted(self.args.jobs, 'processor')}", file=sys.stderr, flush=True)
+        tell(f"{what}: about {round(seconds * rate, -2):.0f} fights in {duration(seconds)} on "
+             f"{counted(self.args.jobs, 'processor')}")
 
     def tell_progress(self):
         """Prints how far the race is, if some seconds have passed since the last line."""
-        if time.monotonic() - self.told_at > PROGRESS_SECONDS:
-            self.told_at = time.monotonic()
-            print(f"{100 * self.used():.0f}%: {self.news}, {self.fights} fights", file=sys.stderr,
-                  flush=True)
+        self.pace.tell(f"{100 * self.used():.0f}%: {self.news}, {self.fights} fights")
 
 
 def joined(pieces):

@@ -3,13 +3,14 @@
 What they played waits until the race comes to it. So the race goes the same way, and is recorded
 the same way, as without hosts. A piece of the work is some settings in some blocks.
 """
-import math, os, pathlib, shutil, subprocess, time
+import math, os, pathlib, shutil, subprocess
 from typing import NamedTuple
 
 from .endings import Fault, fault_of
 from .program import reading_output
 from .race import SETTINGS_AT_ONCE
-from .spread_hosts import HostJobs, read_hosts
+from .spread.hosts import HostJobs, read_hosts
+from .spread.jobs import ended
 from .tuning_files import MOST_FIGHTS, schedule_text
 
 # Hosts play what takes longer than that here; for one of their processors it is a piece.
@@ -153,15 +154,11 @@ class Hosts:
         """Plays the pieces of a folder. Returns the points."""
         jobs, points = HostJobs(self.arena.args, folder, folder.pieces), {}
         try:
-            while jobs.keep_running():
-                for number, status in jobs.take_ended():
-                    points |= folder.result(number, status)
-                self.arena.tell_progress()
-                time.sleep(0.02)
+            for number, status in ended(jobs, self.arena.tell_progress):
+                points |= folder.result(number, status)
             if jobs.waiting:
                 raise Fault(f"no result from the hosts ({jobs.fault})", 3)
         finally:
-            jobs.stop()
             shutil.rmtree(folder.path)
         return points
 

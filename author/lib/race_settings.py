@@ -1,4 +1,4 @@
-"""Makes settings for a race: spread evenly, from anywhere, or near others."""
+"""Makes settings for a race: spread evenly, or near others."""
 
 # How often a child has a value of its second parent; how often a child of two parents is changed,
 # too; and how often a changed value comes from anywhere in its range.
@@ -14,11 +14,6 @@ def spread_evenly(ranges, count, dice):
         dice.shuffle(column)
         columns.append(column)
     return list(zip(*columns))
-
-
-def anywhere(ranges, dice):
-    """Returns a setting of all."""
-    return tuple(map(dice.choice, ranges))
 
 
 def child(parents, ranges, reach, dice):

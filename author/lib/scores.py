@@ -8,10 +8,10 @@ Example: cwtune-scores my.cert
 import concurrent.futures, os
 
 from . import cert_inputs, tuning_files
-from .endings import Fault, say
+from .endings import Fault, note
 from .program import assemble, rules_of
 from .watching import watched
-from .words import (add_files, add_json, add_program, add_rules, command_parser, counted,
+from .words import (add_files, add_json, add_cwtune, command_parser, counted,
                     number_from, print_json)
 
 # With more settings than this none is assembled, to save time.
@@ -81,7 +81,7 @@ class Warriors:
             try:
                 self.read_load_files(args)
             except Fault as fault:
-                say("note", str(fault), 0)
+                note(str(fault))
 
     def read_load_files(self, args):
         """Assembles each setting whose row does not name another one with an equal warrior."""
@@ -118,15 +118,15 @@ def idle_text(constant):
 def constants_of(template, warriors):
     """Returns for each constant how many choices of the others there are, and in how many all its
     values make the same warrior."""
-    count, constants = len(template.values_of_settings), []
-    for name, values, step in zip(template.names, template.ranges, template.strides()):
-        block = step * len(values)
+    count, block, constants = len(template.values_of_settings), 1, []
+    for name, values in reversed(list(zip(template.names, template.ranges))):
+        step, block = block, block * len(values)
         groups = (range(first, first + block, step) for start in range(0, count, block)
                   for first in range(start, start + step))
         alike = [warriors.are_one(group)
                  for group in watched(groups, count // len(values), f"choices beside {name}")]
-        constants.append({"name": name, "values": len(values), "choices": len(alike),
-                          "same": alike.count(True), "not_known": alike.count(None)})
+        constants.insert(0, {"name": name, "values": len(values), "choices": len(alike),
+                             "same": alike.count(True), "not_known": alike.count(None)})
     return constants
 
 
@@ -183,8 +183,7 @@ def make_parser():
     add_json(output)
     output.add_argument("--csv", action="store_true",
                         help="print the total of each setting, a line for each, with commas")
-    add_program(parser)
-    add_rules(parser, of_tuning=True)
+    add_cwtune(parser, of_tuning=True)
     return parser
 
 

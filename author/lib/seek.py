@@ -18,34 +18,32 @@ import math, pathlib, sys
 
 from . import holdout
 from .adapt import adapted_for, adapted_opponents, add_as_is, read_text
-from .endings import Fault
+from .endings import Fault, note, tell
 from .grid import Grid
 from .program import run_program
 from .race import Race
 from .race_fights import Arena, add_budget, budget_of
 from .tuning_files import MOST_SETTINGS
-from .words import (add_files, add_json, add_program, add_rules, command_parser, number_from,
+from .words import (add_files, add_json, add_cwtune, command_parser, number_from,
                     print_json)
 from .writing import temporary_folder
 
 
 def print_outcome(grid, outcome, weights):
     """Prints what was found, and by how much it is better than START."""
-    print(f"found: {grid.constants_of(outcome.winner)}", file=sys.stderr)
+    tell(f"found: {grid.constants_of(outcome.winner)}")
     if outcome.winner == grid.start_values:
-        print("note: it is START: the race found nothing better", file=sys.stderr)
+        note("it is START: the race found nothing better")
     elif outcome.points is None:
-        print("note: START does not assemble, so there is no gain over it", file=sys.stderr)
+        note("START does not assemble, so there is no gain over it")
     elif not outcome.points[0]:
-        print("note: no fights were left to measure the gain: give more --fights or --minutes",
-              file=sys.stderr)
+        note("no fights were left to measure the gain: give more --fights or --minutes")
     else:
         gain = holdout.gain_of(outcome.points, weights)
         luck = 100 * outcome.rise - gain.mean()
-        print(f"note: in the fights that picked it, it was {100 * outcome.rise:+.1f}% over START; "
-              f"{luck:+.1f}% of that was luck", file=sys.stderr)
-        print(f"over START: {gain.mean():+.1f}% +- {gain.error():.1f}, {holdout.gain_words(gain)}",
-              file=sys.stderr)
+        note(f"in the fights that picked it, it was {100 * outcome.rise:+.1f}% over START; "
+             f"{luck:+.1f}% of that was luck")
+        tell(f"over START: {holdout.gain_text(holdout.gain_numbers(gain))}")
 
 
 def outcome_numbers(grid, outcome, weights, text):
@@ -71,8 +69,8 @@ def ranges_of(args, grid, values):
     settings = math.prod(map(len, ranges))
     if settings <= MOST_SETTINGS:
         return ranges
-    print(f"note: --box={args.box} would leave {settings} settings, more than the {MOST_SETTINGS} "
-          "that `cwtune tune` takes, so the ranges are not cut", file=sys.stderr)
+    note(f"--box={args.box} would leave {settings} settings, more than the {MOST_SETTINGS} that "
+         "`cwtune tune` takes, so the ranges are not cut")
     return grid.ranges
 
 
@@ -84,8 +82,7 @@ def make_parser():
                         help="another number gives other settings and positions [default: 1]")
     parser.add_argument("--box", type=number_from(0), metavar="N",
                         help="cut each range to N values on both sides of the winner's")
-    add_program(parser)
-    add_rules(parser)
+    add_cwtune(parser)
     add_as_is(parser)
     add_files(parser, "template", "schedule", "opponent")
     return parser
@@ -116,8 +113,8 @@ def seek(args, grid, weights):
         except KeyboardInterrupt:
             if not race.start.blocks:
                 raise
-            print(f"stopped: the best so far is {grid.constants_of(race.leader())}; its gain was "
-                  "not measured", file=sys.stderr)
+            tell(f"stopped: the best so far is {grid.constants_of(race.leader())}; its gain was "
+                 "not measured")
             return race.leader(), None
     print_outcome(grid, outcome, list(filter(None, weights)))
     return outcome.winner, outcome

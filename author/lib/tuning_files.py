@@ -110,11 +110,6 @@ class Template(Grid):
             indices.append(index)
         return indices
 
-    def strides(self):
-        """Returns for each constant how many settings lie from one of its values to the next."""
-        sizes = [len(values) for values in self.ranges]
-        return [math.prod(sizes[constant + 1:]) for constant in range(len(sizes))]
-
     def nearest_start(self, settings):
         """Returns which of the settings is the fewest steps from START; of several the first."""
         start_steps = self.steps(self.start)
@@ -255,10 +250,6 @@ class Ranked(collections.abc.Sequence):
         return -(self.keys[place] >> 32), self.keys[place] & 0xffffffff
 
 
-def rank_key(total, setting):
-    return (-total << 32) + setting
-
-
 class Ranking(NamedTuple):
     """What a certificate shows of the ranking.
 
@@ -281,14 +272,6 @@ class Certificate(AnyCertificate):
             raise Fault(f"{path}: it names no best setting, since none reaches the floor "
                         f"{self.total}")
 
-    def is_of(self, fights):
-        """Returns whether the certificate can be of these fights: there is one, it lists no other
-        ones, and its best setting played them all, has its total, and is the first of the
-        ranking."""
-        return (len(fights) > 0 and max(self.listed, default=0) < len(fights)
-                and self.total_of(self.best, fights) == self.total
-                and self.ranked(fights).full[0][1] == self.best)
-
     def fights(self, schedule):
         """Returns the fights of the file `schedule`. Without it returns as many as the best setting
         played, of weight 1, with opponent and position unknown (0)."""
@@ -298,7 +281,10 @@ class Certificate(AnyCertificate):
             raise Fault(f"{self.path} is of a schedule with weights: give --schedule", 2)
         else:
             fights = Fights([Fight(0, 0, "c", 1)] * len(self.points(self.best)))
-        if not self.is_of(fights):
+        # It lists no other fights, and its best setting has its total, and is the first.
+        if not (len(fights) > max(self.listed, default=0)
+                and self.total_of(self.best, fights) == self.total
+                and self.ranked(fights).full[0][1] == self.best):
             complaint = (f" is not a certificate of the schedule {schedule}" if schedule
                          else ": its rows are not those of its best setting and total")
             raise Fault(f"{self.path}{complaint}", 2)
@@ -313,7 +299,7 @@ class Certificate(AnyCertificate):
         keys, dropped, first_dropped = [], 0, math.inf
         for setting in watched(range(self.count), self.count, "totals"):
             if self.assembles(setting):
-                key = rank_key(self.cap(setting, fights), setting)
+                key = (-self.cap(setting, fights) << 32) + setting
                 if self.plays_all(setting, fights):
                     keys.append(key)
                 else:

@@ -15,15 +15,16 @@ Example: cwtune-vary my.red STEP=5:4000:10 'throw.a-mode=<,>,{' > my-template.re
 import itertools, math, re, sys
 from typing import NamedTuple
 
-from .adapt import adapt, adapted_text, add_as_is
-from .endings import Fault, say
+from .adapt import adapted_by, add_as_is
+from .endings import Fault, note
 from .grid import ADAPTED, KEPT, is_range_line
 from .openings import constant_of, opening_from
-from .places import FIELDS, OPCODES, Span, code_of, lines_of, spot_of, spots_in
-from .program import load_file_of_bytes, refuse_other_warrior, rules_of
+from .places import FIELDS, OPCODES, Span, lines_of, spot_of, spots_in
+from .pmars_tokens import code_of
+from .program import assemble_bytes, load_file_of, refuse_other_warrior, rules_of
 from .slots import code_of_kept
 from .tuning_files import MOST_CONSTANTS, MOST_SETTINGS
-from .words import add_program, add_rules, command_parser, counted
+from .words import add_cwtune, command_parser, counted
 
 # What the list has for a field that is not written.
 UNWRITTEN = {"a-mode": "$", "b-mode": "$", "modifier": "-"}
@@ -51,24 +52,19 @@ class Varied:
     """A text with openings: what is open in each line, and the notes on it."""
 
     def __init__(self, path, source, openings):
-        self.path, self.source, self.opened, self.notes = path, source, [], []
+        self.source, self.opened, self.notes = source, [], []
         lines = source.lines()
         for opening in openings:
             spot = spot_of(path, lines, opening.place)
-            constant, note = constant_of(spot, opening, source.text)
+            constant, why = constant_of(spot, opening, source.text)
             twins = spot.twins(lines)
-            for twin in twins:
-                self.refuse_twice(twin)
+            for twin, other in itertools.product(twins, self.opened):
+                if twin.overlaps(other.spot):
+                    raise Fault(f"{path}, line {twin.line.number}: {other.spot.name} and "
+                                f"{twin.name} are in one place", 2)
             self.opened += [Opened(twin, constant, twin is twins[0]) for twin in twins]
-            self.notes += [note] * bool(note)
+            self.notes += [why] * bool(why)
         self.constants = [opened.constant for opened in self.opened if opened.has_range]
-
-    def refuse_twice(self, spot):
-        """Refuses a place that is open already, whole or in part."""
-        for other in self.opened:
-            if spot.overlaps(other.spot):
-                raise Fault(f"{self.path}, line {spot.line.number}: {other.spot.name} and "
-                            f"{spot.name} are in one place", 2)
 
     def template(self, starts_alone=False):
         """Returns the template. With `starts_alone` START is the only value of each constant."""
@@ -92,10 +88,6 @@ class Varied:
         is_first = row == min(opened.spot.line.row for opened in self.opened)
         mark = [ADAPTED + "\r" * line.endswith("\r")] if self.source.adapted and is_first else []
         return [*mark, KEPT + kept, *range_lines, *code_of_kept(kept, names)]
-
-    def count(self):
-        """Returns how many settings the template has."""
-        return math.prod(len(constant.values) for constant in self.constants)
 
 
 def uses_of(lines, equ):
@@ -148,14 +140,13 @@ def lines_of_others(lines):
 
 def load_file_of_source(args, source):
     """Returns the load file of a text. Refuses one that does not assemble."""
-    return load_file_of_bytes(args.program, args.warrior, source.text.encode("latin-1"),
-                              *rules_of(args).words())
+    return load_file_of(args.warrior, assemble_bytes(
+        args.program, source.text.encode("latin-1"), *rules_of(args).words()))
 
 
 def make_parser():
     parser = command_parser(__doc__)
-    add_program(parser)
-    add_rules(parser)
+    add_cwtune(parser)
     add_as_is(parser)
     parser.add_argument("warrior", metavar="WARRIOR", help="a Redcode text")
     parser.add_argument("ranges", metavar="PLACE=VALUES", nargs="*", type=opening_from, default=[],
@@ -176,12 +167,11 @@ def source_of(parser, args):
         text = file.read()
     if any(map(is_range_line, text.split(b"\n"))):
         raise Fault(f"{args.warrior}: it has range lines, so it is a template already")
-    read, said = adapted_text(args, args.warrior, text)
-    if said:
-        say("note", f"{args.warrior} is adapted to what cwtune reads, as by cwtune-adapt; places "
-            f"and lines are those of {args.warrior}; {said}", 0)
-    adapted = None if read == text else adapt(args.warrior, text, rules_of(args), args.program)
-    return Source(read.decode("latin-1"), adapted)
+    adapted, said = adapted_by(args, args.warrior, text)
+    if adapted:
+        note(f"{args.warrior} is adapted to what cwtune reads, as by cwtune-adapt; places and "
+             f"lines are those of {args.warrior}; {said}")
+    return Source((adapted.text if adapted else text).decode("latin-1"), adapted)
 
 
 def checked(args, source):
@@ -207,8 +197,7 @@ def main():
         return
     varied = checked(args, source)
     sys.stdout.buffer.write(varied.template())
-    settings = varied.count()
+    settings = math.prod(len(constant.values) for constant in varied.constants)
     excess = ": too many for `cwtune tune`; cwtune-study and cwtune-seek have them race"
-    for note in [*varied.notes, counted(settings, "setting")
-                 + (excess if settings > MOST_SETTINGS else "")]:
-        print(f"note: {note}", file=sys.stderr)
+    for text in [*varied.notes, counted(settings, "setting") + excess * (settings > MOST_SETTINGS)]:
+        note(text)

@@ -11,19 +11,19 @@ The text is printed only if `cwtune asm` makes the same load file of it as of th
 
 Example: cwtune-warrior my.red my.cert > winner.red
 """
-import argparse, itertools, pathlib, re, sys
+import argparse, itertools, re, sys
 
 from . import cert_inputs, slots, tuning_files
 from .adapt import adapt, add_as_is, adapted_if_refused, read_text, start_of
-from .endings import Fault, say
+from .endings import Fault, note
 from .grid import ADAPTED, is_range_line
 from .openings import place_named
 from .places import assembled_lines, lines_of, spots_in
-from .program import load_file_of, refuse_other_warrior, rules_of
+from .program import assemble, load_file_of, refuse_other_warrior, rules_of
 from .put_back import original_lines
 from .slots import STRATEGY
-from .words import FILE_HELP, add_files, add_program, add_rules, command_parser
-from .writing import temporary_folder
+from .words import FILE_HELP, add_files, add_cwtune, command_parser
+from .writing import temporary_file
 
 # It follows the last line that begins with the first of these words, else with the second, and so
 # on.
@@ -148,18 +148,17 @@ def print_pmars_notes(text):
     for number, line in enumerate(text.split(b"\n"), 1):
         code = line.partition(b";")[0]
         if len(line) > MOST_LINE_BYTES:
-            print(f"note: pMARS cuts line {number} at {MOST_LINE_BYTES} bytes", file=sys.stderr)
+            note(f"pMARS cuts line {number} at {MOST_LINE_BYTES} bytes")
         elif match := re.fullmatch(rb"(?i)(?:.*\s)?(nop|dat)\s*", code):
             opcode = match[1].decode().upper()
-            print(f"note: pMARS refuses line {number}: {opcode} without an operand",
-                  file=sys.stderr)
+            note(f"pMARS refuses line {number}: {opcode} without an operand")
 
 
 def checked_text(args, template, setting, totals):
     """Returns the author's text with a setting's values. Refuses one of another warrior."""
     rules = rules_of(args).words()
-    load_file = load_file_of(args.program, f"setting {setting}", *rules, f"--setting={setting}",
-                             "--", template.path)
+    load_file = load_file_of(f"setting {setting}", assemble(
+        args.program, *rules, f"--setting={setting}", "--", template.path))
     if args.original and (text := text_put_back(args, template, setting, totals, load_file)):
         return text
     text = text_of(template, setting, totals)
@@ -180,7 +179,7 @@ def text_put_back(args, template, setting, totals, load_file):
     except Fault as fault:
         if fault.status != 1:
             raise
-        say("note", f"{fault}, so this is the adapted text", 0)
+        note(f"{fault}, so this is the adapted text")
         return None
 
 
@@ -193,8 +192,7 @@ def make_parser():
                          help="print the template, with the setting as its START")
     printed.add_argument("--original", metavar="FILE", help="put the values into this text, which "
                          "was adapted before the template was made of it")
-    add_program(parser)
-    add_rules(parser, of_tuning=True)
+    add_cwtune(parser, of_tuning=True)
     add_as_is(parser)
     add_files(parser, "template")
     parser.add_argument("cert", metavar="CERT", nargs="?", help=FILE_HELP["cert"])
@@ -216,7 +214,7 @@ def main():
                 raise
             print_start(args, path)
         if not (args.original or args.as_template) and (path != args.template or has_mark(path)):
-            say("note", "this is the adapted text: --original FILE puts the values into yours", 0)
+            note("this is the adapted text: --original FILE puts the values into yours")
 
 
 def has_mark(path):
@@ -226,10 +224,8 @@ def has_mark(path):
 
 def print_start(args, path):
     """Prints the text of START of a template of any size, as that of a race."""
-    with temporary_folder() as folder:
-        alone = pathlib.Path(folder, pathlib.Path(path).name)
-        alone.write_bytes(start_of(read_text(path), path))
-        print_text(args, str(alone))
+    with temporary_file(path, start_of(read_text(path), path)) as alone:
+        print_text(args, alone)
 
 
 def print_text(args, path):

@@ -1,11 +1,25 @@
 """Says on standard error how far a command is."""
 import os, sys, time
 
+from .endings import tell
+
 
 def rewrite(line=""):
     """Rewrites the line of the terminal, cut to its width. Without a new one it is cleared."""
     width = os.get_terminal_size(sys.stderr.fileno()).columns or 80
     print(f"\r{line[:width - 1]}\x1b[K", end="", file=sys.stderr, flush=True)
+
+
+class Pace:
+    """Writes a line on standard error now and then: at least 15 seconds after the last one."""
+
+    def __init__(self):
+        self.told_at = time.monotonic()
+
+    def tell(self, line):
+        if time.monotonic() - self.told_at > 15:
+            self.told_at = time.monotonic()
+            tell(line)
 
 
 class Watch:
@@ -25,7 +39,7 @@ class Watch:
         if cls.at_terminal:
             rewrite(line)
         else:
-            print(line, file=sys.stderr, flush=True)
+            tell(line)
         return True
 
 

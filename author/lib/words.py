@@ -100,11 +100,6 @@ def add_files(parser, *names):
                             nargs="+" if name == "opponent" else None)
 
 
-def add_opponents_of_tuning(parser):
-    parser.add_argument("opponents", metavar="OPPONENT", nargs="*", default=[],
-                        help=FILE_HELP["opponent"] + " [default: those of the tuning]")
-
-
 def program_at(word):
     """Returns the path of a program that an option names: a file, or a name on the PATH."""
     return shutil.which(word) or word
@@ -130,8 +125,10 @@ def add_hill(parser, default="94nop"):
                         help=f"the rules of this hill: {', '.join(HILLS)} [default: {default}]")
 
 
-def add_rules(parser, of_tuning=False):
-    """Adds the options of the rules. With `of_tuning` the tuning's rules are the defaults."""
+def add_cwtune(parser, of_tuning=False):
+    """Adds the program and the options of the rules. With `of_tuning` the tuning's rules are the
+    defaults."""
+    add_program(parser)
     group = parser.add_argument_group("rules")
     add_hill(group, "the rules of the tuning, else 94nop" if of_tuning else "94nop")
     whose = "that of the tuning" if of_tuning else "that of the hill"

@@ -104,6 +104,15 @@ def is_running(pid):
 
 
 @contextlib.contextmanager
+def temporary_file(name, text):
+    """Gives a block the path of a file with a text, in a folder that is made for it."""
+    with temporary_folder() as folder:
+        path = pathlib.Path(folder, pathlib.Path(name).name)
+        path.write_bytes(text)
+        yield str(path)
+
+
+@contextlib.contextmanager
 def temporary_folder():
     """Makes a folder for the block, and removes those of runs that were killed."""
     remove_left(tempfile.gettempdir(), r"cwtune-(\d+)-\w+")

@@ -11,7 +11,7 @@ landscapes       `cwtune-landscape --effects`
 strangers        names, texts and files that a stranger chose, and what commands leave running
 own_folders      work folders of a stranger, and kills at what is removed
 studying         `cwtune-study`
-study_refused    what it refuses, for `studying`
+study_hosts      `cwtune-study` and a race on hosts
 spreading        `cwtune-spread`
 merging          `cwtune-spread` with what the jobs of a cluster leave, and with stand-ins for GNU
                  parallel
@@ -20,17 +20,15 @@ clusters         `examples/slurm.sh` with a Slurm
 sharing          the checks of `cwtune-spread`
 reporting        the page of a study
 
-Each of them but `run` and `study_refused` has a function `trials`. It returns trials by the names
-of their functions; that of `refusals` is one trial. A trial yields the names of what was tried, and
-for each a list of what was wrong, which `run` counts. What failed is named after its module and its
-function, as `spreading.folders: a file in its place`, and `--only spreading.folders` plays that
-trial alone.
+Each has classes of `trial.Trial`, a `unittest.TestCase`. A trial is a method `test_..`; each thing
+that it compares is a subtest. What failed is named after its module and its trial, as
+`spreading.folders: a file in its place`, and `-k spreading.folders` plays that trial alone.
 
 A trial that needs a tool which is not installed is left out, and named before the last line; with
 CWTUNE_ALL=1 it has failed.
 
-Their libraries: `commands` runs a command and plays tables of refusals, `spread_place` and
-`study_place` make the folders of two commands, `ssh_hosts` and `slurm_place` the hosts and the
-Slurm, and `report_samples` makes up the reports of `reporting`. In all of them a `result` is how a
-command ended (`commands.Result`), and `expected` is how it has to end.
+Their libraries: `trial` has what all trials have, `spread_trial` and `study_trial` the folders of
+two commands, `ssh_hosts` and `slurm_place` the hosts and the Slurm, and `report_samples` makes up
+the reports of `reporting`. In all of them a `result` is how a command ended (`trial.Result`), and
+`expected` is how it has to end.
 """

@@ -3,10 +3,8 @@ import math, os
 from unittest import mock
 
 from author.lib import landscape, tuning_files
-from gate.play import Place
-from gate.tally import compare
 
-from .commands import TUNING, in_folders, run
+from .trial import TUNING, Trial
 
 # The modules of the stand-in. A picture is the text of the calls that drew it. As matplotlib does,
 # it looks for settings in the current folder, and for formulas unless it is told not to.
@@ -62,55 +60,38 @@ set_ylabel ('mean total',)
 suptitle ('best setting 1: K=1, total 1 of 3',)"""
 
 
-def effects(place):
-    """Draws both pictures with the stand-in."""
-    (place.folder / "matplotlib").mkdir()
-    for name, text in STAND_IN.items():
-        place.write(f"matplotlib/{name}", text)
-    place.write("matplotlibrc", "text.usetex: True\n")
-    place.run(["tune", "--all", "t.red", "s.csv", "cert", "imp.red"], keep=True)
-    with mock.patch.dict(os.environ, {"PYTHONPATH": str(place.folder)}):
-        result = run("cwtune-landscape", "t.red", "cert", "x.svg", "--effects", "y.svg",
-                     folder=place.folder)
-        yield compare("the means of all values", ((0, "", ""), EFFECTS, True), (
-            result, (place.read("y.svg") or b"").decode(), b"scatter " in place.read("x.svg")))
-        place.run(["tune", "--all", "list.red", "s.csv", "list.cert", "imp.red"], keep=True)
-        run("cwtune-landscape", "list.red", "list.cert", "x.svg", "--effects", "y.svg",
-            folder=place.folder)
-        yield compare("what is in a list is shown", [1, 1], [
-            place.read(name).count(b"set_xticks ([0, 1], ['1', '0'])")
+class Landscapes(Trial):
+    FILES = FILES
+
+    def test_effects(self):
+        for name, text in STAND_IN.items():
+            self.write(f"matplotlib/{name}", text)
+        self.write("matplotlibrc", "text.usetex: True\n")
+        self.enterContext(mock.patch.dict(os.environ, {"PYTHONPATH": str(self.folder)}))
+        self.tune("--all", "t.red", "s.csv", "t.cert", "imp.red")
+        self.same("the means of all values", ((0, "", ""), EFFECTS, True), (
+            self.call("cwtune-landscape t.red t.cert x.svg --effects y.svg"),
+            (self.read("y.svg") or b"").decode(), b"scatter " in self.read("x.svg")))
+        self.tune("--all", "list.red", "s.csv", "list.cert", "imp.red")
+        self.call("cwtune-landscape list.red list.cert x.svg --effects y.svg")
+        self.same("what is in a list is shown", [1, 1], [
+            self.read(name).count(b"set_xticks ([0, 1], ['1', '0'])")
             for name in ["x.svg", "y.svg"]])
-        result = run("cwtune-landscape", "step.red", "step.cert", "x.png", "--effects", "y.png",
-                     folder=place.folder)
-    yield compare("settings that were dropped", (
-        1, "", "refused: settings were dropped: the means need a certificate of `cwtune tune "
-        "--all`\n", None), (*result, place.read("y.png")))
+        self.same("settings that were dropped", (
+            1, "", "refused: settings were dropped: the means need a certificate of `cwtune tune "
+            "--all`\n", None), (
+            *self.call("cwtune-landscape step.red step.cert x.png --effects y.png"),
+            self.read("y.png")))
 
-
-def means(place):
-    """Computes the means of the values of two constants, and their errors."""
-    template, nan = tuning_files.Template(str(place.folder / "two.red")), math.nan
-    for name, totals, constant, expected in [
-        ("the slower constant", [1, 2, 3, 4, nan, 6], 0, ([0, 1], [2, 5], [0.577350269, 1])),
-        ("the faster constant", [1, 2, 3, 4, nan, 6], 1,
-         ([0, 1, 2], [2.5, 2, 4.5], [1.5, 0, 1.5])),
-        ("a value that never assembles", [1, nan, 3, 4, nan, 6], 1,
-         ([0, 2], [2.5, 4.5], [1.5, 1.5])),
-    ]:
-        values, came, errors = landscape.effect_of(template, totals, constant)
-        yield compare(name, expected, (values, came, [round(error, 9) for error in errors]))
-
-
-def wrong_names(place):
-    """Names a second picture of another kind."""
-    before = place.texts()
-    for name in ["y.jpg", "svg"]:
-        yield compare(f"--effects {name}", (
-            2, "", "cwtune-landscape: error: the picture's name has to end with .png or .svg: "
-            f"{name}\n", before), (
-            *run("cwtune-landscape", "step.red", "step.cert", "x.svg", f"--effects={name}",
-                 folder=place.folder), place.texts()))
-
-
-def trials(program):
-    return in_folders(lambda folder: Place(program, folder, FILES), [effects, means, wrong_names])
+    def test_means(self):
+        """Computes the means of the values of two constants, and their errors."""
+        template, nan = tuning_files.Template(str(self.folder / "two.red")), math.nan
+        for name, totals, constant, expected in [
+            ("the slower constant", [1, 2, 3, 4, nan, 6], 0, ([0, 1], [2, 5], [0.577350269, 1])),
+            ("the faster constant", [1, 2, 3, 4, nan, 6], 1,
+             ([0, 1, 2], [2.5, 2, 4.5], [1.5, 0, 1.5])),
+            ("a value that never assembles", [1, nan, 3, 4, nan, 6], 1,
+             ([0, 2], [2.5, 4.5], [1.5, 1.5])),
+        ]:
+            values, came, errors = landscape.effect_of(template, totals, constant)
+            self.same(name, expected, (values, came, [round(error, 9) for error in errors]))

@@ -3,10 +3,8 @@ import os
 
 from author.lib.program import run_program
 from gate import cert_inputs
-from gate.play import Place
-from gate.tally import compare
 
-from .commands import Refusal, in_folders, refused, run
+from .trial import Refusal, Trial, usage_error
 
 FILES = {
     "t.red": ";@tune K 0 1 1 0\nJMP 1-K\n",
@@ -44,89 +42,64 @@ def note(why_unused):
     return f"note: {why_unused}, so files and rules cannot be compared with the tuning's\n"
 
 
-def run_in(place, words, below="."):
-    """Runs a command in the place, or in a folder below it, with the program if it takes one."""
-    name, *others = words.split()
-    program = [] if name == "cwtune-landscape" else ["--program", place.program]
-    return run(name, *program, *others, folder=place.folder / below)
+class Origins(Trial):
+    FILES = FILES
 
+    def test_readers(self):
+        """Runs commands whose words leave out what CERT.inputs says."""
+        self.tune("--all", *TUNE)
+        self.same("cwtune-holdout by CERT.inputs", (0, GAIN, ""), self.call(HOLDOUT))
+        (self.folder / "below").mkdir()
+        for words, below, line in [
+            ("cwtune-scores cert", "", "START, setting 0, total 15, 1 less than the best K=0\n"),
+            ("cwtune-warrior t.red cert", "",
+             ";strategy cwtune: K=1, total 16, total of START 15\n"),
+            ("cwtune-scores ../cert", "below", "best setting 1, total 16 of 18 K=1\n"),
+        ]:
+            status, out, err = self.call(words, below=below)
+            self.same(f"{words} by CERT.inputs", (0, True, ""), (status, line in out, err))
+        self.refused(OTHER_INPUTS)
+        (self.folder / "s.csv").rename(self.folder / "moved.csv")
+        self.refused([usage_error("cwtune-scores cert", "give SCHEDULE: the schedule of the tuning "
+                                  "is not there")])
+        self.write("t.red", FILES["other.red"])
+        self.refused([Refusal(HOLDOUT, 2, "error: t.red is not the template of the tuning")])
 
-def readers(place):
-    """Runs commands whose words leave out what CERT.inputs says."""
-    place.run(["tune", "--all", *TUNE], keep=True)
-    yield compare("cwtune-holdout by CERT.inputs", (0, GAIN, ""), run_in(place, HOLDOUT))
-    status, out, err = run_in(place, "cwtune-scores cert")
-    yield compare("cwtune-scores by CERT.inputs", (0, True, ""),
-                  (status, "START, setting 0, total 15, 1 less than the best K=0\n" in out, err))
-    status, out, err = run_in(place, "cwtune-warrior t.red cert")
-    line = ";strategy cwtune: K=1, total 16, total of START 15\n"
-    yield compare("cwtune-warrior by CERT.inputs", (0, True, ""), (status, line in out, err))
-    (place.folder / "below").mkdir()
-    status, out, err = run_in(place, "cwtune-scores ../cert", "below")
-    yield compare("in another folder", (0, ""), (status, err))
-    yield from refused(OTHER_INPUTS, lambda words: run_in(place, " ".join(words)))
-    (place.folder / "s.csv").rename(place.folder / "moved.csv")
-    yield compare("a schedule that has moved", (2, "", "cwtune-scores: error: give SCHEDULE: the "
-                  "schedule of the tuning is not there\n"),
-                  run_in(place, "cwtune-scores cert"))
-    place.write("t.red", FILES["other.red"])
-    yield compare("a template that was changed", (2, "", "error: t.red is not the template of the "
-                  "tuning\n"), run_in(place, HOLDOUT))
+    def test_names(self):
+        """Tunes against a warrior whose name has what other readers take for a line end."""
+        name = "a\rb\x0cc\x85d\u2028.red"
+        self.write(name, FILES["imp.red"])
+        result = self.cwtune(["tune", "--all", *TUNE[:-1], name], keep=True)
+        self.same("the gate knows its CERT.inputs", ["cert"], sorted(result.files))
+        self.same("a name with line ends of others", (0, GAIN, ""), self.call(HOLDOUT))
 
+    def test_unknown(self):
+        """Runs commands without a CERT.inputs that can be believed."""
+        self.tune("--all", *TUNE)
+        of_another = self.read("cert.inputs").replace(b"\ncert ", b"\ncert 1")
+        for text, why_unused in [
+            (None, "cert.inputs is not there"), (b"a text\n", "cert.inputs is malformed"),
+            (of_another, "cert.inputs is of another certificate"),
+        ]:
+            (self.folder / "cert.inputs").unlink(missing_ok=True)
+            if text:
+                self.write("cert.inputs", text)
+            self.same(why_unused, (0, GAIN, note(why_unused)), self.call(
+                f"{HOLDOUT} --core=800 --schedule s.csv dat.red imp.red"))
+            self.refused(usage_error(words, f"give {missing}: {why_unused}") for words, missing in [
+                (HOLDOUT, "OPPONENT.."), ("cwtune-scores cert", "SCHEDULE")])
 
-def names(place):
-    """Tunes against a warrior whose name has what other readers take for a line end."""
-    name = "a\rb\x0cc\x85d\u2028.red"
-    place.write(name, FILES["imp.red"])
-    result = place.run(["tune", "--all", *TUNE[:-1], name], keep=True)
-    yield compare("the gate knows its CERT.inputs", ["cert"], sorted(result.files))
-    yield compare("a name with line ends of others", (0, GAIN, ""),
-                  run_in(place, HOLDOUT))
-
-
-def unknown(place):
-    """Runs commands without a CERT.inputs that can be believed."""
-    place.run(["tune", "--all", *TUNE], keep=True)
-    text_of_cert = place.read("cert.inputs")
-    with_all_inputs = f"{HOLDOUT} --core=800 --schedule s.csv dat.red imp.red"
-    for name, text, why_unused in [
-        ("none", None, "cert.inputs is not there"),
-        ("a text", b"a text\n", "cert.inputs is malformed"),
-        ("another certificate's", text_of_cert.replace(b"\ncert ", b"\ncert 1"),
-         "cert.inputs is of another certificate"),
-    ]:
-        (place.folder / "cert.inputs").unlink(missing_ok=True)
-        if text:
-            place.write("cert.inputs", text)
-        yield compare(f"CERT.inputs: {name}", (0, GAIN, note(why_unused)),
-                      run_in(place, with_all_inputs))
-        for words, missing in [(HOLDOUT, "OPPONENT.."), ("cwtune-scores cert", "SCHEDULE")]:
-            line = f"{words.split()[0]}: error: give {missing}: {why_unused}\n"
-            yield compare(f"CERT.inputs: {name}, no {missing}", (2, "", line),
-                          run_in(place, words))
-
-
-def spread(place, *words):
-    return run("cwtune-spread", "--program", place.program, *words, folder=place.folder)
-
-
-def writers(place):
-    """Has `cwtune-spread` write what `tune` writes."""
-    version_line = run_program(place.program, "--version").stdout.decode()
-    version = version_line.removeprefix("cwtune ").strip()
-    for words in [["--all", *TUNE], TUNE]:
-        status = spread(place, "--jobs=2", *words).status
-        expected = cert_inputs.text_of(["tune", *words], place.folder, version)
-        yield compare(f"cwtune-spread {words[0]}", (0, expected),
-                      (status, place.read("cert.inputs")))
-    yield compare("cwtune-spread leaves nothing else", sorted([*FILES, "cert", "cert.inputs"]),
-                  sorted(os.listdir(place.folder)))
-    place.write("cert.inputs", "a text\n")
-    yield compare("cwtune-spread keeps another text",
-                  (2, "", "error: CERT.inputs is a text of another kind, and is not overwritten: "
-                   "cert.inputs\n"), spread(place, *TUNE))
-
-
-def trials(program):
-    return in_folders(lambda folder: Place(program, folder, FILES), [
-        readers, names, unknown, writers])
+    def test_writers(self):
+        """Has `cwtune-spread` write what `tune` writes."""
+        version_line = run_program(self.program, "--version").stdout.decode()
+        version = version_line.removeprefix("cwtune ").strip()
+        for words in [["--all", *TUNE], TUNE]:
+            status = self.call("cwtune-spread --jobs=2", *words).status
+            expected = cert_inputs.text_of(["tune", *words], self.folder, version)
+            self.same(f"cwtune-spread {words[0]}", (0, expected),
+                      (status, self.read("cert.inputs")))
+        self.same("cwtune-spread leaves nothing else", sorted([*FILES, "cert", "cert.inputs"]),
+                  sorted(os.listdir(self.folder)))
+        self.write("cert.inputs", "a text\n")
+        self.refused([Refusal(" ".join(["cwtune-spread", *TUNE]), 2, "error: CERT.inputs is a text "
+                              "of another kind, and is not overwritten: cert.inputs")])

@@ -1,49 +1,30 @@
 """Gives `cwtune-spread` and `cwtune-study` work folders out of a stranger's archive, and kills them
 at each file that they remove.
 
-`python3 -m author.tests.own_folders --count 10000 PROGRAM` plays as many damaged folders, and kills
-a study at all its places; `run` plays fewer of both.
+`python3 -m author.tests.own_folders --count 10000 PROGRAM` plays as many damaged folders, and with
+`--kills` kills a study at all its places; `run` plays fewer of both.
 """
 import json, os, random, shutil, signal, subprocess, sys, tempfile
 
 from author.lib import endings, spread, study
 from author.lib.endings import STATUS_WORDS, run_tool
-from author.lib.program import program_of
 from author.lib.regular import digest_of
 from author.lib.words import add_built, module_parser, number_from
-from gate.tally import LeftOut, compare, tally
 
-from .commands import SECONDS, command, in_folder, in_folders, played
-from .spread_place import DECOY, SpreadPlace
-from .study_place import StudyPlace, texts
+from .spread_trial import DECOY, SpreadTrial
+from .study_trial import FEW, StudyTrial
+from .trial import SECONDS, command, play, removed
 
 FAULTS = tuple(f"{word}: " for word in STATUS_WORDS.values())
-
 STUDY = ["t.red", "all"]
 PARTS = ["--jobs=1", "--parts=4", *DECOY]
 SHARES = ["--jobs=1", "--shares=4", "--check-only", *DECOY]
-
-
-def victim(place):
-    """Makes a folder of the user's with names that commands write and remove."""
-    (place.folder / "victim").mkdir()
-    for name in ["secret", "imp.red", "1.red", "1.done", "t.red"]:
-        place.write(f"victim/{name}", "mine\n")
-
-
-def with_marked(place, name, **changes):
-    """Changes entries of the mark of a study."""
-    mark = json.loads(place.read(f"{name}/study.json"))
-    place.write(f"{name}/study.json", json.dumps(mark | changes))
-    return mark
+REFUSED_MARK = "CERT.parts is not a folder of this cwtune-spread, and is not touched (spread.json: "
 
 
 def replaced(path, make):
     """Puts something else where a file or a folder is."""
-    if path.is_dir() and not path.is_symlink():
-        shutil.rmtree(path)
-    elif os.path.lexists(path):
-        path.unlink()
+    removed(path)
     make(path)
 
 
@@ -51,244 +32,20 @@ def link_to(target):
     return lambda path: path.symlink_to(target)
 
 
-def links_of_studies(place):
-    """Puts links to files and folders of the user in a study."""
-    victim(place)
-    status = place.study(*STUDY).status
-    shutil.copytree(place.folder / "t.study", place.folder / "kept")
-    before = texts(place, "victim")
-    secret = {"opponents": [["secret", ""]]}
-    for name, target, options, changes in [
-        ("template.red", "../victim/secret", [], {"stages": {}}),
-        ("report.html", "../victim/none", [], {}),
-        ("opponents", "../victim", [], {"stages": {}}),
-        ("opponents", "../victim", ["--anew"], {"of": secret}),
-        ("opponents/imp.red", "../../victim/secret", [], {"stages": {}}),
-        ("fresh", "../victim", ["--anew"], {}),
-        ("fresh/1.red", "../../victim/secret", ["--anew"], {}),
-        ("best.cert.parts", "../victim", ["--anew"], {}),
-        ("log.txt.1.new", "../victim/secret", [], {}),
-    ]:
-        shutil.rmtree(place.folder / "t.study")
-        shutil.copytree(place.folder / "kept", place.folder / "t.study")
-        with_marked(place, "t.study", **changes)
-        replaced(place.folder / "t.study" / name, link_to(target))
-        line = f"error: t.study/{name} is a link, and is not touched\n"
-        yield compare(f"{name}, a link to {target} {options}", (0, (2, "", line), before), (
-            status, place.study(*options, *STUDY), texts(place, "victim")))
-    replaced(place.folder / "t.study", link_to("kept"))
-    for options in [[], ["--anew"]]:
-        yield compare(f"a link to a study {options}", (
-            2, "", "error: t.study is a link, and is not touched\n"),
-            place.study(*options, *STUDY))
-    (place.folder / "below").symlink_to(place.folder)
-    yield compare("a path through a link", 0, place.study("--out=below/kept", *STUDY).status)
-
-
-def links_of_spreads(place):
-    """Puts links to files and folders of the user in a folder of parts."""
-    victim(place)
-    before = texts(place, "victim")
-    for name, target in [("whole.cert", "../victim/secret"), ("4.done", "../victim/none"),
-                         ("spread.json", "../victim/secret"), ("1.2.red", "../victim/secret")]:
-        unfinished(place)
-        replaced(place.folder / "CERT.parts" / name, link_to(target))
-        for options in [[], ["--anew"]]:
-            status, out, err = place.spread(*options, *PARTS)
-            yield compare(f"{name}, a link {options}", (2, "", True, before), (
-                status, out, name in err and err.count("\n") == 1, texts(place, "victim")))
-    for words, name in [(PARTS, "CERT.parts"), (SHARES, "CERT.shares")]:
-        unfinished(place)
-        place.tune(*DECOY)
-        replaced(place.folder / name, link_to("victim"))
-        yield compare(f"{name} is a link", (
-            2, "", f"error: {name} is a link, and is not touched\n", before),
-            (*place.spread(*words), texts(place, "victim")))
-        (place.folder / name).unlink()
-
-
-def unfinished(place, words=PARTS):
-    """Leaves CERT.parts, or CERT.shares, with a half of four pieces done."""
-    kind = "parts" if words == PARTS else "shares"
-    for name in [f"CERT.{kind}", "CERT"] if words == PARTS else [f"CERT.{kind}"]:
-        replaced(place.folder / name, lambda path: None)
-    with place.held(*words, kind=kind) as job:
-        job.kill()
-        job.wait(SECONDS)
-
-
-def forged(place):
-    """Writes into marks, and into what pieces have left, what no command writes."""
-    unfinished(place)
-    whole = json.loads(place.read("CERT.parts/spread.json"))
-    refusal = "CERT.parts is not a folder of this cwtune-spread, and is not touched (spread.json: "
-    for entries, line in [
-        ({"of": 1}, refusal + "of: not an object)"),
-        ({"parts": 0}, refusal + "parts: not 1 to 1000000)"),
-        ({"parts": -1}, refusal + "parts: not 1 to 1000000)"),
-        ({"parts": 2.5}, refusal + "parts: not a whole number)"),
-        ({"parts": "x"}, refusal + "parts: not a whole number)"),
-        ({"parts": 100000000}, refusal + "parts: not 1 to 1000000)"),
-        ({"parts": 127}, "CERT.parts/spread.json: more parts than settings"),
-        ({"count": 10 ** 9}, refusal + "count: not 1 to 1000000)"),
-        ({"count": 1000}, "CERT.parts/spread.json: count: not 126"),
-        ({"piece": []}, refusal + "piece: not a text)"),
-    ]:
-        place.write("CERT.parts/spread.json", json.dumps(whole | entries))
-        yield compare(f"a mark with {entries}", (2, "", f"error: {line}\n"),
-                      place.spread("--jobs=1", *DECOY))
-    place.write("CERT.parts/spread.json", json.dumps(whole))
-    for text, fault in [
-        ("1", "not an object"), ('"x"', "not an object"), ("[" * 100000, "nested too deep"),
-        ('{"report": {"best": "0"}, "cert": null}', "report: not a text"),
-        ('{"report": "best 0", "cert": null}', "report: not of its form"),
-        ('{"report": ""}', "no entry `cert`"),
-        ('{"report": "", "cert": "x"}', "cert: not of its form"),
-    ]:
-        place.write("CERT.parts/1.done", text)
-        yield compare(f"what part 1 has left is {text[:40]}", (
-            2, "", f"error: CERT.parts/1.done is malformed ({fault}): remove it to run part 1 "
-            "again\n"), place.spread(*PARTS))
-    for name, make in [("spread.json", os.mkfifo), ("1.done", os.mkfifo), ("t.red", os.mkfifo)]:
-        unfinished(place)
-        replaced(place.folder / "CERT.parts" / name, make)
-        status, out, err = place.spread(*PARTS)
-        yield compare(f"{name} is a FIFO", (2, "", True), (
-            status, out, err.startswith("error: ") and name in err))
-
-
-def forged_reports(place):
-    """Writes into the report and the results of a study what no study writes."""
-    place.study(*STUDY)
-    mark = json.loads(place.read("t.study/study.json"))
-    for text in ["1", "{}", "[" * 100000, json.dumps({"ranking": [1]})]:
-        place.write("t.study/report.json", text)
-        digest = digest_of(place.folder / "t.study/report.json")
-        mark["stages"]["report"]["files"]["report.json"] = digest
-        place.write("t.study/study.json", json.dumps(mark))
-        status, _, err = place.study(*STUDY)
-        yield compare(f"a report.json that is {text[:40]}", (
-            2, "error: t.study/report.json is malformed: give --anew to begin again\n"),
-            (status, err))
-    for name, result, fault in [
-        ("best", {"fights": "9", "check": ""}, ".fights: not a whole number"),
-        ("fresh 1", {"0": ["2"]}, ".0[0]: not of its form"), ("winner", [], ": not null"),
-    ]:
-        stages = mark["stages"] | {name: mark["stages"][name] | {"result": result}}
-        place.write("t.study/study.json", json.dumps(mark | {"stages": stages}))
-        yield compare(f"a stage {name} with {result}", (
-            2, "", f"error: t.study/study.json: stages.{name}.result{fault}\n"),
-            place.study(*STUDY))
-
-
-def files_of_races(place):
-    """Puts links, and what never ends, where a study keeps what a race has played."""
-    victim(place)
-    place.write("victim/secret", "mine, without a line feed")
-    words = ["--exact=9", "--fights=1000", "p.red", "all"]
-    place.study(*words)
-    mark, before = json.loads(place.read("p.study/study.json")), texts(place, "victim")
-    stages = {"inputs": mark["stages"]["inputs"]}
-    place.write("p.study/study.json", json.dumps(mark | {"stages": stages}))
-    for name, what, make in [
-        ("race.jsonl", "a link", link_to("../victim/secret")), ("race.jsonl", "a FIFO", os.mkfifo),
-        ("race.jsonl", "another name of a file", lambda path: os.link(
-            place.folder / "victim/secret", path)),
-        ("challenge.jsonl", "a link", link_to("../victim/none")),
-        ("challenge.jsonl", "a folder", os.mkdir),
-    ]:
-        path = place.folder / "p.study" / name
-        replaced(path, make)
-        yield compare(f"{name} is {what}", (
-            2, "", f"error: p.study/{name} is {what}, and is not touched\n", before),
-            (*place.study(*words), texts(place, "victim")))
-        replaced(path, lambda path: None)
-    yield compare("without them the study goes on", 0, place.study(*words).status)
-
-
-def missing_copies(place):
-    """Removes copies and results, as a kill of an older version may have."""
-    place.clear()
-    unbroken = place.found(DECOY, place.spread(*PARTS))
-    for names in [["t.red"], ["cwtune", "s.csv"], ["o1.red", "1.cert"]]:
-        unfinished(place)
-        for name in names:
-            (place.folder / "CERT.parts" / name).unlink(missing_ok=True)
-        yield compare(f"without {names} the parts go on", unbroken,
-                      place.found(DECOY, place.spread(*PARTS)))
-
-
-def missing_files(place):
-    """Removes files of a study that is done."""
-    place.study(*STUDY)
-    report = place.report("t")
-    for name in ["opponents/imp.red", "box.red", "fresh/1.csv", "best.cert"]:
-        (place.folder / "t.study" / name).unlink()
-        yield compare(f"without {name} the study goes on", (0, True, report), (
-            place.study(*STUDY).status, place.read(f"t.study/{name}") is not None,
-            place.report("t")))
-
-
-def at_unlink(place, number, signal_name, name, words):
-    """Sends a command a signal at the unlink of this number. Returns whether that ended it."""
-    if not shutil.which("strace"):
-        raise LeftOut("no strace")
-    inject = f"inject=unlink,unlinkat:signal={signal_name}:when={number}"
-    argv = ["strace", "-o", "/dev/null", "-e", "trace=unlink,unlinkat", "-e", inject,
-            *command(name, "--program", place.program, *words)]
-    with subprocess.Popen(argv, cwd=place.folder, stdin=subprocess.DEVNULL,
-                          stdout=subprocess.DEVNULL, stderr=subprocess.DEVNULL) as job:
-        return job.wait(SECONDS) < 0
-
-
-def kills_of_spreads(place):
-    """Kills a tuning and its check at each file that they remove, and repeats the command."""
-    words = ["--check", "--shares=1", "--jobs=1", "--parts=2", *DECOY[:4]]
-    place.write("schedule.csv", "opponent,position,first\n0,3670,c\n")
-    unbroken = place.spread(*words)
-    (place.folder / "CERT").unlink()
-    number, met = 0, True
-    while met:
-        number += 1
-        for signal_name in ["KILL", "INT"]:
-            met = at_unlink(place, number, signal_name, "cwtune-spread", words)
-            came = place.spread(*words)
-            yield compare(f"{signal_name} at unlink {number}", (*unbroken[::2], True), (
-                *came[::2], unbroken.out.splitlines()[:5] == came.out.splitlines()[:5]))
-            (place.folder / "CERT").unlink(missing_ok=True)
-    yield compare("kills met a spread that removes its folders", True,
-                  number > 15)
-
-
-def kills_of_studies(place, step=11):
-    """Kills a study that begins anew at each eleventh file that it removes, or each `step`, and
-    repeats the command."""
-    words = [*place.words(*STUDY)[2:], "--rounds=1", "--fresh=1"]
-    place.study(*words)
-    report = place.report("t")
-    files = sum(path.is_file() for path in (place.folder / "t.study").rglob("*"))
-    shutil.copytree(place.folder / "t.study", place.folder / "kept")
-    number, met = 1, True
-    while met:
-        signal_name = ["KILL", "INT"][number % 2]
-        shutil.rmtree(place.folder / "t.study")
-        shutil.copytree(place.folder / "kept", place.folder / "t.study")
-        met = at_unlink(place, number, signal_name, "cwtune-study", ["--anew", *words])
-        status, _, err = place.study(*words)
-        faults = [line for line in err.splitlines() if line.startswith(FAULTS)]
-        yield compare(f"{signal_name} at unlink {number}", (0, [], report), (
-            status, faults, place.report("t")))
-        number += step
-    yield compare("kills met a study that removes its files", True,
-                  number > files)
+def victim_of(path):
+    """Returns the folder of the user that is beside the work folder of a path."""
+    while not (path / "victim").is_dir():
+        path = path.parent
+    return path / "victim"
 
 
 class Fuzz:
-    """Work folders, each damaged in one place by chance, and what the commands make of them."""
+    """Work folders, each damaged in one place by chance, and what a command makes of them."""
 
-    def __init__(self, place, kind, module, name, words):
-        self.place, self.kind, self.module, self.words = place, kind, module, words
-        self.path, self.kept = place.folder / name, place.folder / f"kept.{kind}"
+    def __init__(self, trial, module, name, words):
+        self.trial, self.module, self.name = trial, module, name
+        self.words = ["--program", trial.program, *words]
+        self.path, self.kept = trial.folder / name, trial.folder / f"kept.{name}"
         self.path.rename(self.kept)
         self.names = [str(path.relative_to(self.kept)) for path in sorted(self.kept.rglob("*"))]
         self.right = self.run_in_copy(lambda: None)
@@ -296,37 +53,37 @@ class Fuzz:
     def run_in_copy(self, damage):
         """Damages a copy of the folder. Returns how the command ends: its status, the lines of its
         output but `fights`, and its standard error."""
-        place = self.place
-        replaced(self.path, lambda path: None)
-        if self.kind == "parts":
-            (place.folder / "CERT").unlink(missing_ok=True)
+        removed(self.path)
+        if self.name == "CERT.parts":
+            removed(self.trial.folder / "CERT")
+        if self.name == "CERT.shares":
+            self.trial.tune(*DECOY)
         shutil.copytree(self.kept, self.path, symlinks=True)
         damage()
-        status, out, err = in_process(self.module, self.words, place.folder)
+        status, out, err = in_process(self.module, self.words, self.trial.folder)
         return status, [line for line in out.splitlines() if line[:7] != "fights "], err
 
-    def case(self, dice):
-        """Plays a case. Returns its name, and what was wrong."""
+    def play(self, dice):
+        """Plays a case by chance."""
         name = dice.choice([".", *self.names])
         how, make = dice.choice(DAMAGES)
-        path = self.path if name == "." else self.path / name
-        outside = texts(self.place, "victim")
-        came = self.run_in_copy(lambda: damage(path, make, dice))
+        outside = self.trial.texts_of("victim")
+
+        def damage():
+            path = self.path if name == "." else self.path / name
+            text = path.read_bytes() if path.is_file() else b""
+            replaced(path, lambda path: make(path, text, dice))
+
+        came = self.run_in_copy(damage)
         wrong = [word for word in ["Traceback", "a fault of this command"] if word in came[2]]
-        if texts(self.place, "victim") != outside or len(os.listdir(
-                self.place.folder / "victim")) != len(outside):
+        if self.trial.texts_of("victim") != outside or len(os.listdir(
+                self.trial.folder / "victim")) != len(outside):
             wrong.append("it touched what is outside")
         if came[0] not in (0, 1, 2, 3) or came[0] and came[2].count("\n") != 1:
             wrong.append(f"ended with {came}")
         if came[0] == 0 and how != "random JSON" and came[1] != self.right[1]:
             wrong.append(f"expected {self.right}, came {came}")
-        return f"{self.kind}: {name} is {how}", wrong
-
-
-def damage(path, make, dice):
-    """Puts something by chance where a file is."""
-    text = path.read_bytes() if path.is_file() else b""
-    replaced(path, lambda path: make(path, text, dice))
+        self.trial.wrong(f"{self.name}: {name} is {how}", wrong)
 
 
 def random_json(path, text, dice):
@@ -377,13 +134,6 @@ DAMAGES = [
 ]
 
 
-def victim_of(path):
-    """Returns the folder of the user that is beside the work folder of a path."""
-    while not (path / "victim").is_dir():
-        path = path.parent
-    return path / "victim"
-
-
 def in_process(module, words, folder):
     """Runs a command in a copy of this process, which saves its start. Returns its status, what it
     printed, and its standard error. It is ended after half a minute."""
@@ -404,43 +154,230 @@ def in_process(module, words, folder):
             finally:
                 os._exit(99)
         status = os.waitstatus_to_exitcode(os.waitpid(pid, 0)[1])
-        return status, *(read_again(file) for file in (out, err))
+        out.seek(0), err.seek(0)
+        return status, *(file.read().decode(errors="replace") for file in (out, err))
 
 
-def read_again(file):
-    file.seek(0)
-    return file.read().decode(errors="replace")
+class OwnFolders(SpreadTrial, StudyTrial):
+    """Work folders of a stranger. COUNT is how many are damaged by chance, and STEP at each which
+    file that a study removes it is killed."""
 
+    FILES = {**SpreadTrial.FILES, **StudyTrial.FILES, **{
+        f"victim/{name}": "mine, without a line feed"
+        for name in ["secret", "imp.red", "1.red", "1.done", "t.red"]}}
+    COUNT, STEP = 300, 11
 
-def fuzz(program, count, seed=86):
-    """Plays `count` damaged folders: of parts, of shares, and of a study."""
-    with tempfile.TemporaryDirectory() as spread_folder, tempfile.TemporaryDirectory() as folder:
-        place, studies = SpreadPlace(program, spread_folder), StudyPlace(program, folder)
-        victim(place)
-        victim(studies)
-        given = ["--program", program]
-        unfinished(place)
-        kinds = [Fuzz(place, "parts", spread, "CERT.parts", [*given, *PARTS])]
-        place.tune(*DECOY)
-        unfinished(place, SHARES)
-        kinds.append(Fuzz(place, "shares", spread, "CERT.shares", [*given, *SHARES]))
-        studies.study(*STUDY)
-        kinds.append(Fuzz(studies, "study", study, "t.study", studies.words(*STUDY)))
-        for index in range(count):
-            dice = random.Random(seed * 1000003 + index)
-            kind = kinds[index % 3]
-            if kind.kind == "shares":
-                place.tune(*DECOY)
-            yield kind.case(dice)
+    def untouched(self, name, expected, came):
+        """Compares, and also the folder of the user with what it was."""
+        files = {self.folder / file: text.encode() for file, text in self.FILES.items()
+                 if file.startswith("victim/")}
+        self.same(name, (expected, files), (came, self.texts_of("victim")))
 
+    def test_links_of_studies(self):
+        """Puts links to files and folders of the user in a study."""
+        self.same("a study", 0, self.study(*STUDY).status)
+        shutil.copytree(self.folder / "t.study", self.folder / "kept")
+        secret = {"opponents": [["secret", ""]]}
+        for name, target, options, changes in [
+            ("template.red", "../victim/secret", [], {"stages": {}}),
+            ("report.html", "../victim/none", [], {}),
+            ("opponents", "../victim", [], {"stages": {}}),
+            ("opponents", "../victim", ["--anew"], {"of": secret}),
+            ("opponents/imp.red", "../../victim/secret", [], {"stages": {}}),
+            ("fresh", "../victim", ["--anew"], {}),
+            ("fresh/1.red", "../../victim/secret", ["--anew"], {}),
+            ("best.cert.parts", "../victim", ["--anew"], {}),
+            ("log.txt.1.new", "../victim/secret", [], {}),
+        ]:
+            shutil.rmtree(self.folder / "t.study")
+            shutil.copytree(self.folder / "kept", self.folder / "t.study")
+            self.mark("t", **changes)
+            replaced(self.folder / "t.study" / name, link_to(target))
+            self.untouched(f"{name}, a link to {target} {options}", (
+                2, "", f"error: t.study/{name} is a link, and is not touched\n"),
+                self.study(*options, *STUDY))
+        replaced(self.folder / "t.study", link_to("kept"))
+        for options in [[], ["--anew"]]:
+            self.same(f"a link to a study {options}", (
+                2, "", "error: t.study is a link, and is not touched\n"),
+                self.study(*options, *STUDY))
+        (self.folder / "below").symlink_to(self.folder)
+        self.same("a path through a link", 0, self.study("--out=below/kept", *STUDY).status)
 
-def trials(program, count=300):
-    return (in_folders(lambda folder: SpreadPlace(program, folder), [
-                links_of_spreads, forged, missing_copies, kills_of_spreads])
-            | in_folders(lambda folder: StudyPlace(program, folder), [
-                links_of_studies, files_of_races, forged_reports, missing_files,
-                kills_of_studies])
-            | {"fuzz": fuzz(program, count)})
+    def test_links_of_spreads(self):
+        """Puts links to files and folders of the user in a folder of parts."""
+        for name, target in [("whole.cert", "../victim/secret"), ("4.done", "../victim/none"),
+                             ("spread.json", "../victim/secret"), ("1.2.red", "../victim/secret")]:
+            self.unfinished(*PARTS)
+            replaced(self.folder / "CERT.parts" / name, link_to(target))
+            for options in [[], ["--anew"]]:
+                status, out, err = self.spread(*options, *PARTS)
+                self.untouched(f"{name}, a link {options}", (2, "", True), (
+                    status, out, name in err and err.count("\n") == 1))
+        for words, name in [(PARTS, "CERT.parts"), (SHARES, "CERT.shares")]:
+            self.tune(*DECOY)
+            replaced(self.folder / name, link_to("victim"))
+            self.untouched(f"{name} is a link", (
+                2, "", f"error: {name} is a link, and is not touched\n"), self.spread(*words))
+            (self.folder / name).unlink()
+
+    def test_forged(self):
+        """Writes into marks, and into what pieces have left, what no command writes."""
+        self.unfinished(*PARTS)
+        whole = json.loads(self.read("CERT.parts/spread.json"))
+        for entries, line in [
+            ({"of": 1}, f"{REFUSED_MARK}of: not an object)"),
+            *(({"parts": number}, f"{REFUSED_MARK}parts: not 1 to 1000000)")
+              for number in [0, -1, 100000000]),
+            *(({"parts": number}, f"{REFUSED_MARK}parts: not a whole number)")
+              for number in [2.5, "x"]),
+            ({"parts": 127}, "CERT.parts/spread.json: more parts than settings"),
+            ({"count": 10 ** 9}, f"{REFUSED_MARK}count: not 1 to 1000000)"),
+            ({"count": 1000}, "CERT.parts/spread.json: count: not 126"),
+            ({"piece": []}, f"{REFUSED_MARK}piece: not a text)"),
+        ]:
+            self.write("CERT.parts/spread.json", json.dumps(whole | entries))
+            self.same(f"a mark with {entries}", (2, "", f"error: {line}\n"),
+                      self.spread("--jobs=1", *DECOY))
+        self.write("CERT.parts/spread.json", json.dumps(whole))
+        for text, fault in [
+            ("1", "not an object"), ('"x"', "not an object"), ("[" * 100000, "nested too deep"),
+            ('{"report": {"best": "0"}, "cert": null}', "report: not a text"),
+            ('{"report": "best 0", "cert": null}', "report: not of its form"),
+            ('{"report": ""}', "no entry `cert`"),
+            ('{"report": "", "cert": "x"}', "cert: not of its form"),
+        ]:
+            self.write("CERT.parts/1.done", text)
+            self.same(f"what part 1 has left is {text[:40]}", (
+                2, "", f"error: CERT.parts/1.done is malformed ({fault}): remove it to run part 1 "
+                "again\n"), self.spread(*PARTS))
+        for name in ["spread.json", "1.done", "t.red"]:
+            self.unfinished(*PARTS)
+            replaced(self.folder / "CERT.parts" / name, os.mkfifo)
+            status, out, err = self.spread(*PARTS)
+            self.same(f"{name} is a FIFO", (2, "", True), (
+                status, out, err.startswith("error: ") and name in err))
+
+    def test_forged_reports(self):
+        """Writes into the report and the results of a study what no study writes."""
+        self.study(*STUDY)
+        stages = self.mark("t")["stages"]
+        for text in ["1", "{}", "[" * 100000, json.dumps({"ranking": [1]})]:
+            self.write("t.study/report.json", text)
+            digest = digest_of(self.folder / "t.study/report.json")
+            stages["report"]["files"]["report.json"] = digest
+            self.mark("t", stages=stages)
+            status, _, err = self.study(*STUDY)
+            self.same(f"a report.json that is {text[:40]}", (
+                2, "error: t.study/report.json is malformed: give --anew to begin again\n"),
+                (status, err))
+        for name, result, fault in [
+            ("best", {"fights": "9", "check": ""}, ".fights: not a whole number"),
+            ("fresh 1", {"0": ["2"]}, ".0[0]: not of its form"), ("winner", [], ": not null"),
+        ]:
+            self.mark("t", stages=stages | {name: stages[name] | {"result": result}})
+            self.same(f"a stage {name} with {result}", (
+                2, "", f"error: t.study/study.json: stages.{name}.result{fault}\n"),
+                self.study(*STUDY))
+
+    def test_files_of_races(self):
+        """Puts links, and what never ends, where a study keeps what a race has played."""
+        words = ["--exact=9", "--fights=1000", "p.red", "all"]
+        self.study(*words)
+        self.mark("p", stages={"inputs": self.mark("p")["stages"]["inputs"]})
+        for name, what, make in [
+            ("race.jsonl", "a link", link_to("../victim/secret")),
+            ("race.jsonl", "a FIFO", os.mkfifo),
+            ("race.jsonl", "another name of a file", lambda path: os.link(
+                self.folder / "victim/secret", path)),
+            ("challenge.jsonl", "a link", link_to("../victim/none")),
+            ("challenge.jsonl", "a folder", os.mkdir),
+        ]:
+            path = self.folder / "p.study" / name
+            replaced(path, make)
+            self.untouched(f"{name} is {what}", (
+                2, "", f"error: p.study/{name} is {what}, and is not touched\n"),
+                self.study(*words))
+            removed(path)
+        self.same("without them the study goes on", 0, self.study(*words).status)
+
+    def test_missing_copies(self):
+        """Removes copies and results, as a kill of an older version may have."""
+        unbroken = self.found(DECOY, self.spread(*PARTS))
+        for names in [["t.red"], ["cwtune", "s.csv"], ["o1.red", "1.cert"]]:
+            self.unfinished(*PARTS)
+            for name in names:
+                (self.folder / "CERT.parts" / name).unlink(missing_ok=True)
+            self.same(f"without {names} the parts go on", unbroken,
+                      self.found(DECOY, self.spread(*PARTS)))
+
+    def test_missing_files(self):
+        self.study(*STUDY)
+        report = self.report("t")
+        for name in ["opponents/imp.red", "box.red", "fresh/1.csv", "best.cert"]:
+            (self.folder / "t.study" / name).unlink()
+            self.same(f"without {name} the study goes on", (0, True, report), (
+                self.study(*STUDY).status, self.read(f"t.study/{name}") is not None,
+                self.report("t")))
+
+    def at_unlink(self, number, signal_name, *words):
+        """Sends a command a signal at the unlink of this number. Returns whether that ended it."""
+        inject = f"inject=unlink,unlinkat:signal={signal_name}:when={number}"
+        argv = ["strace", "-o", "/dev/null", "-e", "trace=unlink,unlinkat", "-e", inject,
+                *command(*self.words(*words))]
+        return subprocess.run(argv, cwd=self.folder, stdin=subprocess.DEVNULL, timeout=SECONDS,
+                              capture_output=True).returncode < 0
+
+    def test_kills_of_spreads(self):
+        """Kills a tuning and its check at each file that they remove, and repeats the command."""
+        self.need("strace")
+        words = ["--check", "--shares=1", "--jobs=1", "--parts=2", *DECOY[:4]]
+        self.write("schedule.csv", "opponent,position,first\n0,3670,c\n")
+        unbroken = self.spread(*words)
+        (self.folder / "CERT").unlink()
+        number, met = 0, True
+        while met:
+            number += 1
+            for signal_name in ["KILL", "INT"]:
+                met = self.at_unlink(number, signal_name, "cwtune-spread", *words)
+                came = self.spread(*words)
+                self.same(f"{signal_name} at unlink {number}", (*unbroken[::2], True), (
+                    *came[::2], unbroken.out.splitlines()[:5] == came.out.splitlines()[:5]))
+                (self.folder / "CERT").unlink(missing_ok=True)
+        self.same("kills met a spread that removes its folders", True, number > 15)
+
+    def test_kills_of_studies(self):
+        """Kills a study that begins anew at some of the files that it removes, and repeats the
+        command."""
+        self.need("strace")
+        words = [*FEW, "--rounds=1", "--fresh=1", *STUDY]
+        self.study(*words)
+        report = self.report("t")
+        files = sum(path.is_file() for path in (self.folder / "t.study").rglob("*"))
+        shutil.copytree(self.folder / "t.study", self.folder / "kept")
+        number, met = 1, True
+        while met:
+            signal_name = ["KILL", "INT"][number % 2]
+            shutil.rmtree(self.folder / "t.study")
+            shutil.copytree(self.folder / "kept", self.folder / "t.study")
+            met = self.at_unlink(number, signal_name, "cwtune-study", "--anew", *words)
+            status, _, err = self.study(*words)
+            faults = [line for line in err.splitlines() if line.startswith(FAULTS)]
+            self.same(f"{signal_name} at unlink {number}", (0, [], report), (
+                status, faults, self.report("t")))
+            number += self.STEP
+        self.same("kills met a study that removes its files", True, number > files)
+
+    def test_fuzz(self):
+        self.unfinished(*PARTS)
+        kinds = [Fuzz(self, spread, "CERT.parts", PARTS)]
+        self.tune(*DECOY)
+        self.unfinished(*SHARES, kind="shares")
+        kinds.append(Fuzz(self, spread, "CERT.shares", SHARES))
+        self.study(*STUDY)
+        kinds.append(Fuzz(self, study, "t.study", [*FEW, *STUDY]))
+        for index in range(self.COUNT):
+            kinds[index % 3].play(random.Random(86 * 1000003 + index))
 
 
 def main():
@@ -451,12 +388,9 @@ def main():
                         help="kill a study at each file that it removes, too")
     add_built(parser)
     args = parser.parse_args()
-    program = program_of(args.program)
-    all_trials = {"fuzz": fuzz(program, args.count)}
-    if args.kills:
-        all_trials["kills"] = in_folder(lambda folder: StudyPlace(program, folder),
-                                        lambda place: kills_of_studies(place, 1))
-    return tally(played(all_trials))
+    OwnFolders.COUNT, OwnFolders.STEP = args.count, 1
+    names = ["fuzz", "kills_of_studies"] if args.kills else ["fuzz"]
+    return play(args.program, map(OwnFolders, [f"test_{name}" for name in names]))
 
 
 if __name__ == "__main__":

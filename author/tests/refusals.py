@@ -3,11 +3,9 @@
 A table has what is refused for one reason. Its files are beside those of examples/tuning/, and the
 names of those that are refused say what is wrong with them.
 """
-import os, pathlib, tempfile
+import os
 
-from gate.tally import compare
-
-from .commands import TUNING, Refusal, printed, refused, run, usage_error
+from .trial import TUNING, Refusal, Trial, python_with_matplotlib, usage_error
 
 # Files that are read as they should be.
 RIGHT = {
@@ -74,8 +72,8 @@ WRONG_WARRIORS = {
     "two-equs.red": b"STEP EQU 5\nSTEP EQU x\nMOV 0, STEP\n",
     "no-candidate.red": b";@tune K 0 1 1 0\nJMP x\n",
 }
-FILES = (RIGHT | NOT_OF_ANY_KIND | NOT_SCHEDULES | NOT_CERTIFICATES | WRONG_CERTIFICATES
-         | WRONG_TEMPLATES | WRONG_WARRIORS)
+FILES = ({path.name: path.read_bytes() for path in TUNING.iterdir()} | RIGHT | NOT_OF_ANY_KIND
+         | NOT_SCHEDULES | NOT_CERTIFICATES | WRONG_CERTIFICATES | WRONG_TEMPLATES | WRONG_WARRIORS)
 
 NO_FILE = "No such file or directory"
 CANNOT_BE_READ = [
@@ -173,6 +171,9 @@ WRONG_PICTURES = [
     *(usage_error(f"cwtune-landscape step.red step.cert {name}",
                   f"the picture's name has to end with .png or .svg: {name}")
       for name in ["x.jpg", "x", "png"]),
+    *(usage_error(f"cwtune-landscape step.red step.cert x.svg --effects={name}",
+                  f"the picture's name has to end with .png or .svg: {name}")
+      for name in ["y.jpg", "svg"]),
 ]
 WRONG_INPUTS = [
     usage_error("cwtune-scores four-rules.cert",
@@ -215,37 +216,34 @@ NOT_DRAWN = [
 ]
 
 
-def trials(python):
-    """Gives the commands what they have to refuse. `python` is one that has matplotlib, or None."""
-    with tempfile.TemporaryDirectory() as folder:
-        for path in TUNING.iterdir():
-            pathlib.Path(folder, path.name).write_bytes(path.read_bytes())
-        for name, text in FILES.items():
-            pathlib.Path(folder, name).write_bytes(text)
-        os.symlink("loop", f"{folder}/loop")
-        before = sorted(os.listdir(folder))
-        yield from refused(REFUSALS, lambda words: run(*words, folder=folder))
-        yield from refused(NOT_DRAWN * bool(python),
-                           lambda words: run(*words, folder=folder, python=python))
-        yield compare("refusals write no file", before, sorted(os.listdir(folder)))
-        yield from shown(folder)
+class Refusals(Trial):
+    FILES = FILES
 
+    def test_refusals(self):
+        os.symlink("loop", self.folder / "loop")
+        before = sorted(os.listdir(self.folder))
+        self.refused(REFUSALS)
+        if python := python_with_matplotlib():
+            self.refused(NOT_DRAWN, python=python)
+        self.same("refusals write no file", before, sorted(os.listdir(self.folder)))
 
-def shown(folder):
-    """Shows certificates that have something in common with those that are refused."""
-    for name, line in [
-        ("below-floor.cert", "certificate, version 1, of 2 settings: none reaches the floor 4"),
-        ("plain.cert", "certificate, version 1, of 1 setting: best 0 total 3"),
-    ]:
-        yield compare(f"cwtune-files {name}", f"{name}: {line}\n",
-                      printed("cwtune-files", name, folder=folder))
-    for name, words, lines in [
-        ("one-exact.cert", [], ["only the first of the ranking is exact; cwtune tune --keep 10 "
-                                "makes the first 10 exact", "setting 1: total 4"]),
-        ("two-exact.cert", ["--top=2"], ["the first 2 of the ranking are exact",
-                                         "setting 1: total 4", "setting 0: total 3"]),
-    ]:
-        output = printed("cwtune-scores", name, "two.csv", *words, folder=folder)
-        yield compare(f"the ranking of {name}", [
-            "3 settings played all fights, 1 was dropped", *lines],
-            [line.strip() for line in output.splitlines()[2:-1]])
+    def test_shown(self):
+        """Shows certificates that have something in common with those that are refused."""
+        for name, line in [
+            ("below-floor.cert", "certificate, version 1, of 2 settings: none reaches the floor 4"),
+            ("plain.cert", "certificate, version 1, of 1 setting: best 0 total 3"),
+        ]:
+            self.same(f"cwtune-files {name}", (0, f"{name}: {line}\n", ""),
+                      self.call(f"cwtune-files {name}"))
+        for words, lines in [
+            ("one-exact.cert two.csv", [
+                "only the first of the ranking is exact; cwtune tune --keep 10 makes the first 10 "
+                "exact", "setting 1: total 4"]),
+            ("two-exact.cert two.csv --top=2", [
+                "the first 2 of the ranking are exact", "setting 1: total 4",
+                "setting 0: total 3"]),
+        ]:
+            output = self.call(f"cwtune-scores {words}").out
+            self.same(f"the ranking of {words}", [
+                "3 settings played all fights, 1 was dropped", *lines],
+                [line.strip() for line in output.splitlines()[2:]])

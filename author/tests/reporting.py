@@ -2,11 +2,11 @@
 import copy, html.parser, re
 from xml.etree import ElementTree
 
-from author.lib import study_charts, study_map, study_page
-from author.lib.study_report import html_of
-from gate.tally import compare
+from author.lib.study import charts, maps, page as pieces
+from author.lib.study.report import html_of
 
 from .report_samples import HOSTILE, REPORTS
+from .trial import Trial
 
 # The tags and the attributes of which a page may be made.
 TAGS = set("html head meta title style body main h1 h2 h3 p strong span ul li code div table "
@@ -116,117 +116,103 @@ def faults_of(page, reader):
             *(word for word in ("url(", "@import") if word in page.lower())]
 
 
-def pages():
-    """Makes the page of each report."""
-    for name, report in REPORTS.items():
-        page, constants = html_of(report), len(report["effects"])
-        reader = Reader(page)
-        yield f"the page of {name}", faults_of(page, reader)
-        expected = 1 + bool(report["landscape"]) + (constants if constants > 1 else 0)
-        yield compare(f"the pictures of {name}", expected, pictures(page)[0])
-        # Of many totals the page has the picture alone.
-        if name not in ("many settings", "many values"):
-            yield f"the numbers of {name}", missing(report, " ".join(reader.words))
+class Reporting(Trial):
+    def says(self, report, *wanted, **changes):
+        """Compares the page of a changed report with sentences that it has to have."""
+        words = re.sub(" +", " ", words_of(report | changes))
+        for sentence in wanted:
+            self.wrong(f"the page says: {sentence}", [] if sentence in words else [words[:1500]])
 
+    def test_pages(self):
+        for name, report in REPORTS.items():
+            page, constants = html_of(report), len(report["effects"])
+            reader = Reader(page)
+            self.wrong(f"the page of {name}", faults_of(page, reader))
+            expected = 1 + bool(report["landscape"]) + (constants if constants > 1 else 0)
+            self.same(f"the pictures of {name}", expected, pictures(page)[0])
+            # Of many totals the page has the picture alone.
+            if name not in ("many settings", "many values"):
+                self.wrong(f"the numbers of {name}", missing(report, " ".join(reader.words)))
 
-def alone():
-    """Looks for what a page would fetch. The words of a report are text, and may name it."""
-    for name in ("one constant", "two constants", "four constants"):
-        page = html_of(REPORTS[name]).lower()
-        yield f"{name}: nothing to fetch", [
-            word for word in ("http", "src=", "href", "<script", "<link") if word in page]
-    page = html_of(REPORTS["a hostile report"])
-    yield "nothing hostile is a tag", [word for word in ("<script", "<img", "\x1b", "\u202e", "\r")
-                                       if word in page]
-    words = words_of(REPORTS["a hostile report"])
-    yield "hostile names are shown", [
-        name for name in HOSTILE[:2] + HOSTILE[3:5] if words.count(name) < 5]
+    def test_alone(self):
+        """Looks for what a page would fetch. The words of a report are text, and may name it."""
+        for name in ("one constant", "two constants", "four constants"):
+            page = html_of(REPORTS[name]).lower()
+            self.wrong(f"{name}: nothing to fetch", [
+                word for word in ("http", "src=", "href", "<script", "<link") if word in page])
+        page = html_of(REPORTS["a hostile report"])
+        self.wrong("nothing hostile is a tag", [
+            word for word in ("<script", "<img", "\x1b", "\u202e", "\r") if word in page])
+        words = words_of(REPORTS["a hostile report"])
+        self.wrong("hostile names are shown", [
+            name for name in HOSTILE[:2] + HOSTILE[3:5] if words.count(name) < 5])
 
+    def test_sentences(self):
+        report = copy.deepcopy(REPORTS["two constants"])
+        start, winner_values = report["start"], report["winner"]["values"]
+        for percent, error, words, sentence in [
+                (12.34, 1.23, "a gain", "12.3 ± 1.2 percentage points more, a gain."),
+                (-0.45, 1.2, "a loss", "0.5 ± 1.2 percentage points less, a loss. Keep START.")]:
+            gain = report["gain"] | {"percent": percent, "error": error, "words": words}
+            self.says(report, sentence, gain=gain)
+        self.says(report, "The winner is START itself.", start=start | {"values": winner_values})
+        self.says(report, "START is not in this picture: STEP 1, FIRST 4013.",
+                  start=start | {"values": winner_values | {"STEP": 1}})
+        self.says(report, "Proved: the ranking of all 134,421 settings: 7 of them do not "
+                  "assemble; each other one played all 160 fights",
+                  "–: the setting does not assemble.", "(lost)", "Marked: the winner lost "
+                  "against this opponent", "dwarf.red ", "imp-ring.red (counts 2 times)")
+        self.says(REPORTS["many values"], "Each point is the greatest total among 2 values",
+                  "(10,001 values)", "The totals are in report.json")
+        race = REPORTS["a race"]
+        luck = f"{17.25 - race['gain']['percent']:.1f} of these were luck."
+        self.says(race, "1513 of the template's 134,421 settings raced, in 51,234 fights.", luck)
+        self.says(race, "Nothing better than START was found.", gain=None)
+        self.says(REPORTS["a race and a box"], "Proved: the first 10 of the 243 settings around "
+                  "the race's winner, of which 31 do not assemble, in 96 fights each.",
+                  "none of them was better")
+        self.says(REPORTS["a race and a box that was checked"], "accepted best 7 total 99",
+                  "took its place")
 
-def says(report, *wanted, **changes):
-    """Yields sentences that the page of a changed report has to have."""
-    words = re.sub(" +", " ", words_of(report | changes))
-    for sentence in wanted:
-        yield f"the page says: {sentence}", [] if sentence in words else [words[:1500]]
+    def test_lists(self):
+        """Makes pages of constants that are indices of lists: no page shows an index."""
+        for name in ["one constant", "two constants", "four constants"]:
+            report = copy.deepcopy(REPORTS[name]) | {"winner_text": ""}
+            for constant in report["constants"]:
+                constant["list"] = [f"v{value}" for value in range(7000)]
+                constant["list"][constant["box"][-1]] = ""
+            page, values = html_of(report), report["landscape"]["values"]
+            self.wrong(f"{name}: no index is shown", [
+                str(value) for constant in report["constants"] for value in constant["box"]
+                if re.search(rf"(?<![v0-9.#]){value}(?![0-9])", page)])
+            self.same(f"{name}: what is in the lists is shown", (True, True), (
+                f">v{values[-1][0]}<" in page, ">-<" in page))
+        self.says(report, "PLACE is held at v6013", "START is not in this picture: STEP v3005")
 
-
-def sentences():
-    """Makes pages whose words depend on the report."""
-    report = copy.deepcopy(REPORTS["two constants"])
-    start, winner_values = report["start"], report["winner"]["values"]
-    for percent, error, words, sentence in [
-            (12.34, 1.23, "a gain", "12.3 ± 1.2 percentage points more, a gain."),
-            (-0.45, 1.2, "a loss", "0.5 ± 1.2 percentage points less, a loss. Keep START.")]:
-        gain = report["gain"] | {"percent": percent, "error": error, "words": words}
-        yield from says(report, sentence, gain=gain)
-    yield from says(report, "The winner is START itself.", start=start | {"values": winner_values})
-    yield from says(report, "START is not in this picture: STEP 1, FIRST 4013.",
-                    start=start | {"values": winner_values | {"STEP": 1}})
-    yield from says(report, "Proved: the ranking of all 134,421 settings: 7 of them do not "
-                    "assemble; each other one played all 160 fights",
-                    "–: the setting does not assemble.", "(lost)", "Marked: the winner lost "
-                    "against this opponent", "dwarf.red ", "imp-ring.red (counts 2 times)")
-    yield from says(REPORTS["many values"], "Each point is the greatest total among 2 values",
-                    "(10,001 values)", "The totals are in report.json")
-    race = REPORTS["a race"]
-    luck = f"{17.25 - race['gain']['percent']:.1f} of these were luck."
-    yield from says(race, "1513 of the template's 134,421 settings raced, in 51,234 fights.", luck)
-    yield from says(race, "Nothing better than START was found.", gain=None)
-    yield from says(REPORTS["a race and a box"], "Proved: the first 10 of the 243 settings around "
-                    "the race's winner, of which 31 do not assemble, in 96 fights each.",
-                    "none of them was better")
-    yield from says(REPORTS["a race and a box that was checked"], "accepted best 7 total 99",
-                    "took its place")
-
-
-def lists():
-    """Makes pages of constants that are indices of lists: no page shows an index."""
-    for name in ["one constant", "two constants", "four constants"]:
-        report = copy.deepcopy(REPORTS[name]) | {"winner_text": ""}
-        for constant in report["constants"]:
-            constant["list"] = [f"v{value}" for value in range(7000)]
-            constant["list"][constant["box"][-1]] = ""
-        page, values = html_of(report), report["landscape"]["values"]
-        yield f"{name}: no index is shown", [
-            str(value) for constant in report["constants"] for value in constant["box"]
-            if re.search(rf"(?<![v0-9.#]){value}(?![0-9])", page)]
-        yield compare(f"{name}: what is in the lists is shown", (True, True), (
-            f">v{values[-1][0]}<" in page, ">-<" in page))
-    yield from says(report, "PLACE is held at v6013", "START is not in this picture: STEP v3005")
-
-
-def landscapes():
-    """Reads totals, and thins them."""
-    plain_list = {"axes": ["K"], "values": [[1, 2, 3]], "totals": [5, None, 7]}
-    spellings = [plain_list, plain_list | {"totals": [[5], [None], [7]]},
-                 plain_list | {"totals": [[5, None, 7]]}]
-    yield compare("totals of one constant", 3 * [[[5, None, 7]]],
-                  [study_map.read_landscape(spelling, {}).totals for spelling in spellings])
-    landscape = study_map.Landscape(["A", "B"], [[1, 2, 3], [4, 5]],
-                                    [[1, 2], [3, None], [None, None]])
-    step, thin = study_map.thinned(landscape, 2)
-    yield compare("thinned", (2, [[3], [None]], [[1, 3], [4]]), (step, thin.totals, thin.ranges))
-    yield compare("places", [(1, 1), None],
+    def test_landscapes(self):
+        plain_list = {"axes": ["K"], "values": [[1, 2, 3]], "totals": [5, None, 7]}
+        spellings = [plain_list, plain_list | {"totals": [[5], [None], [7]]},
+                     plain_list | {"totals": [[5, None, 7]]}]
+        self.same("totals of one constant", 3 * [[[5, None, 7]]],
+                  [maps.read_landscape(spelling, {}).totals for spelling in spellings])
+        landscape = maps.Landscape(["A", "B"], [[1, 2, 3], [4, 5]],
+                                        [[1, 2], [3, None], [None, None]])
+        step, thin = maps.thinned(landscape, 2)
+        self.same("thinned", (2, [[3], [None]], [[1, 3], [4]]), (step, thin.totals, thin.ranges))
+        self.same("places", [(1, 1), None],
                   [landscape.place({"A": 2, "B": 5}), landscape.place({"A": 9, "B": 5})])
-    yield compare("shades", [0, 3, 6],
-                  [study_map.shade_of(total, 10, 80) for total in (10, 45, 80)])
+        self.same("shades", [0, 3, 6],
+                  [maps.shade_of(total, 10, 80) for total in (10, 45, 80)])
 
-
-def numbers():
-    """Spells numbers and texts."""
-    yield compare("escaped", "&lt;&amp;&quot;&#x27;\ufffd\n", study_page.escaped("<&\"'\udcff\r\n"))
-    yield compare("counts", ["–", "0", "9999", "10,000", "-20"],
-                  list(map(study_page.integer, [None, 0, 9999, 10000, -20])))
-    yield compare("decimals", ["–", "–", "0.0", "-1.5", "12,345.7"],
-                  list(map(study_page.decimal, [None, float("nan"), 0, -1.5, 12345.67])))
-    # Of 3, 3, 1 and 0 points the variance is 2.25, and the error of the mean 0.75.
-    yield compare("an error", "25.0", study_page.decimal(
-        study_charts.error_of({"wins": 2, "ties": 1, "losses": 1})))
-    yield compare("ticks", [[3000, 3020, 3040], [0.5], [-1, 0, 1]],
-                  [study_charts.Scale(*ends, 0, 9).ticks()
+    def test_numbers(self):
+        self.same("escaped", "&lt;&amp;&quot;&#x27;\ufffd\n", pieces.escaped("<&\"'\udcff\r\n"))
+        self.same("counts", ["–", "0", "9999", "10,000", "-20"],
+                  list(map(pieces.integer, [None, 0, 9999, 10000, -20])))
+        self.same("decimals", ["–", "–", "0.0", "-1.5", "12,345.7"],
+                  list(map(pieces.decimal, [None, float("nan"), 0, -1.5, 12345.67])))
+        # Of 3, 3, 1 and 0 points the variance is 2.25, and the error of the mean 0.75.
+        self.same("an error", "25.0", pieces.decimal(
+            charts.error_of({"wins": 2, "ties": 1, "losses": 1})))
+        self.same("ticks", [[3000, 3020, 3040], [0.5], [-1, 0, 1]],
+                  [charts.Scale(*ends, 0, 9).ticks()
                    for ends in [(2990, 3055), (0.5, 0.5), (-1.2, 1.9)]])
-
-
-def trials():
-    return {trial.__name__: trial() for trial in (pages, alone, sentences, lists, landscapes,
-                                                  numbers)}

@@ -1,8 +1,8 @@
 """Runs a Slurm of one node, without systemd and with all that it writes in a folder, for trials."""
-import contextlib, getpass, os, pathlib, shutil, socket, subprocess, time
+import contextlib, getpass, os, pathlib, shutil, socket, subprocess
 
-from .commands import SECONDS
 from .ssh_hosts import PATH, free_port, kill_all
+from .trial import SECONDS, wait_until
 
 SERVERS = {name: shutil.which(name, path=PATH) for name in ["munged", "slurmctld", "slurmd"]}
 CONFIG = """ClusterName=trial
@@ -56,10 +56,10 @@ class Slurm:
         try:
             self.start("munged", "--foreground", "--force", f"--socket={self.folder}/socket",
                        *of_munge)
-            self.wait_for((self.folder / "socket").exists)
+            wait_until((self.folder / "socket").exists)
             self.start("slurmctld", "-D")
             self.start("slurmd", "-D")
-            self.wait_for(lambda: self.run("sinfo", "--noheader", "--format=%t") == "idle\n")
+            wait_until(lambda: self.run("sinfo", "--noheader", "--format=%t") == "idle\n")
         except BaseException:
             self.__exit__()
             raise
@@ -68,7 +68,7 @@ class Slurm:
     def __exit__(self, *_):
         with contextlib.suppress(subprocess.SubprocessError):
             self.run("scancel", f"--user={getpass.getuser()}")
-            self.wait_for(lambda: not self.queue(), 10)
+            wait_until(lambda: not self.queue(), seconds=10)
         for server in reversed(self.servers):
             kill_all(server.pid)
             server.wait()
@@ -92,13 +92,6 @@ class Slurm:
     def queue(self):
         """Returns the jobs that wait or run."""
         return self.run("squeue", "--noheader")
-
-    def wait_for(self, is_so, seconds=SECONDS):
-        deadline = time.monotonic() + seconds
-        while not is_so():
-            if time.monotonic() > deadline:
-                raise subprocess.TimeoutExpired("Slurm", seconds)
-            time.sleep(0.1)
 
     def submit(self, folder, array, *words):
         """Hands in an array of jobs. Returns its number."""

@@ -1,31 +1,25 @@
 """Plays `cwtune-study` and a race on hosts, with GNU parallel, ssh, rsync and an sshd of its own,
 and what hosts do for a race on this one."""
-import argparse, contextlib, io, os
+import argparse, contextlib, io
 from unittest import mock
 
 from author.lib import grid, race, race_fights, race_hosts
-from author.lib.endings import Fault
-from author.lib.spread_jobs import LocalJobs
+from author.lib.spread.jobs import LocalJobs
 from author.lib.writing import temporary_folder
-from gate.tally import compare
 
-from .commands import in_folders
-from .hosts import NOTHING, HostsPlace, with_hosts
-from .study_place import OPPONENTS, PLANE, StudyPlace
+from .hosts import NOTHING, OnHosts
+from .study_trial import OPPONENTS, PLANE, StudyTrial
+from .trial import came_of
 
 # A setting whose aim is 0 does not assemble.
 HOLED = PLANE.replace("aim -4 4 1 0", "aim -20 20 1 4").replace("#aim", "#aim/aim*aim")
 FEW = PLANE.replace("STEP 1 9 2 5", "STEP 3 5 2 5").replace("aim -4 4 1 0", "aim 3 3 1 3")
 
 
-class RacePlace(StudyPlace):
-    """A folder in which races are run, with a file of two hosts."""
+class RaceTrial(StudyTrial):
+    """A trial of races, with a file of two hosts."""
 
-    def __init__(self, program, folder):
-        super().__init__(program, folder)
-        self.write("holed.red", HOLED)
-        self.write("few.red", FEW)
-        self.write("hosts", "good\nshared\n")
+    FILES = StudyTrial.FILES | {"holed.red": HOLED, "few.red": FEW, "hosts": "good\nshared\n"}
 
     def arena(self, folder, program, hosts):
         """Returns an arena for holed.red."""
@@ -46,78 +40,63 @@ class RacePlace(StudyPlace):
             return found, arena.plays_of_jobs - 10 ** 9
 
 
-class RaceOnHostsPlace(RacePlace):
-    """Such a folder with hosts that answer."""
+class StudyOnHosts(OnHosts, RaceTrial):
+    """A study and a race on hosts that answer."""
 
-    remains = HostsPlace.remains
-
-    def __init__(self, program, folder, hosts):
-        super().__init__(program, folder)
-        self.hosts = hosts
-
-
-def on_hosts(place):
-    """Makes a study of a whole template here and on hosts. Then races, with the fights for the gain
-    on hosts."""
-    found = []
-    for words in [], ["--hosts=hosts"]:
-        status = place.study("--anew", *words, "few.red", "all").status
-        report = place.report("few")
-        commands = report.pop("commands")
-        found.append((status, report))
-    yield compare("a study finds the same", found[0], found[1])
-    yield compare("hosts tuned", True, any(f"--hosts={place.folder}/hosts" in command
+    def test_on_hosts(self):
+        """Makes a study of a whole template here and on hosts. Then races, with the fights for the
+        gain on hosts."""
+        found = []
+        for words in [], ["--hosts=hosts"]:
+            status = self.study("--anew", *words, "few.red", "all").status
+            report = self.report("few")
+            commands = report.pop("commands")
+            found.append((status, report))
+        self.same("a study finds the same", found[0], found[1])
+        self.same("hosts tuned", True, any(f"--hosts={self.folder}/hosts" in command
                                            for command in commands))
-    found, all_plays = place.raced()
-    # No other heat has the 119 plays that would take a minute.
-    found_on_hosts, plays = place.raced(60 / 119, place.folder / "hosts")
-    yield compare("a race finds the same", found, found_on_hosts)
-    yield compare("hosts played", 96, all_plays - plays)
-    yield compare("nothing is left", NOTHING, place.remains())
+        found, all_plays = self.raced()
+        # No other heat has the 119 plays that would take a minute.
+        found_on_hosts, plays = self.raced(60 / 119, self.folder / "hosts")
+        self.same("a race finds the same", found, found_on_hosts)
+        self.same("hosts played", 96, all_plays - plays)
+        self.same("nothing is left", NOTHING, self.remains())
 
 
-def ahead(place):
-    """Races, with all heats but the short ones ahead, by jobs of this host in place of hosts."""
-    found, all_plays = place.raced()
-    played = [points for _, of_settings in found[-1] for points in of_settings]
-    yield compare("a setting does not assemble", True, None in played)
-    played_ahead = []
+class RaceOfHosts(RaceTrial):
+    """Races with what hosts do made up."""
 
-    def play(hosts, folder):
-        points = play_pieces(hosts, folder)
-        played_ahead.extend(points)
-        return points
+    def test_ahead(self):
+        """Races, with all heats but the short ones ahead, by jobs of this host in place of
+        hosts."""
+        found, all_plays = self.raced()
+        played = [points for _, of_settings in found[-1] for points in of_settings]
+        self.same("a setting does not assemble", True, None in played)
+        played_ahead = []
 
-    play_pieces = race_hosts.Hosts.play
-    # A play takes a second, so two hosts are given 104 plays at once.
-    with (mock.patch.multiple(race_hosts, HostJobs=LocalJobs, SECONDS=13),
-          mock.patch.object(race_hosts.Hosts, "play", play)):
-        found_ahead, plays = place.raced(1, place.folder / "hosts")
-    yield compare("what is found is the same", found, found_ahead)
-    yield compare("few plays are left", True, plays < 100 < all_plays)
-    yield compare("what is played ahead is used", all_plays, plays + len(played_ahead))
+        def play(hosts, folder):
+            points = play_pieces(hosts, folder)
+            played_ahead.extend(points)
+            return points
 
+        play_pieces = race_hosts.Hosts.play
+        # A play takes a second, so two hosts are given 104 plays at once.
+        with (mock.patch.multiple(race_hosts, HostJobs=LocalJobs, SECONDS=13),
+              mock.patch.object(race_hosts.Hosts, "play", play)):
+            found_ahead, plays = self.raced(1, self.folder / "hosts")
+        self.same("what is found is the same", found, found_ahead)
+        self.same("few plays are left", True, plays < 100 < all_plays)
+        self.same("what is played ahead is used", all_plays, plays + len(played_ahead))
 
-def faults(place):
-    """Gives hosts programs that do not work."""
-    piece = race_hosts.Piece([(1, 1)], [])
-    for text, fault in [("echo failed: it broke >&2; exit 3", "it broke"),
-                        ("exit 1", "cwtune ended with status 1"),
-                        ("echo; echo; echo x", "program tune: not the output of cwtune"),
-                        ("echo; echo; echo cap,0,0:1", "program tune: not the output of cwtune")]:
-        program = place.write("program", f"#!/bin/sh\n{text}\n")
-        os.chmod(place.folder / "program", 0o755)
-        with (temporary_folder() as folder, place.arena(folder, place.folder / "program",
-                                                        place.folder / "hosts") as arena,
-              mock.patch.object(race_hosts, "HostJobs", LocalJobs)):
-            try:
-                arena.hosts.play(race_hosts.PiecesFolder(arena, [piece]))
-                came = ""
-            except Fault as refusal:
-                came = str(refusal)
-        yield compare(text, fault, came.removeprefix(f"{place.folder}/"))
-
-
-def trials(program):
-    return {"on_hosts": with_hosts(program, on_hosts, RaceOnHostsPlace),
-            **in_folders(lambda folder: RacePlace(program, folder), [ahead, faults])}
+    def test_faults(self):
+        piece, no_output = race_hosts.Piece([(1, 1)], []), "program tune: not the output of cwtune"
+        for text, fault in [("echo failed: it broke >&2; exit 3", "it broke"),
+                            ("exit 1", "cwtune ended with status 1"),
+                            ("echo; echo; echo x", no_output),
+                            ("echo; echo; echo cap,0,0:1", no_output)]:
+            self.write_program("program", text)
+            with (temporary_folder() as folder, self.arena(folder, self.folder / "program",
+                                                           self.folder / "hosts") as arena,
+                  mock.patch.object(race_hosts, "HostJobs", LocalJobs)):
+                came = came_of(lambda: arena.hosts.play(race_hosts.PiecesFolder(arena, [piece])))
+            self.same(text, f"{self.folder}/" * (fault == no_output) + fault, came)

@@ -1,241 +1,65 @@
 """Plays `cwtune-study`: compares its report with the other commands, kills it and starts it again,
-and gives it what it has to refuse.
+and gives it other inputs, other folders and wrong words.
 """
-import json, os, random, shutil, signal, subprocess, time
+import fcntl, json, os, random, shutil, signal, subprocess, time
 
 from author.lib import grid, tuning_files
-from gate.tally import compare
 
-from . import study_refused
-from .commands import AUTHOR, SECONDS, in_folders, run, wait_until
-from .study_place import OPPONENTS, PLANE, TEMPLATE, WARRIOR, StudyPlace
+from .study_trial import FEW, OPPONENTS, PLANE, TEMPLATE, WARRIOR, StudyTrial
+from .trial import AUTHOR, SECONDS, Refusal, usage_error, wait_until
 
 STAGES = ["inputs", "schedule", "template", "best", "fresh 1", "fresh 2", "fresh 3", "fresh 4",
           "fresh 5", "winner", "report"]
-
-
-def finds(place):
-    """Makes a study of a template, and compares its report with what other commands say."""
-    status, out, err = place.study("t.red", "all")
-    lines = out.splitlines()
-    yield compare("a study of a template", (0, "all 5 settings are tuned: their ranking is exact",
-                  ["t.study/winner.red", "t.study/report.html"]), (status, lines[0], lines[-2:]))
-    report, folder = place.report("t"), place.folder / "t.study"
-    totals = {ranked["setting"]: ranked["tuned"] for ranked in report["ranking"]}
-    scores = run("cwtune-scores", "--program", place.program, "best.cert", folder=folder).out
-    yield compare("the ranking is that of cwtune-scores", [
-        f"setting {ranked['setting']}: total {ranked['tuned']} STEP={ranked['values']['STEP']}"
-        for ranked in report["ranking"]],
-        [line.strip() for line in scores.splitlines() if line.startswith("    setting")])
-    tune_report, best = tuned(place, "t.red", "t.study"), report["ranking"][0]
-    yield compare("the best is that of cwtune tune",
-                  (str(best["setting"]), f"{best['tuned']} of 27"),
-                  (tune_report["best"], tune_report["total"]))
-    yield compare("the check", f"accepted best {best['setting']} total {best['tuned']}",
-                  report["check"])
-    yield compare("the landscape has all totals", [[totals[setting] for setting in range(5)]],
-                  report["landscape"]["totals"])
-    yield compare("the winner's text is the winner", place.read("t.study/fresh/"
-                  f"{report['winner']['setting']}.red"), place.load_file("t.study/winner.red"))
-    line = f"\n;strategy cwtune: STEP={report['winner']['values']['STEP']}\n"
-    yield compare("its text says which it is", (True, True), (
-        line in report["winner_text"], line.encode() in place.read("t.study/winner.red")))
-    yield from fresh_fights(report, folder)
-    yield from study_refused.others(place)
-
-
-def tuned(place, template, study):
-    """Returns the report of `cwtune tune` by the schedule of a study: its lines by their words."""
-    output = place.run(["tune", "--core=80", "--cycles=800", "--tasks=80", "--length=5",
-                        "--distance=5", template, f"{study}/schedule.csv", "CERT",
-                        *(f"all/{name}" for name in OPPONENTS)]).out.decode()
-    return dict(line.split(" ", 1) for line in output.splitlines())
-
-
-def fresh_fights(report, folder):
-    """Adds up the fresh fights of the certificates, and compares with a report."""
-    winner, start, ranking = report["winner"], report["start"], report["ranking"]
-    players = [*((ranked, f"{ranked['setting']}-[123]") for ranked in ranking),
-               (winner, f"{winner['setting']}-4"), (start, "start-4")]
-    for player, name in players:
-        certs = [tuning_files.Certificate(str(path)) for path in folder.glob(f"fresh/{name}.cert")]
-        fresh = player["fresh"]
-        wins, ties, losses = (sum(opponent[key] for opponent in fresh["opponents"])
-                              for key in ["wins", "ties", "losses"])
-        yield compare(f"points of {name} in its fresh fights", fresh["points"],
-                      sum(cert.total for cert in certs))
-        yield compare(f"wins, ties and losses of {name}", (fresh["fights"], fresh["points"]),
-                      (wins + ties + losses, 3 * wins + ties))
-    gain = winner["fresh"]["percent"] - start["fresh"]["percent"]
-    yield compare("the gain is the difference", round(gain, 9),
-                  round(report["gain"]["percent"], 9))
-    fresh_of_ranking = [ranked["fresh"] for ranked in ranking]
-    yield compare("each of the ranking plays, and the half of them more", [30, 30, 60, 90, 90],
-                  sorted(fresh["fights"] for fresh in fresh_of_ranking))
-    yield compare("the winner and START play as many", [90, 90],
-                  [player["fresh"]["fights"] for player in (winner, start)])
-    most = max(fresh["points"] for fresh in fresh_of_ranking if fresh["fights"] == 90)
-    yield compare("the winner has the most points", most,
-                  fresh_of_ranking[winner["rank"] - 1]["points"])
-
-
-def varies(place):
-    """Makes a study of a warrior, of opponents with equal names, and types its commands."""
-    (place.folder / "more").mkdir()
-    hostile = "it's \"$HOME\".red"
-    for name in ["more/imp.red", f"more/{hostile}"]:
-        place.write(name, OPPONENTS["dat.red"])
-    result = place.study("w.red", "all/imp.red", "STEP=1:9:2", "more/imp.red", f"more/{hostile}")
-    template = run("cwtune-vary", "--program", place.program, "--hill=nano", "w.red", "STEP=1:9:2",
-                   folder=place.folder).out
-    yield compare("a study of a warrior", (0, template.encode()),
-                  (result.status, place.read("w.study/template.red")))
-    report = place.report("w")
-    yield compare("a name that is taken gets a number", ["imp.red", "imp-2.red", hostile],
-                  [opponent["name"] for opponent in report["opponents"]])
-    yield compare("only the number of the winner's text differs", [
-        f"STEP EQU {report['winner']['values']['STEP']}"], place.own_lines("w", 2))
-    yield compare("the title is the warrior's name", 'Little <Stone> & "Co"', report["title"])
-    yield compare("the log has the commands of the report", report["commands"], [
-        line.rpartition("  # ")[0] for line in place.read("w.study/log.txt").decode().splitlines()
-        if line[0] != "#"])
-    yield from typed(place)
-    place.write("one.red", TEMPLATE.replace("1 9 2 5", "5 5 1 5"))
-    yield compare("one setting", "the winner is START: nothing better was found",
-                  place.study("one.red", "all").out.splitlines()[-3])
-
-
-def opens(place):
-    """Makes a study of a warrior with places of several kinds, in which settings race."""
-    words = ["--exact=9", "--fights=2000", "w.red", "all", "STEP=1:9:2", "aim=7,-3,0",
-             "6.b-mode=@,<,}"]
-    status, out, _ = place.study(*words)
-    yield compare("a study of places of several kinds", (0, "race: ", "w.study/report.html"),
-                  (status, out[:6], out.splitlines()[-1]))
-    values = place.report("w")["winner"]["values"]
-    lines = [f"STEP EQU {values['STEP']}", f"aim EQU {[3, 7, -3, 0][values['aim_choice']]}",
-             f"        MOV  2, {'@<}'[values['line6_b_mode']]}2"]
-    yield compare("only what was opened differs in the winner's text",
-                  [line for line in lines if line not in WARRIOR.split("\n")],
-                  place.own_lines("w", 2))
-    status, out, _ = place.study("--json", *words)
-    yield compare("--json prints the report alone", (0, place.report("w")), (
-        status, json.loads(out)))
-
-
-def equals(place):
-    """Makes a study in which settings do not assemble, and the others are equal."""
-    place.write("a.red", ";assert STEP < 8\nSTEP EQU 5\nJMP 0, STEP\n")
-    status, out, _ = place.study("--rounds=1", "--fresh=1", "a.red", "all/dat.red", "STEP=1:9:4",
-                                 "3.b-mode=$,<")
-    lines = out.splitlines()
-    yield compare("how many settings do not assemble", (
-        0, 2, "2 of the 6 settings do not assemble"), (
-            status, place.report("a")["refused"], lines[1]))
-    yield compare("what is not written", ["STEP=1 line3_b_mode=-", "STEP=5 line3_b_mode=-"],
-                  [line.rpartition(") ")[2] for line in lines[3:5]])
-    yield compare("no gain", ["over START: +0.0% +- 0.0, no difference that these fights show",
-                  "keep START: these fights show no gain of winner.red"], lines[5:7])
-
-
-def typed(place):
-    """Types all commands of a log in a folder with the inputs alone."""
-    folder, typed_folder = place.folder / "w.study", place.folder / "typed"
-    (typed_folder / "fresh").mkdir(parents=True)
-    shutil.copytree(folder / "opponents", typed_folder / "opponents")
-    for name in ["warrior.red", "start.red"]:
-        shutil.copy(folder / name, typed_folder)
-    path = f"{AUTHOR}:{os.environ['PATH']}"
-    completed = subprocess.run(["sh", "-e", str(folder / "log.txt")], cwd=typed_folder,
-                               timeout=SECONDS, env={**os.environ, "PATH": path},
-                               capture_output=True)
-    yield compare("the commands of the log can be typed", (0, b"note: 5 settings"),
-                  (completed.returncode, completed.stderr.splitlines()[0]))
-    names = ["template.red", "schedule.csv", "box.red", "best.cert", "best.txt", "winner.red",
-             *(str(path.relative_to(folder)) for path in folder.glob("fresh/*")
-               if path.suffix != ".inputs")]
-    yield compare("they make the same files", [], [
-        name for name in names if place.read(f"typed/{name}") != place.read(f"w.study/{name}")])
-
-
-def races(place):
-    """Makes a study of more settings than are tuned."""
-    place.write("p.red", PLANE.replace("2 5", "2 3").replace("1 0", "1 4"))
-    words = ["--exact=9", "--fights=4000", "--certify", "p.red", "all"]
-    status, out, _ = place.study(*words)
-    report, folder = place.report("p"), place.folder / "p.study"
-    race, box, gain = (report[name] for name in ["race", "box", "gain"])
-    yield compare("settings race", (0, True, True), (
-        status, 9 < race["settings"] <= 45, race["fights"] <= 4000))
-    yield compare("the settings around the winner are tuned, and checked", (9, "accepted best"), (
-        box["settings"], " ".join(box["check"].split()[:2])))
-    yield compare("the page has their totals", (3, 3), (
-        len(report["landscape"]["totals"]), len(report["landscape"]["totals"][0])))
-    percents = [report[side]["fresh"]["percent"] for side in ["winner", "start"]]
-    yield compare("the gain is the difference of fights that picked nothing",
-                  round(percents[0] - percents[1], 9), round(gain["percent"], 9))
-    by_opponent = [opponent["percent"] for opponent in gain["opponents"]]
-    yield compare("and the mean of those against each opponent", round(gain["percent"], 9),
-                  round(sum(by_opponent) / 3, 9))
-    yield compare("what is printed", (f"race: {race['settings']} of 45 settings in "
-                  f"{race['fights']} fights", "p.study/report.html"),
-                  (out.splitlines()[0], out.splitlines()[-1]))
-    text = grid.Grid(folder / "found.red")
-    yield compare("the winner's text is the winner", tuple(report["winner"]["values"].values()),
-                  text.start_values)
-    place.study("--anew", "--jobs=2", *words)
-    yield compare("two jobs find the same", (race, gain), (
-        place.report("p")["race"], place.report("p")["gain"]))
-    yield from after_kills(place, words)
-
-
-def after_kills(place, words):
-    """Kills a race at random times, and compares what it makes with an unbroken one."""
-    unbroken, dice = place.report("p"), random.Random(69)
-    shutil.rmtree(place.folder / "p.study")
-    for count in range(20):
-        with place.begin(*words) as job:
-            time.sleep(dice.uniform(0.1, 0.5 + count / 10))
-            job.send_signal([signal.SIGKILL, signal.SIGTERM, signal.SIGHUP][count % 3])
-            job.communicate(timeout=SECONDS)
-    status = place.study(*words).status
-    report = place.report("p")
-    for of_box in unbroken["box"], report["box"]:
-        del of_box["seconds"]
-    names = ["race", "box", "winner", "gain", "landscape"]
-    yield compare("20 kills change nothing", (0, {name: unbroken[name] for name in names}),
-                  (status, {name: report[name] for name in names}))
-    mark = json.loads(place.read("p.study/study.json"))
-    mark["stages"] = {"inputs": mark["stages"]["inputs"]}
-    place.write("p.study/study.json", json.dumps(mark))
-    for text, fault in [("{}\n", "no entry `settings`"), ("[" * 2000000, "1048576 bytes or more")]:
-        place.write("p.study/race.jsonl", text)
-        yield compare(f"what was played is {text[:9]}", (
-            2, f"error: p.study/race.jsonl: line 1: {fault}\n"), place.study(*words)[::2])
-
-
-def whole(place):
-    """Kills a study of a whole template after each stage, and compares it with an unbroken one."""
-    place.study("p.red", "all")
-    unbroken, log = place.read("p.study/report.json"), place.read("p.study/log.txt")
-    shutil.rmtree(place.folder / "p.study")
-    dice = random.Random(69)
-    for count, name in enumerate(STAGES, 1):
-        with place.begin("p.red", "all") as job:
-            wait_until(lambda: len(place.stages("p")) >= count, job)
-            time.sleep(dice.uniform(0, 0.15))
-            job.send_signal([signal.SIGKILL, signal.SIGTERM][count % 2])
-            err = job.communicate(timeout=SECONDS)[1].decode()
-        yield compare(f"a kill after the stage {name}", STAGES[:count], place.stages("p")[:count])
-        # A later kill may come before the folder is opened.
-        if count == 1:
-            yield compare("a stop says how to go on", True, err.endswith(
-                "stopped: what is done is kept in p.study: repeat the command to go on\n"))
-    status = place.study("p.red", "all").status
-    yield compare("kills change nothing", (0, unbroken),
-                  (status, place.read("p.study/report.json")))
-    yield compare("nor the log", without_seconds(log),
-                  without_seconds(place.read("p.study/log.txt")))
+MARK = '{"by": "cwtune-study %d", "of": %s, "stages": {}}'
+FOREIGN = "error: mine is not a folder of this cwtune-study, and is not touched{}\n"
+WRONG_WORDS = [
+    usage_error("cwtune-study t.red", "OPPONENT is missing: files, or a folder with files *.red"),
+    usage_error("cwtune-study STEP=1:2 K=1:2",
+                "WARRIOR is missing: a template, or a warrior with words PLACE=VALUES"),
+    usage_error("cwtune-study w.red all STEP=1",
+                "STEP=1 is not of the form PLACE=LOW:HIGH:STEP or PLACE=VALUE,VALUE, as "
+                "STEP=5:4000:10 or throw.b=-40,-25, without blanks"),
+    usage_error("cwtune-study w.red all s1.mode=<,>",
+                "s1.mode=<,>: there is no field mode; there are a b a-mode b-mode modifier opcode"),
+    usage_error("cwtune-study w.red all s1-b=1:9",
+                "s1-b=1:9 is not of the form PLACE=LOW:HIGH:STEP or PLACE=VALUE,VALUE, as "
+                "STEP=5:4000:10 or throw.b=-40,-25, without blanks"),
+    usage_error("cwtune-study w.red all STEP=1:9 STEP=1:9", "STEP has two ranges"),
+    usage_error("cwtune-study t.red " + "all " * 22, "66 opponents; at most 64"),
+    usage_error("cwtune-study --rounds=4000 t.red all",
+                "--rounds 4000 against 3 opponents: more than 10000 fights"),
+    usage_error("cwtune-study --fresh=4000 t.red all",
+                "--fresh 4000 against 3 opponents: more than 10000 fights"),
+    usage_error("cwtune-study --fresh=0 t.red all", "argument --fresh: 0 is not 1 to 10000"),
+    usage_error("cwtune-study --seed=4 t.red all",
+                "--seed 4 is not 5 to 75, the positions that pMARS takes"),
+    usage_error("cwtune-study --distance=41 t.red all",
+                "--distance is more than half of --core"),
+]
+WRONG_WARRIORS = [
+    Refusal("cwtune-study w.red all", 1, "refused: w.red: no range line: give words "
+            "PLACE=VALUES too (`cwtune-vary w.red` lists the places)"),
+    Refusal("cwtune-study t.red all STEP=1:9:2", 1,
+            "refused: t.red: it has range lines, so it is a template already"),
+    Refusal("cwtune-study three-words.red all", 1, "refused: three-words.red: line 1 is not a "
+            "range line: ;@tune NAME LOW HIGH STEP START, with START one of the values"),
+    Refusal("cwtune-study no-start.red all", 1, "refused: START of no-start.red does not assemble: "
+            "Asm line 3 Value DivisionByZero"),
+    Refusal("cwtune-study t.red long.red", 1,
+            "refused: long.red does not assemble: Asm line 0 Warrior TooLong"),
+]
+WRONG_FILES = [
+    Refusal("cwtune-study t.red empty", 2, "error: empty: no file *.red in this folder"),
+    Refusal("cwtune-study t.red none.red", 3, "failed: none.red: No such file or directory"),
+    Refusal("cwtune-study t.red none.red=2", 3, "failed: none.red=2: No such file or directory"),
+    Refusal("cwtune-study none.red all", 3, "failed: none.red: No such file or directory"),
+    Refusal("cwtune-study --out=none/x t.red all", 3, "failed: none/x: No such file or directory"),
+    Refusal("cwtune-study --out=\udcff t.red all", 2,
+            "error: the name of the folder is not UTF-8, which cwtune wants"),
+    Refusal("cwtune-study --out=t.red t.red all", 2, "error: t.red is a file, and is not touched"),
+]
+# How the program plays as the hill nano has it.
+NANO = ["--core=80", "--length=5", "--distance=5"]
 
 
 def without_seconds(log):
@@ -243,6 +67,292 @@ def without_seconds(log):
     return [line.rpartition("  # ")[0] or line for line in log.decode().splitlines()]
 
 
-def trials(program):
-    return in_folders(lambda folder: StudyPlace(program, folder), [
-        finds, varies, opens, equals, whole, races, study_refused.foreign, study_refused.refusals])
+class Studying(StudyTrial):
+    """Studies, and what others put into their folders."""
+
+    def test_finds(self):
+        """Makes a study of a template, and compares its report with what other commands say."""
+        status, out, err = self.study("t.red", "all")
+        lines = out.splitlines()
+        self.same("a study of a template", (0, "all 5 settings are tuned: their ranking is exact",
+                  ["t.study/winner.red", "t.study/report.html"]), (status, lines[0], lines[-2:]))
+        report, folder = self.report("t"), self.folder / "t.study"
+        totals = {ranked["setting"]: ranked["tuned"] for ranked in report["ranking"]}
+        scores = self.call("cwtune-scores best.cert", below="t.study").out
+        self.same("the ranking is that of cwtune-scores", [
+            f"setting {ranked['setting']}: total {ranked['tuned']} STEP={ranked['values']['STEP']}"
+            for ranked in report["ranking"]],
+            [line.strip() for line in scores.splitlines() if line.startswith("    setting")])
+        tune_report, best = self.tuned("t.red", "t.study"), report["ranking"][0]
+        self.same("the best is that of cwtune tune",
+                  (str(best["setting"]), f"{best['tuned']} of 27"),
+                  (tune_report["best"], tune_report["total"]))
+        self.same("the check", f"accepted best {best['setting']} total {best['tuned']}",
+                  report["check"])
+        self.same("the landscape has all totals", [[totals[setting] for setting in range(5)]],
+                  report["landscape"]["totals"])
+        self.same("the winner's text is the winner",
+                  self.read(f"t.study/fresh/{report['winner']['setting']}.red"),
+                  self.cwtune(["asm", *NANO, "t.study/winner.red"]).out)
+        line = f"\n;strategy cwtune: STEP={report['winner']['values']['STEP']}\n"
+        self.same("its text says which it is", (True, True), (
+            line in report["winner_text"], line.encode() in self.read("t.study/winner.red")))
+        self.fresh_fights(report, folder)
+        self.others()
+
+    def fresh_fights(self, report, folder):
+        """Adds up the fresh fights of the certificates, and compares with a report."""
+        winner, start, ranking = report["winner"], report["start"], report["ranking"]
+        players = [*((ranked, f"{ranked['setting']}-[123]") for ranked in ranking),
+                   (winner, f"{winner['setting']}-4"), (start, "start-4")]
+        for player, name in players:
+            certs = map(tuning_files.Certificate, folder.glob(f"fresh/{name}.cert"))
+            fresh = player["fresh"]
+            wins, ties, losses = (sum(opponent[key] for opponent in fresh["opponents"])
+                                  for key in ["wins", "ties", "losses"])
+            self.same(f"points of {name} in its fresh fights", fresh["points"],
+                      sum(cert.total for cert in certs))
+            self.same(f"wins, ties and losses of {name}", (fresh["fights"], fresh["points"]),
+                      (wins + ties + losses, 3 * wins + ties))
+        gain = winner["fresh"]["percent"] - start["fresh"]["percent"]
+        self.same("the gain is the difference", round(gain, 9),
+                  round(report["gain"]["percent"], 9))
+        fresh_of_ranking = [ranked["fresh"] for ranked in ranking]
+        self.same("each of the ranking plays, and the half of them more", [30, 30, 60, 90, 90],
+                  sorted(fresh["fights"] for fresh in fresh_of_ranking))
+        self.same("the winner and START play as many", [90, 90],
+                  [player["fresh"]["fights"] for player in (winner, start)])
+        most = max(fresh["points"] for fresh in fresh_of_ranking if fresh["fights"] == 90)
+        self.same("the winner has the most points", most,
+                  fresh_of_ranking[winner["rank"] - 1]["points"])
+
+    def tuned(self, template, study):
+        """Returns the report of `cwtune tune` by the schedule of a study: its lines by their first
+        words."""
+        output = self.tune(*NANO, "--cycles=800", "--tasks=80", template, f"{study}/schedule.csv",
+                           "CERT", *(f"all/{name}" for name in OPPONENTS)).out
+        return dict(line.split(" ", 1) for line in output.splitlines())
+
+    def others(self):
+        """Gives a folder other inputs than those that it was made of, and changes its files."""
+        before = self.texts_of("t.study")
+        self.write("more.red", TEMPLATE + "; more\n")
+        for kind, words in [
+            ("opponents", ["t.red", "all/imp.red", "all/dat.red"]),
+            ("template", ["--out=t.study", "more.red", "all"]),
+            ("rules", ["--cycles=799", "t.red", "all"]),
+            ("--fresh was 10", ["--fresh=11", "t.red", "all"]),
+            ("--exact was 1000", ["--exact=4", "t.red", "all"]),
+            ("weights", ["t.red", "all=2"]),
+        ]:
+            line = (f"error: t.study is of other inputs ({kind}): give --anew to throw it away and "
+                    "begin again, or another --out\n")
+            self.same(f"other {kind}", (2, "", line), self.study(*words))
+        self.same("they change nothing", before, self.texts_of("t.study"))
+        self.same("other jobs go on", 0, self.study("--jobs=2", "t.red", "all").status)
+        with open(self.folder / "t.study/box.red", "a") as file:
+            file.write("; more\n")
+        self.same("a changed file", (2, "", "error: t.study/box.red is not as it was written: give "
+                  "--anew to begin again\n"), self.study("t.red", "all"))
+        self.write("t.study/notes.txt", "mine\n")
+        self.same("--anew begins again", 0, self.study("--anew", "t.red", "all/imp.red").status)
+        self.same("and leaves what others put there", (b"mine\n", ["imp.red"]), (
+            self.read("t.study/notes.txt"), os.listdir(self.folder / "t.study/opponents")))
+
+    def test_varies(self):
+        """Makes a study of a warrior, of opponents with equal names, and types its commands."""
+        hostile = "it's \"$HOME\".red"
+        for name in ["more/imp.red", f"more/{hostile}"]:
+            self.write(name, OPPONENTS["dat.red"])
+        result = self.study("w.red", "all/imp.red", "STEP=1:9:2", "more/imp.red", f"more/{hostile}")
+        template = self.call("cwtune-vary --hill=nano w.red STEP=1:9:2").out
+        self.same("a study of a warrior", (0, template.encode()),
+                  (result.status, self.read("w.study/template.red")))
+        report = self.report("w")
+        self.same("a name that is taken gets a number", ["imp.red", "imp-2.red", hostile],
+                  [opponent["name"] for opponent in report["opponents"]])
+        self.same("only the number of the winner's text differs", [
+            f"STEP EQU {report['winner']['values']['STEP']}"], self.own_lines("w", 2))
+        self.same("the title is the warrior's name", 'Little <Stone> & "Co"', report["title"])
+        self.same("the log has the commands of the report", report["commands"], [
+            line for line in without_seconds(self.read("w.study/log.txt")) if line[0] != "#"])
+        self.typed()
+        self.write("one.red", TEMPLATE.replace("1 9 2 5", "5 5 1 5"))
+        self.same("one setting", "the winner is START: nothing better was found",
+                  self.study("one.red", "all").out.splitlines()[-3])
+
+    def test_opens(self):
+        """Makes a study of a warrior with places of several kinds, in which settings race."""
+        words = ["--exact=9", "--fights=2000", "w.red", "all", "STEP=1:9:2", "aim=7,-3,0",
+                 "6.b-mode=@,<,}"]
+        status, out, _ = self.study(*words)
+        self.same("a study of places of several kinds", (0, "race: ", "w.study/report.html"),
+                  (status, out[:6], out.splitlines()[-1]))
+        values = self.report("w")["winner"]["values"]
+        lines = [f"STEP EQU {values['STEP']}", f"aim EQU {[3, 7, -3, 0][values['aim_choice']]}",
+                 f"        MOV  2, {'@<}'[values['line6_b_mode']]}2"]
+        self.same("only what was opened differs in the winner's text",
+                  [line for line in lines if line not in WARRIOR.split("\n")],
+                  self.own_lines("w", 2))
+        status, out, _ = self.study("--json", *words)
+        self.same("--json prints the report alone", (0, self.report("w")), (
+            status, json.loads(out)))
+
+    def test_equals(self):
+        """Makes a study in which settings do not assemble, and the others are equal."""
+        self.write("a.red", ";assert STEP < 8\nSTEP EQU 5\nJMP 0, STEP\n")
+        status, out, _ = self.study("--rounds=1", "--fresh=1", "a.red", "all/dat.red", "STEP=1:9:4",
+                                    "3.b-mode=$,<")
+        lines = out.splitlines()
+        self.same("how many settings do not assemble", (
+            0, 2, "2 of the 6 settings do not assemble"), (
+                status, self.report("a")["refused"], lines[1]))
+        self.same("what is not written", ["STEP=1 line3_b_mode=-", "STEP=5 line3_b_mode=-"],
+                  [line.rpartition(") ")[2] for line in lines[3:5]])
+        self.same("no gain", ["over START: +0.0% +- 0.0, no difference that these fights show",
+                  "keep START: these fights show no gain of winner.red"], lines[5:7])
+
+    def typed(self):
+        """Types all commands of a log in a folder with the inputs alone."""
+        folder, typed_folder = self.folder / "w.study", self.folder / "typed"
+        (typed_folder / "fresh").mkdir(parents=True)
+        shutil.copytree(folder / "opponents", typed_folder / "opponents")
+        for name in ["warrior.red", "start.red"]:
+            shutil.copy(folder / name, typed_folder)
+        path = f"{AUTHOR}:{os.environ['PATH']}"
+        completed = subprocess.run(["sh", "-e", str(folder / "log.txt")], cwd=typed_folder,
+                                   timeout=SECONDS, env={**os.environ, "PATH": path},
+                                   capture_output=True)
+        self.same("the commands of the log can be typed", (0, b"note: 5 settings"),
+                  (completed.returncode, completed.stderr.splitlines()[0]))
+        names = ["template.red", "schedule.csv", "box.red", "best.cert", "best.txt", "winner.red",
+                 *(str(path.relative_to(folder)) for path in folder.glob("fresh/*")
+                   if path.suffix != ".inputs")]
+        self.same("they make the same files", [], [
+            name for name in names if self.read(f"typed/{name}") != self.read(f"w.study/{name}")])
+
+    def test_races(self):
+        """Makes a study of more settings than are tuned."""
+        self.write("p.red", PLANE.replace("2 5", "2 3").replace("1 0", "1 4"))
+        words = ["--exact=9", "--fights=4000", "--certify", "p.red", "all"]
+        status, out, _ = self.study(*words)
+        report, folder = self.report("p"), self.folder / "p.study"
+        race, box, gain = (report[name] for name in ["race", "box", "gain"])
+        self.same("settings race", (0, True, True), (
+            status, 9 < race["settings"] <= 45, race["fights"] <= 4000))
+        self.same("the settings around the winner are tuned, and checked", (9, "accepted best"), (
+            box["settings"], " ".join(box["check"].split()[:2])))
+        self.same("the page has their totals", (3, 3), (
+            len(report["landscape"]["totals"]), len(report["landscape"]["totals"][0])))
+        percents = [report[side]["fresh"]["percent"] for side in ["winner", "start"]]
+        self.same("the gain is the difference of fights that picked nothing",
+                  round(percents[0] - percents[1], 9), round(gain["percent"], 9))
+        by_opponent = [opponent["percent"] for opponent in gain["opponents"]]
+        self.same("and the mean of those against each opponent", round(gain["percent"], 9),
+                  round(sum(by_opponent) / 3, 9))
+        self.same("what is printed", (f"race: {race['settings']} of 45 settings in "
+                  f"{race['fights']} fights", "p.study/report.html"),
+                  (out.splitlines()[0], out.splitlines()[-1]))
+        text = grid.Grid(folder / "found.red")
+        self.same("the winner's text is the winner", tuple(report["winner"]["values"].values()),
+                  text.start_values)
+        self.study("--anew", "--jobs=2", *words)
+        self.same("two jobs find the same", (race, gain), (
+            self.report("p")["race"], self.report("p")["gain"]))
+        self.after_kills(words)
+
+    def after_kills(self, words):
+        """Kills a race at random times, and compares what it makes with an unbroken one."""
+        unbroken, dice = self.report("p"), random.Random(69)
+        shutil.rmtree(self.folder / "p.study")
+        for count in range(20):
+            with self.begin(*words) as job:
+                time.sleep(dice.uniform(0.1, 0.5 + count / 10))
+                job.send_signal([signal.SIGKILL, signal.SIGTERM, signal.SIGHUP][count % 3])
+                job.communicate(timeout=SECONDS)
+        status = self.study(*words).status
+        report = self.report("p")
+        for of_box in unbroken["box"], report["box"]:
+            del of_box["seconds"]
+        names = ["race", "box", "winner", "gain", "landscape"]
+        self.same("20 kills change nothing", (0, {name: unbroken[name] for name in names}),
+                  (status, {name: report[name] for name in names}))
+        self.mark("p", stages={"inputs": self.mark("p")["stages"]["inputs"]})
+        for text, fault in [("{}\n", "no entry `settings`"),
+                            ("[" * 2000000, "1048576 bytes or more")]:
+            self.write("p.study/race.jsonl", text)
+            self.same(f"what was played is {text[:9]}", (
+                2, f"error: p.study/race.jsonl: line 1: {fault}\n"), self.study(*words)[::2])
+
+    def test_whole(self):
+        """Kills a study of a whole template after each stage, and compares it with an unbroken
+        one."""
+        self.study("p.red", "all")
+        unbroken, log = self.read("p.study/report.json"), self.read("p.study/log.txt")
+        shutil.rmtree(self.folder / "p.study")
+        dice = random.Random(69)
+        for count, name in enumerate(STAGES, 1):
+            with self.begin("p.red", "all") as job:
+                wait_until(lambda: len(self.stages("p")) >= count, job)
+                time.sleep(dice.uniform(0, 0.15))
+                job.send_signal([signal.SIGKILL, signal.SIGTERM][count % 2])
+                err = job.communicate(timeout=SECONDS)[1].decode()
+            self.same(f"a kill after the stage {name}", STAGES[:count], self.stages("p")[:count])
+            # A later kill may come before the folder is opened.
+            if count == 1:
+                self.same("a stop says how to go on", True, err.endswith(
+                    "stopped: what is done is kept in p.study: repeat the command to go on\n"))
+        status = self.study("p.red", "all").status
+        self.same("kills change nothing", (0, unbroken),
+                  (status, self.read("p.study/report.json")))
+        self.same("nor the log", without_seconds(log),
+                  without_seconds(self.read("p.study/log.txt")))
+
+
+class StudyRefused(StudyTrial):
+    OPTIONS = FEW
+
+    def test_foreign(self):
+        """Gives it folders that it did not make, one that is in use, and a command that fails."""
+        for name, text, why in [
+            ("notes.txt", "mine\n", ""), ("study.json", "{", " (study.json: not JSON)"),
+            ("study.json", "{}", " (study.json: no entry `by`)"),
+            ("study.json", "[1]", " (study.json: not an object)"),
+            ("study.json", "[" * 100000, " (study.json: nested too deep)"),
+            ("study.json", MARK % (1, "[]"), " (study.json: of: not an object)"),
+            ("study.json", MARK % (1, '{"opponents": [["..", ""]]}'),
+             " (study.json: of.opponents[0][0]: not of its form)"),
+            ("study.json", MARK % (0, '{"opponents": []}'), ""),
+        ]:
+            self.write(f"mine/{name}", text)
+            before = self.texts_of("mine")
+            for options in [[], ["--anew"]]:
+                self.same(f"a folder of somebody else {options}", (
+                    2, "", FOREIGN.format(why), before), (
+                    *self.study("--out=mine", *options, "t.red", "all"), self.texts_of("mine")))
+        (self.folder / "t.study").mkdir()
+        lock = os.open(self.folder / "t.study", os.O_RDONLY)
+        fcntl.flock(lock, fcntl.LOCK_EX)
+        self.same("two at once", (2, "", "error: another cwtune-study is at work in t.study\n"),
+                  self.study("t.red", "all"))
+        os.close(lock)
+        self.write("t.study/study.json.1.new", "{")
+        with self.begin("t.red", "all") as job:
+            wait_until(lambda: self.stages("t"), job)
+            job.kill()
+        (self.folder / "t.study/best.cert").unlink(missing_ok=True)
+        self.write("t.study/best.cert", "a text\n")
+        status, _, err = self.study("t.red", "all")
+        self.same("a command's fault is that of the study", (2, True), (status, err.endswith(
+            "error: CERT is a text but not a certificate, and is not overwritten: best.cert\n")))
+
+    def test_refusals(self):
+        (self.folder / "empty").mkdir()
+        self.write("no-start.red", ";@tune K 1 2 1 2\nMOV 0, 1\nDAT 1/(K-2)\n")
+        self.write("three-words.red", ";@tune K 1 2\n")
+        self.write("long.red", "DAT 0\n" * 6)
+        before = sorted(os.listdir(self.folder))
+        no_program = Refusal("cwtune-study --program=none t.red all", 3,
+                             f"failed: {self.folder}/none: No such file or directory")
+        self.refused([*WRONG_WORDS, *WRONG_WARRIORS, *WRONG_FILES, no_program])
+        self.same("refusals make no folder", before, sorted(os.listdir(self.folder)))

@@ -1,10 +1,7 @@
 """Plays `cwtune-vary` with the program."""
 import subprocess
 
-from gate.play import Place
-from gate.tally import compare
-
-from .commands import SECONDS, Refusal, command, in_folders, refused, run, usage_error
+from .trial import SECONDS, Refusal, Trial, command, usage_error
 
 TEXT = """;redcode-94
 ;name Two Numbers
@@ -138,7 +135,16 @@ FORM = (" is not of the form PLACE=LOW:HIGH:STEP or PLACE=VALUE,VALUE, as STEP=5
         "throw.b=-40,-25, without blanks")
 MODES = "# $ * @ { < } >"
 OPCODES = "dat mov add sub mul div mod jmp jmz jmn djn cmp seq sne slt spl nop"
+TEXTS = {"two.red": TEXT, "label.red": "K EQU 1\nMOV K, 1/K\nDAT 1/(K-1)\n",
+         "ranges.red": ";@tune K 0 1 1 0\nMOV 0, 1\n",
+         "none.red": ";redcode\nK = 5\nMOV 0, K\n"}
 WRONG_RANGES = [
+    Refusal("cwtune-vary label.red K=1:2", 1,
+            "refused: label.red does not assemble: Asm line 3 Value DivisionByZero"),
+    Refusal("cwtune-vary none.red", 1,
+            "refused: none.red does not assemble: Asm line 2 Expand Text BadByte"),
+    Refusal("cwtune-vary ranges.red", 1,
+            "refused: ranges.red: it has range lines, so it is a template already"),
     Refusal("cwtune-vary two.red both=1:9", 1, "refused: two.red, line 6: STEP+1 is not a plain "
             "number, so both can have no range; it has both.1=1"),
     Refusal("cwtune-vary two.red step=1:9", 1,
@@ -170,128 +176,96 @@ WRONG_RANGES = [
 ]
 
 
-def vary(place, *words):
-    """Returns the result of `cwtune-vary`."""
-    return run("cwtune-vary", "--program", place.program, *words, folder=place.folder)
+class Varying(Trial):
+    def opened(self, name, *words):
+        """Returns the result of `cwtune-vary`. Its output stays in t.red."""
+        result = self.call("cwtune-vary", name, *words)
+        self.write("t.red", result.out)
+        return result
 
+    def test_templates(self):
+        block = "i       FOR  2\nk       EQU  3\n        ROF\n"
+        text, template = TEXT.replace(block, ""), TEMPLATE.replace(block, "")
+        self.write("two.red", text)
+        self.same("one constant", (0, template, "note: 3 settings\n"),
+                  self.opened("two.red", "STEP=1:9:4"))
+        self.same("two constants", (
+            0, template.replace("far: equ (-20)", FAR), "note: 15 settings\n"),
+            self.opened("two.red", "far=-30:10:10", "STEP=1:9:4"))
+        self.write("lines.red", text.replace("\n", "\r\n").encode())
+        words = command(*self.words("cwtune-vary lines.red STEP=1:9:4"))
+        out = subprocess.run(words, cwd=self.folder, capture_output=True, timeout=SECONDS).stdout
+        self.same("CR LF", template.replace("\n", "\r\n"), out.decode())
+        status, _, err = self.opened("two.red", "STEP=1:3000", "far=-999:0")
+        self.same("too many settings for tune", (
+            0, "note: 3000000 settings: too many for `cwtune tune`; cwtune-study and cwtune-seek "
+            "have them race\n"), (status, err))
+        self.write("two.red", TEXT.replace("FOR  2", "FOR  0"))
+        self.same("what could be opened", (0, LIST, ""), self.opened("two.red"))
 
-def templates(place):
-    """Makes templates of texts."""
-    block = "i       FOR  2\nk       EQU  3\n        ROF\n"
-    text, template = TEXT.replace(block, ""), TEMPLATE.replace(block, "")
-    place.write("two.red", text)
-    yield compare("one constant", (0, template, "note: 3 settings\n"),
-                  vary(place, "two.red", "STEP=1:9:4"))
-    yield compare("two constants",
-                  (0, template.replace("far: equ (-20)", FAR), "note: 15 settings\n"),
-                  vary(place, "two.red", "far=-30:10:10", "STEP=1:9:4"))
-    place.write("lines.red", text.replace("\n", "\r\n").encode())
-    yield compare("CR LF", (0, template.replace("\n", "\r\n")),
-                  run_bytes(place, "lines.red", "STEP=1:9:4"))
-    status, _, err = vary(place, "two.red", "STEP=1:3000", "far=-999:0")
-    yield compare("too many settings for tune", (0, "note: 3000000 settings: too many for `cwtune "
-                  "tune`; cwtune-study and cwtune-seek have them race\n"), (status, err))
-    place.write("two.red", TEXT.replace("FOR  2", "FOR  0"))
-    yield compare("what could be opened", (0, LIST, ""), vary(place, "two.red"))
-
-
-def hidden(place):
-    """Lists texts with fields that are not where they seem to be, and opens those."""
-    for name, text, listed, words in [
-        ("mode.red", MODE_IN_EQU, MODE_LIST, [
-            ("3.a-mode=<,>", ", line 3: 3.a-mode is in line 1, an EQU line"),
-            ("3.b-mode=<,>", ", line 3: 3.b-mode is in line 1, an EQU line")]),
-        ("prose.red", PROSE, PROSE_LIST, []),
-        ("uses.red", USES, USES_LIST, []),
-        ("old.red", OLD, OLD_LIST, [
-            ("go.a=1:9", ", line 2: 0 is not written there, so go.a can have no range"),
-            ("8.a=1:9", ", line 8: nothing there can be opened"),
-            ("9.a.2=1:9", ", line 9: 9.a has 1 number, and no 9.a.2")]),
-    ]:
-        place.write(name, text)
-        status, out, _ = vary(place, name)
-        yield compare(f"the list of {name}", (0, listed), (status, out))
-        for word, fault in words:
-            status, _, err = vary(place, name, word)
-            yield compare(f"{word} of {name}", (1, f"refused: {name}{fault}"),
+    def test_hidden(self):
+        """Lists texts with fields that are not where they seem to be, and opens those."""
+        for name, text, listed, words in [
+            ("mode.red", MODE_IN_EQU, MODE_LIST, [
+                ("3.a-mode=<,>", ", line 3: 3.a-mode is in line 1, an EQU line"),
+                ("3.b-mode=<,>", ", line 3: 3.b-mode is in line 1, an EQU line")]),
+            ("prose.red", PROSE, PROSE_LIST, []),
+            ("uses.red", USES, USES_LIST, []),
+            ("old.red", OLD, OLD_LIST, [
+                ("go.a=1:9", ", line 2: 0 is not written there, so go.a can have no range"),
+                ("8.a=1:9", ", line 8: nothing there can be opened"),
+                ("9.a.2=1:9", ", line 9: 9.a has 1 number, and no 9.a.2")]),
+        ]:
+            self.write(name, text)
+            self.same(f"the list of {name}", (0, listed), self.opened(name)[:2])
+            for word, fault in words:
+                status, _, err = self.opened(name, word)
+                self.same(f"{word} of {name}", (1, f"refused: {name}{fault}"),
                           (status, err.splitlines()[-1]))
 
+    def test_signs(self):
+        """Opens a number for one below 0, and again in the text that comes of it."""
+        self.write("signs.red", ";strategy own\nAIM EQU 7-2\n MOV 0, AIM*(-3)\n")
+        self.opened("signs.red", "AIM.2=5,3,-9", "3.b.1=-3:3:6")
+        own = self.call("cwtune-warrior --setting=7 t.red").out
+        self.same("below 0 and above", ";strategy own\n;strategy cwtune: AIM.2=-9 3.b.1=3\n"
+                  "AIM EQU 7-(-9)\n MOV 0, AIM*(3)\n", own)
+        self.write("signs.red", own)
+        self.same("listed", ["AIM.1=7: line 3, 1 use", "AIM.2=-9: line 3, 1 use"],
+                  self.opened("signs.red").out.split("\n")[:2])
+        status, out, err = self.opened("signs.red", "AIM.2=5,3,-9")
+        self.same("opened again", (0, "note: 3 settings\n", 1), (
+            status, err, out.count("AIM EQU 7-([AIM_2_choice:5,3,-9])")))
 
-def signs(place):
-    """Opens a number for one below 0, and again in the text that comes of it."""
-    text = ";strategy own\nAIM EQU 7-2\n MOV 0, AIM*(-3)\n"
-    place.write("signs.red", text)
-    template = vary(place, "signs.red", "AIM.2=5,3,-9", "3.b.1=-3:3:6").out
-    place.write("t.red", template)
-    own = run("cwtune-warrior", "--program", place.program, "--setting=7", "t.red",
-              folder=place.folder).out
-    yield compare("below 0 and above", ";strategy own\n;strategy cwtune: AIM.2=-9 "
-                  "3.b.1=3\nAIM EQU 7-(-9)\n MOV 0, AIM*(3)\n", own)
-    place.write("signs.red", own)
-    yield compare("listed", ["AIM.1=7: line 3, 1 use", "AIM.2=-9: line 3, 1 use"],
-                  vary(place, "signs.red").out.split("\n")[:2])
-    status, out, err = vary(place, "signs.red", "AIM.2=5,3,-9")
-    yield compare("opened again", (0, "note: 3 settings\n", 1), (
-        status, err, out.count("AIM EQU 7-([AIM_2_choice:5,3,-9])")))
+    def test_places(self):
+        """Opens places of each kind, alone and together, and takes the text out again."""
+        self.write("places.red", PLACES)
+        lines = PLACES.split("\n")
+        for number, word, new, notes in OPENED:
+            status, out, err = self.opened("places.red", word)
+            self.same(f"opened: {word}", (
+                0, "\n".join([*lines[:number - 1], new, *lines[number:]]), notes),
+                (status, out, err[:err.rfind("note: ")]))
+            self.returned(word, 1)
+        words = [word for _, word, _, _ in OPENED[5:7] + OPENED[8:12]]
+        self.opened("places.red", "GATE=-40:-10:5", *words)
+        self.returned("all", 6)
 
+    def returned(self, name, most):
+        """Compares the author's text of START, and those of the first and the last setting, with
+        the text that the template was made of. At most `most` lines differ."""
+        settings = int(self.cwtune(["settings", "t.red"]).out.split()[1])
+        for setting in ["start", 0, settings - 1]:
+            out = self.call(f"cwtune-warrior --setting={setting} t.red").out.split("\n")
+            own = [line for line in out if not line.startswith(";strategy cwtune: ")]
+            differ = [line for line, other in zip(own, PLACES.split("\n")) if line != other]
+            self.same(f"{name}: the text of setting {setting}", (1, 4, True), (
+                len(out) - len(own), out.index(next(line for line in out if line not in own)),
+                len(own) == PLACES.count("\n") + 1
+                and len(differ) <= (0 if setting == "start" else most)))
 
-def places(place):
-    """Opens places of each kind, alone and together, and takes the text out again."""
-    place.write("places.red", PLACES)
-    lines = PLACES.split("\n")
-    for number, word, new, notes in OPENED:
-        status, out, err = vary(place, "places.red", word)
-        expected = "\n".join([*lines[:number - 1], new, *lines[number:]])
-        yield compare(f"opened: {word}", (0, expected, notes),
-                      (status, out, err[:err.rfind("note: ")]))
-        place.write("t.red", out)
-        yield from returned(place, word, 1)
-    words = [word for _, word, _, _ in OPENED[5:7] + OPENED[8:12]]
-    place.write("t.red", vary(place, "places.red", "GATE=-40:-10:5", *words).out)
-    yield from returned(place, "all", 2)
-
-
-def returned(place, name, count):
-    """Compares the author's text of START, and those of the first and the last setting, with the
-    text that the template was made of."""
-    settings = int(place.run(["settings", "t.red"]).out.split()[1])
-    for setting in ["start", 0, settings - 1]:
-        out = run("cwtune-warrior", "--program", place.program, f"--setting={setting}", "t.red",
-                  folder=place.folder).out.split("\n")
-        own = [line for line in out if not line.startswith(";strategy cwtune: ")]
-        differ = [line for line, other in zip(own, PLACES.split("\n")) if line != other]
-        most = 0 if setting == "start" else 1 if count == 1 else 6
-        yield compare(f"{name}: the text of setting {setting}", (1, 4, True), (
-            len(out) - len(own), next(index for index, line in enumerate(out) if line not in own),
-            len(own) == PLACES.count("\n") + 1 and len(differ) <= most))
-
-
-def run_bytes(place, *words):
-    """Returns the status and the output of `cwtune-vary`, line ends as they are."""
-    completed = subprocess.run(command("cwtune-vary", "--program", place.program, *words),
-                               cwd=place.folder, capture_output=True, timeout=SECONDS)
-    return completed.returncode, completed.stdout.decode()
-
-
-def refusals(place):
-    """Gives it what has no range."""
-    place.write("two.red", TEXT)
-    place.write("label.red", "K EQU 1\nMOV K, 1/K\nDAT 1/(K-1)\n")
-    place.write("joined.red", "K EQU 1\nx1 EQU 5\ni FOR 1\nDAT x&i, K\nROF\n")
-    place.write("ranges.red", ";@tune K 0 1 1 0\nMOV 0, 1\n")
-    yield from refused(WRONG_RANGES, lambda words: vary(place, *words[1:]))
-    yield compare("a text that does not assemble",
-                  (1, "", "refused: label.red does not assemble: Asm line 3 Value "
-                   "DivisionByZero\n"), vary(place, "label.red", "K=1:2"))
-    place.write("none.red", ";redcode\nK = 5\nMOV 0, K\n")
-    yield compare("a text that neither program reads",
-                  (1, "", "refused: none.red does not assemble: Asm line 2 Expand Text BadByte\n"),
-                  vary(place, "none.red"))
-    yield compare("a template", (1, "", "refused: ranges.red: it has range lines, so it is a "
-                  "template already\n"), vary(place, "ranges.red"))
-    yield compare("a missing file", 3, vary(place, "none").status)
-
-
-def trials(program):
-    return in_folders(lambda folder: Place(program, folder, {}), [
-        templates, hidden, signs, places, refusals])
+    def test_refusals(self):
+        for name, text in TEXTS.items():
+            self.write(name, text)
+        self.refused(WRONG_RANGES)
+        self.same("a missing file", 3, self.call("cwtune-vary none").status)

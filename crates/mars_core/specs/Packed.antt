@@ -1,6 +1,6 @@
 -- An instruction in one word of 64 bits, with a mark. From the lowest bit on:
 --
---   bits   0 .. 2    3 .. 6   8 .. 10   11 .. 13   15     16 .. 31   32 .. 38   48 .. 63
+--   bits   0 .. 2    3 .. 6   8 .. 10   11 .. 13   15     16 .. 31   32 .. 39   48 .. 63
 --          modifier  opcode   A-mode    B-mode     mark   A-number   class      B-number
 --
 -- The other bits are 0.

@@ -28,10 +28,12 @@ pub(crate) fn take_turns<C: Store>(
     if mine.is_empty() || theirs.is_empty() {
         return (cells, mine, theirs, 0);
     }
-    alternate_turns(cells, mine, theirs, size, cycles)
+    let (cells, mine, theirs, whole, more) = alternate_turns(cells, mine, theirs, size, cycles);
+    (cells, mine, theirs, 2 * whole + more)
 }
 
-// Does what `take_turns` does, for two queues that are not empty.
+// Does what `take_turns` does, for two queues that are not empty. Returns the whole cycles and the
+// turns beyond them: their sum would be one more number that the compiler keeps in a register.
 //
 // Owns the cells and the queues while it runs, so that the compiler keeps their fields in
 // registers: it has to assume that a write to a cell changes what is behind a reference. Too large
@@ -43,13 +45,13 @@ fn alternate_turns<C: Store>(
     mut theirs: C::Queue,
     size: u32,
     cycles: u32,
-) -> (C, C::Queue, C::Queue, u32)
+) -> (C, C::Queue, C::Queue, u32, u32)
     requires can_play { CanPlay size (C.items cells) (C.Queue.held mine) (C.Queue.held theirs) cycles }
     requires few { cycles ≤ stretch }
     requires mine { 0 < length (C.Queue.held mine).items }
     requires theirs { 0 < length (C.Queue.held theirs).items }
-    ensures played { IsPlayed size (C.items cells) (C.Queue.held mine) (C.Queue.held theirs) cycles result.3 (C.items result.0) (C.Queue.held result.1) (C.Queue.held result.2) }
-    ensures marks { C.marks result.0 ≤ C.marks cells + 3 * result.3 }
+    ensures played { IsPlayed size (C.items cells) (C.Queue.held mine) (C.Queue.held theirs) cycles (2 * result.3 + result.4) (C.items result.0) (C.Queue.held result.1) (C.Queue.held result.2) }
+    ensures marks { C.marks result.0 ≤ C.marks cells + 3 * (2 * result.3 + result.4) }
 {
     mine.make_room();
     theirs.make_room();
@@ -57,15 +59,15 @@ fn alternate_turns<C: Store>(
     let mut their_task = theirs.first();
     for cycle in 0..cycles {
         let Some(next) = next_turn::<C, 0>(&mut cells, &mut mine, size, my_task) else {
-            return (cells, mine, theirs, 2 * cycle + 1);
+            return (cells, mine, theirs, cycle, 1);
         };
         my_task = next;
         let Some(next) = next_turn::<C, 1>(&mut cells, &mut theirs, size, their_task) else {
-            return (cells, mine, theirs, 2 * cycle + 2);
+            return (cells, mine, theirs, cycle, 2);
         };
         their_task = next;
     }
-    (cells, mine, theirs, 2 * cycles)
+    (cells, mine, theirs, cycles, 0)
 }
 
 // Plays as `alternate` does, for any number of cycles, a stretch at a time.

@@ -77,13 +77,14 @@ pub returns-clause-played : goal.returns-clause-played
 returns-clause-played g c =
     let h = c.loop-cycle.invariant in
     let all : c.loop-cycle.cycle ≡ c.args.cycles = omega arith in
+    let whole : 2 * c.loop-cycle.cycle ≡ 2 * c.args.cycles + 0 = omega (arith, all) in
     let limit = (g.C.Queue.Tasks.held c.args.mine).capacity in
     let start = λ (first : Side). seen_from first (g.C.Store.items c.args.cells) (g.C.Queue.Tasks.held c.args.mine).items (g.C.Queue.Tasks.held c.args.theirs).items in
     record {
       turns_are = λ first.
           let e = goes_to_the_end limit _ first c.loop-cycle.cycle _ _ _ (h.going first) in
-          sym (ap (λ n. turns_of limit (start first) first n) (sym all) ∙ e ∙ ap (λ n. 2 * n) all);
-      state_is = λ first. (h.going first).state ∙ ap (λ n. play_of limit (start first) first (2 * n)) all;
+          sym (ap (λ n. turns_of limit (start first) first n) (sym all) ∙ e ∙ whole);
+      state_is = λ first. (h.going first).state ∙ ap (play_of limit (start first) first) whole;
       within = omega arith;
       core_holds = h.core;
       mine_below = h.mine_below;

@@ -8,13 +8,13 @@ of heat H), and the certificates (W-H.cert).
 
 The points of a player are a text for each opponent, with a digit for each fight.
 """
-import itertools, sys, time
+import itertools, time
 
-from .endings import end_as
-from .program import rules_of
-from .race_fights import PROGRESS_SECONDS
-from .spread_jobs import LocalJobs
-from .tuning_files import MOST_FIGHTS, Certificate
+from ..endings import end_as, tell
+from ..program import rules_of
+from ..spread.jobs import LocalJobs, ended
+from ..tuning_files import MOST_FIGHTS, Certificate
+from ..watching import Pace
 
 # How many of the ranking play in the first heat.
 FIRST_HEAT_PLAYERS = 10
@@ -48,32 +48,19 @@ class Heat:
     def play(self, players):
         """Plays all fights. Returns the points of each player."""
         shown = "the winner and START" if START in players else f"{len(players)} settings"
-        print(f"fresh fights, heat {self.number}: {shown}, "
-              f"{self.fights * len(self.study.opponents)} each", file=sys.stderr, flush=True)
-        jobs, seconds = LocalJobs(self.study.args, self, players), {}
-        told_at = time.monotonic()
-        try:
-            while jobs.keep_running():
-                for player, status in jobs.take_ended():
-                    self.refuse_failed(player, status)
-                    seconds[player] = time.monotonic() - self.began_at[player]
-                if time.monotonic() - told_at > PROGRESS_SECONDS:
-                    told_at = time.monotonic()
-                    print(f"heat {self.number}: {len(seconds)} of {len(players)} have played",
-                          file=sys.stderr, flush=True)
-                time.sleep(0.01)
-        finally:
-            jobs.stop()
+        tell(f"fresh fights, heat {self.number}: {shown}, "
+             f"{self.fights * len(self.study.opponents)} each")
+        jobs, seconds, pace = LocalJobs(self.study.args, self, players), {}, Pace()
+        for player, status in ended(jobs, lambda: pace.tell(
+                f"heat {self.number}: {len(seconds)} of {len(players)} have played")):
+            if status:
+                end_as(self.study.args.program, status, self.file(player, "fault").read_bytes())
+            for kind in ["report", "fault"]:
+                self.file(player, kind).unlink()
+            seconds[player] = time.monotonic() - self.began_at[player]
         for player in players:
             self.study.folder.log_command(self.words(player), "", seconds[player])
         return {player: self.points(player) for player in players}
-
-    def refuse_failed(self, player, status):
-        """Ends as the run of a player did if it has no result. Else removes what it printed."""
-        if status:
-            end_as(self.study.args.program, status, self.file(player, "fault").read_bytes())
-        for kind in ["report", "fault"]:
-            self.file(player, kind).unlink()
 
     def points(self, player):
         """Returns the points of a player, which are in its certificate."""
@@ -109,13 +96,6 @@ def play_heat(study, number, players, fights):
                         *(f"fresh/{player}.red" for player in new_players))
 
 
-def better_half(players, points, weights):
-    """Returns the better half of the players, two at least. Of equal ones the first go on."""
-    ranked = sorted(players, key=lambda player: -total_of(points[player], weights))
-    better = ranked[:max(2, (len(players) + 1) // 2)]
-    return [player for player in players if player in better]
-
-
 def total_of(points, weights):
     return sum(weight * sum(map(int, text)) for text, weight in zip(points, weights))
 
@@ -130,7 +110,9 @@ def halve(study, settings):
             points[player] = [text + new_text for text, new_text in zip(before, new_points)]
         if len(players) <= 2:
             return number, points
-        players = better_half(players, points, study.args.weights)
+        ranked = sorted(players, key=lambda player: -total_of(points[player], study.args.weights))
+        better = ranked[:max(2, (len(players) + 1) // 2)]
+        players = [player for player in players if player in better]
 
 
 def find_winner(study, settings):
@@ -140,7 +122,6 @@ def find_winner(study, settings):
     fights_of = {player: len(texts[0]) for player, texts in points.items()}
     most_fights = max(fights_of.values())
     finalists = [player for player in points if fights_of[player] == most_fights]
-    winner = max(finalists, key=lambda player: total_of(points[player],
-                                                                study.args.weights))
+    winner = max(finalists, key=lambda player: total_of(points[player], study.args.weights))
     fights = min(most_fights, MOST_FIGHTS // len(study.opponents))
     return winner, points, play_heat(study, heats + 1, [winner, START], fights)

@@ -8,11 +8,11 @@ the line that the check of share I printed.
 import csv, re
 from typing import Annotated
 
-from .endings import Fault
-from .program import rules_of
-from .regular import read_regular, sha256_of
-from .spread_folder import JOB_FILES, Copy, SpreadFolder, copies_of
-from .spread_parts import COUNT, MOST_REPORT_BYTES, RANK, fault_of_job
+from ..endings import Fault
+from ..program import rules_of
+from ..regular import sha256_of
+from .folder import JOB_FILES, ClusterPieces, Copy, SpreadFolder, copies_of
+from .parts import COUNT, RANK
 
 ACCEPTED = re.compile(rf"accepted share ({COUNT})/({COUNT}) best ({COUNT}) total ({COUNT})\n"
                       rf"(?P<ranks>({RANK})*)")
@@ -54,7 +54,9 @@ def verdict_of(texts, cert):
 def first_rejection(rejections, cert):
     """Returns the rejection, a record and a reason, that a check of the whole finds first. Like
     each share, it looks at `same` rows last."""
-    same = same_rows(cert) if len(rejections) > 1 else set()
+    with open(cert, encoding="utf-8-sig", errors="replace", newline="") as file:
+        records = filter(None, csv.reader(file) if len(rejections) > 1 else ())
+        same = {index for index, record in enumerate(records) if record[0] == "same"}
 
     def order(rejection):
         row, reason = rejection
@@ -68,49 +70,30 @@ def keep_words(keep):
     return [f"--keep={keep}"] if keep > 1 else []
 
 
-def same_rows(cert):
-    """Returns the indices of the records that refer to another setting. Empty lines are none."""
-    with open(cert, encoding="utf-8-sig", errors="replace", newline="") as file:
-        records = (record for record in csv.reader(file) if record)
-        return {index for index, record in enumerate(records) if record[0] == "same"}
-
-
-class ClusterShares:
-    """The shares that the jobs of a cluster have written beside CERT.
-
-    Job I writes CERT.I.check: the SHA-256 digest of CERT, what the check prints, and the digest
-    again.
-    """
+class ClusterShares(ClusterPieces):
+    """Shares. Job I writes CERT.I.check: the SHA-256 digest of CERT, what the check prints, and the
+    digest again."""
 
     PIECE = "share"
 
     def __init__(self, args, setting_count):
-        self.given_path, self.piece_count = args.cert, args.merge
-        self.setting_count, self.keep = setting_count, args.keep
+        super().__init__(args, setting_count)
         self.digest = sha256_of(args.cert)
 
     def result(self, number):
         """Returns what a share printed, or None if its job left nothing for this certificate."""
         try:
-            text = read_regular(MOST_REPORT_BYTES, f"{self.given_path}.{number}.check").decode()
+            lines = self.read(number, "check").splitlines(keepends=True)
         except (FileNotFoundError, ValueError):
             return None
-        lines = text.splitlines(keepends=True)
         if len(lines) < 3 or lines[0] != lines[-1] or not lines[0].startswith(self.digest):
             return None
         return verdict_in("".join(lines[1:-1]), number, self.piece_count, self.keep)
 
     def fault(self, number):
         """Returns why a share has no result."""
-        check = f"{self.given_path}.{number}.check"
-        return fault_of_job(f"{check}.fault", f"{check} is cut, or of another certificate, number "
-                            "of shares or --keep")
-
-    def refuse_changed_inputs(self):
-        """Does nothing: `result` takes only what is between two digests of CERT as it is now."""
-
-    def clean_up(self):
-        """Leaves the files of the jobs where they are."""
+        return self.fault_in(f"{number}.check.fault", f"{self.given_path}.{number}.check is cut, "
+                             "or of another certificate, number of shares or --keep")
 
 
 class Shares(SpreadFolder):
@@ -145,8 +128,7 @@ class Shares(SpreadFolder):
         if is_verdict(printed, status, number, self.piece_count, self.keep):
             self.write_done(number, printed)
             return None
-        fault = self.file(number, "fault").read_text(errors="surrogateescape")
-        return fault or f"failed: it ended with status {status}\n"
+        return self.fault(number, status)
 
     def result(self, number):
         """Returns what a share printed, or None if it is not done."""

@@ -2,15 +2,15 @@
 import argparse, hashlib, json, math, os, pathlib
 from typing import NamedTuple
 
-from . import vary
-from .adapt import adapted_for, adapted_opponents, read_text
-from .endings import Fault, fault_of, quoted
-from .grid import Grid, is_range_line
-from .openings import opening_from
-from .program import EXPLAIN, rules_of, run_program
-from .series import refuse_distance, refuse_fights, refuse_seed
-from .tuning_files import MOST_OPPONENTS, MOST_WEIGHT
-from .writing import temporary_folder
+from .. import vary
+from ..adapt import adapted_for, adapted_opponents, read_text
+from ..endings import Fault, fault_of, quoted
+from ..grid import Grid, is_range_line
+from ..openings import opening_from
+from ..program import EXPLAIN, rules_of, run_program
+from ..series import refuse_distance, refuse_fights, refuse_seed
+from ..tuning_files import MOST_OPPONENTS, MOST_WEIGHT
+from ..writing import temporary_file
 
 # The options that a study depends on.
 OPTIONS = ["rounds", "seed", "exact", "box", "fresh", "fights", "minutes", "certify"]
@@ -51,10 +51,13 @@ def sort_words(parser, args):
     """Sorts the words of the command into the warrior, the opponents and the ranges."""
     words, args.ranges = [], []
     for word in [args.warrior, *args.opponents]:
-        if is_range(word):
-            args.ranges.append(range_of(parser, word))
-        else:
+        if not is_range(word):
             words.append(word)
+            continue
+        try:
+            args.ranges.append(opening_from(word))
+        except argparse.ArgumentTypeError as fault:
+            parser.error(str(fault))
     if not words:
         parser.error("WARRIOR is missing: a template, or a warrior with words PLACE=VALUES")
     args.warrior, opponents = words[0], [opponents_named(parser, word) for word in words[1:]]
@@ -97,13 +100,6 @@ def weights_of(parser, opponents, by_kind):
     return weights
 
 
-def range_of(parser, word):
-    try:
-        return opening_from(word)
-    except argparse.ArgumentTypeError as fault:
-        parser.error(str(fault))
-
-
 def paths_of(word):
     """Returns the files that a word names: itself, or of a folder all *.red by their names."""
     if not os.path.isdir(word):
@@ -126,7 +122,7 @@ def settle_options(parser, args):
     refuse_fights(parser, "--fresh", args.fresh, len(args.opponents))
 
 
-def read(parser, args):
+def read_inputs(parser, args):
     """Reads the files that the words name, and refuses those that make no study."""
     sort_words(parser, args)
     settle_options(parser, args)
@@ -153,11 +149,9 @@ def refuse_start(args, grid):
 
     For this each constant has its START alone, as `cwtune` takes at most a million settings.
     """
-    with temporary_folder() as folder:
-        path = pathlib.Path(folder, os.path.basename(args.warrior))
-        path.write_bytes(grid.line_through(grid.start_values, ()))
-        refuse_text(args, f"START of {args.warrior}", "--setting=start", "--", path.name,
-                    cwd=folder)
+    with temporary_file(args.warrior, grid.line_through(grid.start_values, ())) as path:
+        refuse_text(args, f"START of {args.warrior}", "--setting=start", "--",
+                    os.path.basename(path), cwd=os.path.dirname(path))
 
 
 def refuse_text(args, name, *words, **options):

@@ -5,7 +5,7 @@ with `<`, or with bytes that are not UTF-8, is shown and never read as a tag.
 """
 import html, itertools, math, re
 
-from .study_style import STYLE
+from .style import STYLE
 
 # The characters that no page may hold, or that turn the order of the text around.
 UNSHOWN = re.compile(r"[\x00-\x08\x0b-\x1f\x7f-\x9f\u202a-\u202e\u2066-\u2069\ud800-\udfff\ufffe"
@@ -59,13 +59,6 @@ def head_rows(heads, groups, styles):
                   for head, style in zip(heads, styles))
 
 
-def column_styles(heads, groups, texts):
-    """Returns the style of each column: words, or numbers, or the first numbers of a group."""
-    group_ends = list(itertools.accumulate(span for _, span in groups))
-    return ["text" if column < texts else "first" if column in group_ends else "number"
-            for column in range(len(heads))]
-
-
 def body_row(cells, styles, is_marked):
     """Returns a row of a table, whose first cell is its head."""
     row_style = ' class="marked"' if is_marked else ""
@@ -81,17 +74,13 @@ def table(caption, heads, rows, texts=1, groups=(), marked=()):
     Heads and cells are pieces. The first `texts` columns are words, the others numbers; `marked`
     are the indices of rows that are brought out.
     """
-    styles = column_styles(heads, groups, texts)
+    group_ends = list(itertools.accumulate(span for _, span in groups))
+    styles = ["text" if column < texts else "first" if column in group_ends else "number"
+              for column in range(len(heads))]
     head = "".join(f"<tr>{row}</tr>" for row in head_rows(heads, groups, styles))
     body = "".join(body_row(row, styles, index in marked) for index, row in enumerate(rows))
     return boxed(caption, f"<table><caption>{escaped(caption)}</caption><thead>{head}</thead>"
                           f"<tbody>{body}</tbody></table>")
-
-
-def name_list(pairs):
-    """Returns a list of names with what they mean. Both are pieces."""
-    items = (f"<dt>{name}</dt><dd>{meaning}</dd>" for name, meaning in pairs)
-    return f"<dl>{''.join(items)}</dl>"
 
 
 def source(label, text):

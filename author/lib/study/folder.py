@@ -10,22 +10,23 @@ of a stage that is done has to stay as it was.
 import contextlib, dataclasses, json, os, pathlib, re, subprocess, sys, time
 from typing import Annotated, Any, TypedDict
 
-from . import spread_parts, spread_shares
-from .endings import Fault, end_with_parent, ended_with, quoted, shown, status_of
-from .own_folder import OwnFolder, real_parent
-from .program import DEFAULT
-from .schema import Malformed, checked
-from .writing import naming
+from ..endings import Fault, end_with_parent, ended_with, quoted, shown, status_of
+from ..own_folder import OwnFolder, real_parent
+from ..program import DEFAULT
+from ..schema import Malformed, checked
+from ..spread.parts import Parts
+from ..spread.shares import Shares
+from ..writing import naming
 
-AUTHOR = pathlib.Path(__file__).resolve().parents[1]
+AUTHOR = pathlib.Path(__file__).resolve().parents[2]
 # The names that a study gives in its folder, in its rooms, and those that cwtune-spread gives in
 # the rooms that it makes beside best.cert. `opponents` has the names of the opponents.
 NAMES = {
-    "": r"(original|template|warrior|start|box|found|winner)\.red|schedule\.csv|best\.(cert(\.inputs)?|txt)|"
-        r"(race|challenge)\.jsonl|report\.(json|html)|log\.txt",
+    "": r"(original|template|warrior|start|box|found|winner)\.red|schedule\.csv|log\.txt|"
+        r"best\.(cert(\.inputs)?|txt)|(race|challenge)\.jsonl|report\.(json|html)",
     "fresh": r"(\d+|start)(-\d+)?\.(red|cert|cert\.inputs|csv|report|fault)(\.unfinished-\d+)?",
     **{f"best.cert.{name}": rf"spread\.json|{kind.OWN_FILES}|{kind.UNFINISHED_FILES}"
-       for name, kind in [("parts", spread_parts.Parts), ("shares", spread_shares.Shares)]},
+       for name, kind in [("parts", Parts), ("shares", Shares)]},
 }
 # How notes on the adapted text begin. The author was told that it is adapted, by the name of the
 # file that was given.
@@ -70,7 +71,7 @@ class Stage(TypedDict):
 
 
 class Fingerprint(TypedDict):
-    """The fingerprint of what a study depends on; `study_inputs` says what else it has."""
+    """The fingerprint of what a study depends on; `inputs` says what else it has."""
 
     opponents: list[tuple[Annotated[str, re.compile(r"(?!\.\.?$)[^/\0\n]+")], str]]
 
@@ -107,7 +108,11 @@ class StudyFolder(OwnFolder):
         if begins and mark:
             self.write_mark(dataclasses.replace(mark, stages={}, removing=True))
             self.remove_all()
-        self.remove_unfinished()
+        # What a run that was killed may leave, but for that of `cwtune-spread`.
+        for name, pattern in self.patterns():
+            with self.room(name) as room:
+                if room and not name.startswith("best.cert."):
+                    room.remove(f"(?=(?:{pattern})$){UNFINISHED}")
         self.mark = Mark(self.maker(), fingerprint, {}) if begins else mark
         self.write_mark(self.mark)
 
@@ -123,13 +128,6 @@ class StudyFolder(OwnFolder):
         except Malformed as fault:
             raise Fault(f"{self.given_path}/{self.MARK}: {fault}", 2) from None
         return mark
-
-    def remove_unfinished(self):
-        """Removes what a run that was killed may leave, but for that of `cwtune-spread`."""
-        for name, pattern in self.patterns():
-            with self.room(name) as room:
-                if room and not name.startswith("best.cert."):
-                    room.remove(f"(?=(?:{pattern})$){UNFINISHED}")
 
     def stage(self, name, run_stage, *files):
         """Returns the result of a stage. If it is not done, or a file is missing, `run_stage` does

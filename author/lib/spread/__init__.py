@@ -19,21 +19,22 @@ a folder is of other inputs; 3 a job has no result, or a file cannot be read or 
 
 Example: cwtune-spread --jobs 4 my.red fights.csv my.cert dwarf.red scanner.red
 """
-import contextlib, os, shutil, sys, time
+import contextlib, os, shutil, sys
 
-from . import cert_inputs, spread_parts, spread_shares, tuning_files
-from .endings import Fault, end_as
-from .program import EXPLAIN, reading_output, rules_of, run_program
-from .regular import refuse_endless
-from .spread_folder import SpreadFolder
-from .spread_hosts import HostJobs
-from .spread_jobs import LocalJobs
-from .spread_parts import Part
-from .spread_progress import PartsProgress, SharesProgress
-from .spread_report import best_of, index_of, ranks_of, report_lines, write_whole
-from .spread_words import MOST_PIECES, add_options, refuse_idle
-from .words import command_parser
-from .writing import naming, whole_file
+from .. import cert_inputs, tuning_files
+from ..endings import Fault, end_as, tell
+from ..program import EXPLAIN, reading_output, rules_of, run_program
+from ..regular import refuse_endless
+from ..words import command_parser
+from ..writing import naming, whole_file
+from .folder import SpreadFolder
+from .hosts import HostJobs
+from .jobs import LocalJobs, ended
+from .parts import ClusterParts, Part, Parts
+from .progress import PartsProgress, SharesProgress
+from .report import best_of, index_of, ranks_of, report_lines, write_whole
+from .shares import ClusterShares, Shares, keep_words, verdict_of
+from .words import MOST_PIECES, add_options, refuse_idle
 
 NO_SUCH_PART = b"error: --part I/K: the template has fewer than K settings\n"
 
@@ -50,7 +51,7 @@ def refuse_faults(args):
     A template has at most a million settings. So if nothing else is wrong, `tune` looks at all
     inputs, says that there is no such part, and plays no fight.
     """
-    completed = tune_part(args, f"1/{MOST_PIECES}")
+    completed = run(args, "tune", args.cert, f"--part=1/{MOST_PIECES}", *tune_options(args))
     if NO_SUCH_PART not in completed.stderr:
         end_as(args.program, completed.returncode, completed.stderr)
 
@@ -60,17 +61,16 @@ def explain_words(args):
     return ["--explain"] if args.explain or EXPLAIN else []
 
 
-def tune_part(args, part):
-    """Runs the tuning of a part as `tune` alone does."""
-    return run_program(args.program, "tune", f"--part={part}", *explain_words(args),
-                       *tune_options(args), "--", args.template, args.schedule, args.cert,
-                       *args.opponent)
+def run(args, command, cert, *options):
+    """Runs `tune` or `check` on the inputs as they are."""
+    return run_program(args.program, command, *options, *explain_words(args), "--", args.template,
+                       args.schedule, cert, *args.opponent)
 
 
 def tune_options(args):
     """Returns the rules, the method and the ranking of the tuning as options of `tune`."""
     return [*rules_of(args).words(), "--all" if args.all else f"--cache={args.cache}",
-            *spread_shares.keep_words(args.keep)]
+            *keep_words(args.keep)]
 
 
 def method_of(args):
@@ -96,10 +96,8 @@ def rejection_by_form(args, cert, notes):
 
     The first of 4294967295 shares has no setting, so nothing else is looked at.
     """
-    completed = run_program(args.program, "check", f"--share=1/{MOST_PIECES}",
-                            *explain_words(args), *spread_shares.keep_words(args.keep),
-                            *rules_of(args).words(), "--", args.template, args.schedule, cert,
-                            *args.opponent)
+    completed = run(args, "check", cert, f"--share=1/{MOST_PIECES}", *keep_words(args.keep),
+                    *rules_of(args).words())
     new_stderr = completed.stderr.removeprefix(notes)
     if completed.returncode != 0 and not completed.stdout:
         end_as(args.program, completed.returncode, new_stderr)
@@ -111,14 +109,13 @@ def check(args, setting_count, notes, cert):
     """Checks a certificate in shares. Returns what the whole check prints, and its status."""
     if line := rejection_by_form(args, cert, notes):
         return line, 1
-    merges = args.check_only and args.merge
-    shares = (spread_shares.ClusterShares(args, setting_count) if merges
-              else spread_shares.Shares(args, setting_count, cert))
+    shares = (ClusterShares(args, setting_count) if args.check_only and args.merge
+              else Shares(args, setting_count, cert))
     progress = SharesProgress(shares, args.progress)
     with explaining_stop(shares, progress):
         refuse_missing(shares, progress, run_jobs(args, shares, progress))
         shares.refuse_changed_inputs()
-        verdict = spread_shares.verdict_of(progress.done(), cert)
+        verdict = verdict_of(progress.done(), cert)
         shares.clean_up()
     return verdict, 0 if verdict.startswith("accepted") else 1
 
@@ -130,34 +127,27 @@ def explaining_stop(folder, progress):
         yield
     except KeyboardInterrupt as stop:
         if not stop.args and isinstance(folder, SpreadFolder):
-            how = ("repeat the command" if folder.is_removed
-                   else how_to_go_on(folder, progress))
-            print(f"stopped: {how}", file=sys.stderr)
+            tell("stopped: " + ("repeat the command" if folder.is_removed
+                                else how_to_go_on(folder, progress)))
         raise KeyboardInterrupt("said") from None
 
 
 def run_jobs(args, folder, progress):
     """Runs the pieces that are not done, if they are not those of a cluster. Returns for each its
-    fault, or None if it has a result."""
+    fault or a text that says why it has no result, or None if it has one."""
     if not isinstance(folder, SpreadFolder):
         return {number: folder.fault(number) for number in progress.numbers_left()}
-    faults, jobs = {}, None
+    faults = {}
     try:
         progress.show()
         numbers = folder.in_order(progress.numbers_left())
         jobs = (HostJobs if args.hosts else LocalJobs)(args, folder, numbers)
-        while jobs.keep_running():
-            for number, status in jobs.take_ended():
-                faults[number] = folder.take_result(number, status)
-                progress.results[number] = folder.result(number)
-            progress.show()
-            time.sleep(0.02)
-        faults |= dict.fromkeys(jobs.waiting, jobs.fault)
+        for number, status in ended(jobs, progress.show):
+            faults[number] = folder.take_result(number, status)
+            progress.results[number] = folder.result(number)
+        return faults | dict.fromkeys(jobs.waiting, jobs.fault)
     finally:
-        if jobs:
-            jobs.stop()
         progress.clear()
-    return faults
 
 
 def how_to_go_on(folder, progress):
@@ -171,13 +161,12 @@ def refuse_missing(folder, progress, faults):
     missing = progress.numbers_left()
     if not missing:
         return
-    messages = [faults[number] for number in missing if faults.get(number)]
-    for message in messages:
-        if message.startswith(("refused: ", "error: ")):
-            word, fault = message.split(": ", 1)
-            raise Fault(fault.strip(), 1 if word == "refused" else 2)
+    known = [faults[number] for number in missing if faults.get(number)]
+    for fault in known:
+        if isinstance(fault, Fault) and fault.status < 3:
+            raise fault
     numbers = f"{'s' * (len(missing) > 1)} {', '.join(map(str, missing))} of {folder.piece_count}"
-    why = f" ({messages[0].strip()})" if messages else ""
+    why = f" ({known[0]})" if known else ""
     hint = f"\n{how_to_go_on(folder, progress)}" if isinstance(folder, SpreadFolder) else ""
     raise Fault(f"no result for {folder.PIECE}{numbers}{why}{hint}", 3)
 
@@ -189,9 +178,10 @@ def refuse_floors(parts):
     greatest, best_setting = (best.total(), index_of(best)) if best else (-1, 0)
     for part in filter(Part.is_below, parts):
         floor = int(part.report["total"].split()[1])
-        if floor - 1 > greatest or floor - 1 == greatest and part.first < best_setting:
-            raise Fault(f"the part from setting {part.first} on says only that it is below {floor}, "
-                        f"and no other total is above {max(greatest, 0)}: it may hide the best", 2)
+        first = part.settings.start
+        if floor - 1 > greatest or floor - 1 == greatest and first < best_setting:
+            raise Fault(f"the part from setting {first} on says only that it is below {floor}, and "
+                        f"no other total is above {max(greatest, 0)}: it may hide the best", 2)
 
 
 def refuse_ranking(args, cert):
@@ -204,18 +194,14 @@ def refuse_ranking(args, cert):
                         f"were they tuned with --keep {args.keep}?", 2)
 
 
-def end_without_candidate(args, folder, notes):
-    """Ends as `tune` ends if no setting assembles. The notes were shown before."""
-    folder.clean_up()
-    completed = tune_part(args, f"1/{folder.piece_count}")
-    end_as(args.program, completed.returncode, completed.stderr.removeprefix(notes))
-
-
 def finish(args, folder, progress, notes):
     """Puts the parts together, writes CERT and prints the report. Returns the status."""
     parts, whole = progress.done(), folder.whole()
-    if not any(part.report for part in parts):
-        end_without_candidate(args, folder, notes)
+    if not any(part.report for part in parts):  # no setting assembles, and `tune` says so
+        folder.clean_up()
+        completed = run(args, "tune", args.cert, f"--part=1/{folder.piece_count}",
+                        *tune_options(args))
+        end_as(args.program, completed.returncode, completed.stderr.removeprefix(notes))
     refuse_floors(parts)
     with naming(folder.given_path):
         write_whole(folder, progress.results)
@@ -224,23 +210,18 @@ def finish(args, folder, progress, notes):
     printed, status = check(args, folder.setting_count, notes, whole) if args.check else ("", 0)
     if status:
         print(printed, end="", flush=True)
-        print(f"{args.cert} is not written, and the parts stay", file=sys.stderr)
+        tell(f"{args.cert} is not written, and the parts stay")
         return status
     verdict, checked_ranks = printed.splitlines()[:1], printed.splitlines()[1:]
     if verdict and checked_ranks != ranks:
         raise Fault("the check names another ranking than the parts", 3)
-    write_cert(args, whole)
+    with whole.open() as source, whole_file(args.cert) as file:
+        shutil.copyfileobj(source, file)
+    write_inputs(args)
     print_start(args, whole)
     print(*report_lines(parts, folder.setting_count), *ranks, *verdict, sep="\n", flush=True)
     folder.clean_up()
     return 0
-
-
-def write_cert(args, whole):
-    """Copies the certificate of the whole template to CERT, and writes CERT.inputs."""
-    with whole.open() as source, whole_file(args.cert) as file:
-        shutil.copyfileobj(source, file)
-    write_inputs(args)
 
 
 def write_inputs(args):
@@ -268,16 +249,16 @@ def print_start(args, whole):
     cert, template = tuning_files.Certificate(whole), tuning_files.Template(args.template)
     total = cert.total_of(template.start, tuning_files.read_schedule(args.schedule))
     if total is not None:
-        print(f"  START, setting {template.start}, total {total} "
-              f"{template.constants(template.start)}", file=sys.stderr)
+        tell(f"  START, setting {template.start}, total {total} "
+             f"{template.constants(template.start)}")
 
 
 def tune(args, setting_count, notes):
     """Tunes in parts, or puts together what the jobs of a cluster wrote. Returns the status."""
     if args.merge and args.merge > setting_count:
         raise Fault(f"--merge {args.merge}: the template has fewer than {args.merge} settings", 2)
-    folder = (spread_parts.ClusterParts(args, setting_count) if args.merge
-              else spread_parts.Parts(args, setting_count, tune_options(args)))
+    folder = (ClusterParts(args, setting_count) if args.merge
+              else Parts(args, setting_count, tune_options(args)))
     progress = PartsProgress(folder, args.progress)
     for number in range(1, (args.merge or 0) + 1):
         part = f"{number}/{args.merge}"

@@ -1,12 +1,12 @@
 """Collects what `cwtune-study` found: the numbers of `report.json`."""
 import datetime, math, re
 
-from . import landscape
-from .grid import Grid
-from .holdout import FreshPoints, gain_numbers, gain_of
-from .program import rules_of, run_program
-from .study_fresh import START
-from .tuning_files import Certificate, Template, read_schedule
+from .. import landscape
+from ..grid import Grid
+from ..holdout import FreshPoints, gain_numbers, gain_of
+from ..program import rules_of, run_program
+from ..tuning_files import Certificate, Template, read_schedule
+from .fresh import START
 
 FILES = ["template.red", "schedule.csv", "box.red", "best.cert", "winner.red"]
 
@@ -159,8 +159,3 @@ def raced_numbers(study, results):
         middle = found.template.values_of_settings.index(tuple(race["winner"]))
         report |= {"landscape": found.landscape(middle), "effects": found.effects()}
     return report
-
-
-def report_numbers(study, results):
-    """Returns the report, of what the stages of the study found."""
-    return (raced_numbers if "race" in results else tuned_numbers)(study, results)

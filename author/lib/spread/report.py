@@ -1,11 +1,12 @@
 """Puts the parts of a tuning together: the report and the certificate of the whole template."""
 import contextlib
 
-from .endings import Fault
-from .regular import open_regular, read_regular
-from .spread_parts import MOST_REPORT_BYTES, Part
-from .words import counted
-from .writing import naming
+from ..endings import Fault
+from ..regular import open_regular, read_regular
+from ..words import counted
+from ..writing import naming
+from .folder import MOST_REPORT_BYTES
+from .parts import Part
 
 # The most that `cwtune check` reads of a certificate.
 MOST_CERT_BYTES = 1 << 30
@@ -18,7 +19,7 @@ def best_of(parts):
 
 def index_of(part):
     """Returns the index of the part's best setting within the whole template."""
-    return part.first + int(part.report["best"])
+    return part.settings.start + int(part.report["best"])
 
 
 def summed(parts, name, index):
@@ -55,14 +56,6 @@ def report_lines(parts, setting_count):
     ]
 
 
-def row_of_whole(part, row):
-    """Returns a row of a part with its settings counted within the whole template."""
-    kind, setting, content = row.split(",")
-    if kind == "same":
-        content = str(int(content) + part.first)
-    return f"{kind},{int(setting) + part.first},{content}"
-
-
 @contextlib.contextmanager
 def reading(folder, number):
     """Gives a block the path of the certificate of a part, and names it in its faults."""
@@ -75,19 +68,23 @@ def reading(folder, number):
 
 
 def rows_of(folder, number, part):
-    """Yields the rows of a part. There has to be one for each of its settings."""
+    """Yields the rows of a part, with settings counted within the whole template. There has to be
+    one for each of its settings."""
+    first, count = part.settings.start, len(part.settings)
     if not part.report:
-        settings = range(part.first, part.first + part.count)
-        yield from (f"refused,{setting},-" for setting in settings)
+        yield from (f"refused,{setting},-" for setting in part.settings)
         return
     with reading(folder, number) as path:
         header, _, *rows = read_regular(MOST_CERT_BYTES, path).decode().splitlines()
-        _, _, count = header.split(",")
-        if {count, part.report["vectors"], str(len(rows))} != {str(part.count)}:
+        _, _, count_there = header.split(",")
+        if {count_there, part.report["vectors"], str(len(rows))} != {str(count)}:
             raise Fault(f"the certificate of part {number} has {counted(len(rows), 'row')}, and "
-                        f"the part has {counted(part.count, 'setting')}", 3)
+                        f"the part has {counted(count, 'setting')}", 3)
         for row in rows:
-            yield row_of_whole(part, row)
+            kind, setting, content = row.split(",")
+            if kind == "same":
+                content = str(int(content) + first)
+            yield f"{kind},{int(setting) + first},{content}"
 
 
 def write_whole(folder, parts):

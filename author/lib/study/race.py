@@ -5,15 +5,16 @@ first of the box's ranking then play against the winner. The best of these takes
 only if further fights, which picked nothing, show that it is better. What was played is kept in
 `race.jsonl` and `challenge.jsonl`, so that a race that was stopped goes on.
 """
-import contextlib, math, sys, time
+import contextlib, math, time
 
-from .holdout import gain_of, is_gain
-from .race import Race
-from .race_fights import Arena, budget_of
-from .race_journal import Journal
-from .study_fresh import FIRST_HEAT_PLAYERS
-from .tuning_files import Certificate, Template, read_schedule, schedule_text
-from .writing import temporary_folder
+from ..endings import tell
+from ..holdout import gain_of
+from ..race import Race
+from ..race_fights import Arena, budget_of
+from ..race_journal import Journal
+from ..tuning_files import Template, schedule_text
+from ..writing import temporary_folder
+from .fresh import FIRST_HEAT_PLAYERS
 
 # The budget, if a box may follow the race. Which part is used when the race ends, when the best of
 # the box's first is picked, and when it was compared with the race's winner. The box itself takes
@@ -102,7 +103,7 @@ class RaceOfStudy:
         folder, began_at, winner = self.folder, time.monotonic(), race["winner"]
         ranges, rounds = self.grid.box(winner, self.reach()), self.rounds(race["fights"])
         settings = math.prod(map(len, ranges))
-        print(f"the {settings} settings around the winner are tuned", file=sys.stderr, flush=True)
+        tell(f"the {settings} settings around the winner are tuned")
         folder.write("box.red", self.grid.text(ranges, winner))
         with self.arena("challenge.jsonl", race) as arena:
             fights = sorted(fight for block in arena.new_blocks(rounds) for fight in block)
@@ -110,28 +111,20 @@ class RaceOfStudy:
         folder.write("schedule.csv", schedule_text(weighted).encode())
         folder.log_note("box.red and schedule.csv: the settings around the winner, and fights", 0)
         words = ["--all", "--check"] if self.args.certify else [f"--keep={CHALLENGERS[0]}"]
-        folder.run(self.study.spread_words(*words), "best.txt", logs_messages=False)
-        lines = (folder.path / "best.txt").read_text().splitlines()
-        played = next(line.split()[1] for line in lines if line.startswith("fights "))
+        tuned = self.study.tune_box(*words)
         # Which fights a search plays depends on --jobs, so the budget is charged with all.
-        return {"settings": settings, "blocks": rounds, "fights": int(played),
+        return {"settings": settings, "blocks": rounds, "fights": tuned["fights"],
                 "charged": settings * rounds * len(self.study.opponents),
                 "seconds": time.monotonic() - began_at,
-                "check": lines[-1] if self.args.certify else None}
-
-    def first_of_box(self):
-        """Returns the values of the first of the box's ranking."""
-        path = self.folder.path
-        ranking = Certificate(path / "best.cert").ranked(read_schedule(path / "schedule.csv"))
-        values = Template(path / "box.red").values_of_settings
-        return [values[setting] for _, setting in ranking.full[:CHALLENGERS[0]]]
+                "check": tuned["check"] if self.args.certify else None}
 
     def challenge(self, race, box):
         """Has the first of the box play against the race's winner. Returns the best of the box;
         its points and the winner's in fights that did not pick it; and, if these show that it is
         better, its points and START's in further fights."""
-        winner = tuple(race["winner"])
-        others = [values for values in self.first_of_box() if values != winner]
+        winner, box_of = tuple(race["winner"]), Template(self.folder.path / "box.red")
+        first = [box_of.values_of_settings[setting] for setting in self.study.first_settings()]
+        others = [values for values in first if values != winner]
         with self.arena("challenge.jsonl", race, box) as arena:
             match = Race(self.grid, arena, self.args.seed)
             arena.news = "the first of the box against the winner"
@@ -151,4 +144,4 @@ class RaceOfStudy:
 def gains(points, weights):
     """Returns whether one setting is better than another by the points of both, if they played."""
     gain = points and gain_of(points, weights)
-    return bool(gain) and is_gain(gain)
+    return bool(gain) and gain.mean() > 2 * gain.error()

@@ -1,4 +1,4 @@
-"""Draws bars and lines as SVG, without a script, in the styles of study_style.
+"""Draws bars and lines as SVG, without a script, in the styles of `style`.
 
 A picture is 360 units wide, as much as a phone shows, and its letters are 11 units high. A table
 beside it has the same numbers. Coordinates are in units, from the left upper corner.
@@ -6,8 +6,8 @@ beside it has the same numbers. Coordinates are in units, from the left upper co
 import math
 from typing import NamedTuple
 
-from .mean_error import error_of_mean
-from .study_page import decimal, escaped
+from ..mean_error import error_of_mean
+from .page import decimal, escaped
 
 WIDTH = 360
 # Where an axis from left to right begins and ends.

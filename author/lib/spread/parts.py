@@ -13,18 +13,16 @@ settings reaches its floor, its report and its certificate say so.
 import contextlib, dataclasses, os, pathlib, re, subprocess
 from typing import Annotated, NamedTuple
 
-from .endings import STATUS_WORDS, Fault, end_with_parent, shown
-from .grid import NAME
-from .program import NO_CANDIDATE, rules_of
-from .regular import read_regular, sha256_of
-from .schema import Sha256
-from .spread_folder import JOB_FILES, SpreadFolder, copies_of
-from .tuning_files import MOST_BYTES, Template
+from ..endings import Fault, end_with_parent
+from ..grid import NAME
+from ..program import NO_CANDIDATE, rules_of
+from ..regular import sha256_of
+from ..schema import Sha256
+from ..tuning_files import MOST_BYTES, Template
+from .folder import JOB_FILES, ClusterPieces, SpreadFolder, copies_of
 
 # A count that `cwtune` prints, and the values of a setting.
 COUNT, CONSTANTS = r"\d{1,20}", rf"{NAME}=-?\d{{1,5}}(?: {NAME}=-?\d{{1,5}})*"
-# More than a report has that ranks as many as `cwtune` keeps.
-MOST_REPORT_BYTES = 1 << 20
 RANK = rf"rank {COUNT} setting ({COUNT}) total ({COUNT})(?: ({CONSTANTS}))?\n"
 REPORT = re.compile(
     rf"vectors {COUNT}\ncandidates {COUNT}\n"
@@ -34,11 +32,10 @@ REPORT = re.compile(
 
 
 class Part(NamedTuple):
-    """What came of a part: its first setting, how many settings it has, and its report by the first
-    words of the lines, which is empty without a candidate."""
+    """What came of a part: its settings, a range, and its report by the first words of the lines,
+    which is empty without a candidate."""
 
-    first: int
-    count: int
+    settings: range
     report: dict
 
     def is_below(self):
@@ -59,20 +56,8 @@ class Part(NamedTuple):
             return {}
         best = self.report["best"], self.report["total"].split()[0], self.report["constants"]
         ranks = self.report.get("ranks") or [best]
-        return {self.first + int(setting): (int(total), constants)
+        return {self.settings.start + int(setting): (int(total), constants)
                 for setting, total, constants in ranks}
-
-
-def settings_of(number, piece_count, setting_count):
-    """Returns the settings of piece `number`, a range."""
-    return range((number - 1) * setting_count // piece_count,
-                 number * setting_count // piece_count)
-
-
-def part_of(number, part_count, setting_count, report):
-    """Returns part `number` with its report."""
-    settings = settings_of(number, part_count, setting_count)
-    return Part(settings.start, len(settings), report)
 
 
 def read_report(text):
@@ -89,12 +74,6 @@ def read_report(text):
     return report | {"ranks": ranks} if ranks else report
 
 
-def part_with(setting, part_count, setting_count):
-    """Returns the number of the part that has a setting."""
-    return next(number for number in range(1, part_count + 1)
-                if setting in settings_of(number, part_count, setting_count))
-
-
 @dataclasses.dataclass
 class PartResult:
     """What `I.done` says: the report, and the digest of the certificate, if there is one."""
@@ -103,30 +82,11 @@ class PartResult:
     cert: Sha256 | None
 
 
-def fault_of_job(path, otherwise):
-    """Returns the fault that a job of a cluster wrote to a file, `otherwise` if that is empty, or
-    where to look if it is not there."""
-    try:
-        lines = pathlib.Path(path).read_text(errors="replace").splitlines()
-    except FileNotFoundError:
-        return f"no {path}: see slurm-ARRAY.out where sbatch was called"
-    words = tuple(f"{word}: " for word in STATUS_WORDS.values())
-    said = [line for line in lines if line.startswith(words)] or lines
-    return f"{path}: {shown(said[0])}" if said else otherwise
-
-
-class ClusterParts:
-    """The parts that the jobs of a cluster have written beside CERT.
-
-    Job I writes the certificate of its part as CERT.I, and what `tune` prints as CERT.I.report and
-    CERT.I.fault.
-    """
+class ClusterParts(ClusterPieces):
+    """Parts. Job I writes the certificate of its part as CERT.I, and what `tune` prints as
+    CERT.I.report and CERT.I.fault."""
 
     PIECE = "part"
-
-    def __init__(self, args, setting_count):
-        self.given_path, self.piece_count = args.cert, args.merge
-        self.setting_count = setting_count
 
     def cert(self, number):
         return pathlib.Path(f"{self.given_path}.{number}")
@@ -134,19 +94,17 @@ class ClusterParts:
     def result(self, number):
         """Returns what came of a part, or None if it has no result."""
         try:
-            fault, report = (read_regular(MOST_REPORT_BYTES, f"{self.cert(number)}.{kind}").decode()
-                             for kind in ["fault", "report"])
-            report = read_report(report)
+            fault, report = self.read(number, "fault"), read_report(self.read(number, "report"))
         except (FileNotFoundError, ValueError):
             return None
         if fault != ("" if report else NO_CANDIDATE):
             return None
-        return part_of(number, self.piece_count, self.setting_count, report)
+        return Part(self.settings(number), report)
 
     def fault(self, number):
         """Returns why a part has no result."""
-        cert = self.cert(number)
-        return fault_of_job(f"{cert}.fault", f"{cert}.report is cut, or not there")
+        return self.fault_in(f"{number}.fault",
+                             f"{self.cert(number)}.report is cut, or not there")
 
     def whole(self):
         """Returns where the whole certificate is put together: a file that only this run has."""
@@ -155,9 +113,6 @@ class ClusterParts:
     def writing_whole(self):
         """Opens that file."""
         return self.whole().open("x")
-
-    def clean_up(self):
-        """Leaves the files of the jobs where they are."""
 
 
 class Parts(SpreadFolder):
@@ -187,14 +142,11 @@ class Parts(SpreadFolder):
             raise Fault(f"{self.given_path} has {self.piece_count} parts: leave out --parts, or "
                         "give --anew to throw them away and begin again", 2)
 
-    def settings(self, number):
-        """Returns the settings of a part, a range."""
-        return settings_of(number, self.piece_count, self.setting_count)
-
     def in_order(self, numbers):
         """Returns the numbers of parts in the order in which these begin: that of START first.
         Plays START alone, if other parts need its total as their floor."""
-        with_start = part_with(self.template.start, self.piece_count, self.setting_count)
+        with_start = next(number for number in range(1, self.piece_count + 1)
+                          if self.template.start in self.settings(number))
         others = [number for number in numbers if number != with_start]
         if others and not self.args.all and self.args.keep == 1 and not self.totals:
             self.play_start()
@@ -208,7 +160,7 @@ class Parts(SpreadFolder):
         if self.run(asm, f"{name}.red") == 0 and self.run(tune, f"{name}.report") == 0:
             with contextlib.suppress(ValueError):
                 report = read_report((self.path / f"{name}.report").read_text())
-                self.totals[self.template.start] = part_of(1, 1, 1, report).total()
+                self.totals[self.template.start] = Part(range(1), report).total()
         self.top.remove(self.UNFINISHED_FILES)
 
     def run(self, words, output_name):
@@ -253,12 +205,12 @@ class Parts(SpreadFolder):
         if status == 0:
             report = self.file(number, "report").read_text(errors="replace")
             if not REPORT.fullmatch(report):
-                return "failed: its report is cut, or not a report\n"
+                return Fault("its report is cut, or not a report", 3)
             cert_digest = sha256_of(self.file(number, "cert"))
             self.file(number, "cert.inputs").unlink(missing_ok=True)
             self.file(number, "cert").replace(self.cert(number))
         elif (status, fault) != (1, NO_CANDIDATE):
-            return fault or f"failed: it ended with status {status}\n"
+            return self.fault(number, status)
         self.write_done(number, {"report": report, "cert": cert_digest})
         return None
 
@@ -275,7 +227,7 @@ class Parts(SpreadFolder):
                 return None
         except FileNotFoundError:
             return None
-        part = part_of(number, self.piece_count, self.setting_count, read_report(result.report))
+        part = Part(self.settings(number), read_report(result.report))
         self.totals |= {setting: total for setting, (total, _) in part.ranked().items()}
         return part
 

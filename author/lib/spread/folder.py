@@ -12,15 +12,17 @@ missing is put back from its input, once that is seen to have the digest of the 
 A piece is a part of a tuning or a share of a check. It is done when `I.done` is there, which is
 written once the piece has a result, so neither a kill nor a crash leaves half of one.
 """
-import dataclasses, json, os, shutil
+import dataclasses, json, os, pathlib, shutil, subprocess
 from typing import Annotated, NamedTuple
 
-from .endings import Fault
-from .own_folder import OwnFolder
-from .regular import open_regular, sha256_of
-from .schema import Malformed, NotJson
-from .tuning_files import MOST_SETTINGS
+from ..endings import STATUS_WORDS, Fault, fault_of, shown
+from ..own_folder import OwnFolder
+from ..regular import open_regular, read_regular, sha256_of
+from ..schema import Malformed, NotJson
+from ..tuning_files import MOST_SETTINGS
 
+# More than a report has that ranks as many as `cwtune` keeps.
+MOST_REPORT_BYTES = 1 << 20
 # What the jobs of pieces have: their output, and on other hosts their archives, the inputs of all
 # pieces, the hosts, what rsync has not ended, and what GNU parallel keeps while it runs.
 JOB_FILES = (r"\d+\.\d+\.(report|fault|status|new|tar|taken|inputs[0-9a-f]{16}|hosts)|"
@@ -55,7 +57,46 @@ def copies_of(args, *others):
               for index, path in enumerate(args.opponent))]
 
 
-class SpreadFolder(OwnFolder):
+class Pieces:
+    """The pieces of a tuning or a check: `piece_count` of them, with `setting_count` settings."""
+
+    def settings(self, number):
+        """Returns the settings of a piece, a range."""
+        return range((number - 1) * self.setting_count // self.piece_count,
+                     number * self.setting_count // self.piece_count)
+
+
+class ClusterPieces(Pieces):
+    """The pieces that the jobs of a cluster have written beside CERT, which stay there."""
+
+    def __init__(self, args, setting_count):
+        self.given_path, self.piece_count, self.keep = args.cert, args.merge, args.keep
+        self.setting_count = setting_count
+
+    def read(self, number, kind):
+        """Returns what a job wrote to CERT.I.KIND."""
+        return read_regular(MOST_REPORT_BYTES, f"{self.given_path}.{number}.{kind}").decode()
+
+    def fault_in(self, kind, otherwise):
+        """Returns the fault that a job wrote to a file, `otherwise` if that is empty, or where to
+        look if it is not there."""
+        path = f"{self.given_path}.{kind}"
+        try:
+            lines = pathlib.Path(path).read_text(errors="replace").splitlines()
+        except FileNotFoundError:
+            return f"no {path}: see slurm-ARRAY.out where sbatch was called"
+        words = tuple(f"{word}: " for word in STATUS_WORDS.values())
+        said = [line for line in lines if line.startswith(words)] or lines
+        return f"{path}: {shown(said[0])}" if said else otherwise
+
+    def refuse_changed_inputs(self):
+        """Does nothing: `result` takes only what is of CERT as it is now."""
+
+    def clean_up(self):
+        """Leaves the files of the jobs where they are."""
+
+
+class SpreadFolder(Pieces, OwnFolder):
     """A folder that `cwtune-spread` made.
 
     Its subclasses say how a piece is called (`PIECE`), which files of the folder are its own
@@ -157,6 +198,11 @@ class SpreadFolder(OwnFolder):
     def file(self, number, kind):
         """Returns where this run writes something of a piece."""
         return self.path / f"{number}.{self.pid}.{kind}"
+
+    def fault(self, number, status):
+        """Returns the fault of a run of a piece that has no result."""
+        stderr = self.file(number, "fault").read_bytes()
+        return fault_of(subprocess.CompletedProcess(["cwtune"], status, b"", stderr))
 
     def write_done(self, number, result):
         with self.whole_file(f"{number}.done") as file:

@@ -1,9 +1,9 @@
 """Keeps which pieces of `cwtune-spread` are done, and prints the line that says so."""
 import sys, time
 
-from .spread_parts import settings_of
-from .spread_report import best_of, index_of, summed
-from .watching import rewrite
+from ..endings import tell
+from ..watching import rewrite
+from .report import best_of, index_of, summed
 
 # Seconds from a line in a log to the next.
 PAUSE = 20
@@ -35,7 +35,7 @@ class Progress:
                 rewrite(line)
             self.shown = line
         elif self.in_log and time.monotonic() - self.last_line_at >= PAUSE:
-            print(self.line(), file=sys.stderr, flush=True)
+            tell(self.line())
             self.last_line_at = time.monotonic()
 
     def clear(self):
@@ -58,7 +58,7 @@ class PartsProgress(Progress):
     """The parts of a tuning."""
 
     def settings_done(self):
-        return sum(part.count for part in self.done())
+        return sum(len(part.settings) for part in self.done())
 
     def line(self):
         parts, folder = self.done(), self.folder
@@ -74,8 +74,7 @@ class SharesProgress(Progress):
     """The shares of a check."""
 
     def settings_done(self):
-        folder = self.folder
-        return sum(len(settings_of(number, folder.piece_count, folder.setting_count))
+        return sum(len(self.folder.settings(number))
                    for number, verdict in self.results.items() if verdict)
 
     def line(self):

@@ -3,9 +3,21 @@
 A folder says what each job is, by the number of a piece or the player of a heat: `prepare` writes
 what it reads, `words` is what it runs in `path`, and `file` where each kind of output goes.
 """
-import subprocess
+import subprocess, time
 
-from .endings import end_with_parent
+from ..endings import end_with_parent
+
+
+def ended(jobs, show):
+    """Runs jobs to their end. Yields number and status of each that ends, and meanwhile calls
+    `show` again and again."""
+    try:
+        while jobs.keep_running():
+            yield from jobs.take_ended()
+            show()
+            time.sleep(0.02)
+    finally:
+        jobs.stop()
 
 
 class LocalJobs:

@@ -1,7 +1,7 @@
 """Runs the pieces of `cwtune-spread` on other hosts, by GNU parallel over ssh and rsync.
 
 GNU parallel sends the program and the inputs as one archive to a temporary folder of its own on the
-host, where spread_job.sh runs the piece, and brings back an archive of what came of it. On this
+host, where job.sh runs the piece, and brings back an archive of what came of it. On this
 host the same is done without sending.
 
 No name of the user's is in a word that GNU parallel or a shell reads: the names in the folder of
@@ -10,9 +10,9 @@ from a copy of their file. What is for all pieces, as that copy, has the number 
 """
 import contextlib, hashlib, os, pathlib, re, shlex, shutil, socket, subprocess, sys, tarfile
 
-from .endings import Fault, escaped
-from .watching import rewrite
-from .writing import naming
+from ..endings import Fault, escaped, tell
+from ..watching import rewrite
+from ..writing import naming
 
 # What a host says if it can run pieces.
 ANSWER = "ready"
@@ -32,7 +32,7 @@ else echo no tar or no rsync; fi
 # parallel only sees later. `touch` says of which work the folder is, where no inputs are sent.
 JOB = ("echo && touch {inputs} && cd $(mktemp -d ./XXXXXX) && to=${{CWTUNE_SPREAD_FOLDER:-..}} && "
        'tar -xf - <"$to/{inputs}" && exec sh ./job {piece} "$to" {words}')
-SCRIPT = pathlib.Path(__file__).with_name("spread_job.sh")
+SCRIPT = pathlib.Path(__file__).with_name("job.sh")
 # With these statuses a piece has a result, which any host would have. With another one, as 3 on a
 # host without memory and 126 on one that cannot run the program, it is tried on another host.
 RESULTS = {0, 1, 2}
@@ -78,7 +78,7 @@ def tell_left_out(reasons):
     for line in lines:
         if sys.stderr.isatty():  # which may show the progress
             rewrite()
-        print(escaped(line), file=sys.stderr)
+        tell(escaped(line))
 
 
 class HostJobs:

@@ -1,8 +1,8 @@
 """Adds the options of `cwtune-spread` to its parser, and refuses those that do not fit together."""
 import os
 
-from .tuning_files import MOST_KEPT, MOST_SETTINGS
-from .words import add_files, add_program, add_rules, number_from
+from ..tuning_files import MOST_KEPT, MOST_SETTINGS
+from ..words import add_cwtune, add_files, number_from
 
 # The most parts and the most shares that the program takes; more than settings do nothing.
 MOST_PIECES = 2 ** 32 - 1
@@ -16,11 +16,10 @@ def add_options(parser):
     parser.add_argument("--explain", action="store_true",
                         help="explain a refusal, say what is ignored in the template, and print "
                         "the total of START, as at a terminal")
-    add_program(parser)
     add_search(parser)
     add_check(parser)
     add_jobs(parser)
-    add_rules(parser)
+    add_cwtune(parser)
     add_files(parser, "template", "schedule")
     parser.add_argument("cert", metavar="CERT", help="the file to which the certificate is "
                         "written, or with --check-only the certificate")

@@ -21,19 +21,23 @@ Example: cwtune-study --minutes 10 my.red opponents/ STEP=5:7995:10 GATE=-3500:-
 """
 import contextlib, json, os, pathlib, sys
 
-from . import study_fresh, study_inputs, study_report
-from .adapt import add_as_is
-from .grid import Grid
-from .program import Rules, rules_of
-from .race import Contender
-from .race_fights import Arena, Budget, add_budget
-from .series import series_fights
-from .study_folder import StudyFolder
-from .study_race import RaceOfStudy
-from .study_result import report_numbers
-from .tuning_files import MOST_FIGHTS, MOST_SETTINGS, Certificate, read_schedule, schedule_text
-from .words import add_json, add_program, add_rules, command_parser, number_from, print_json
-from .writing import temporary_folder
+from ..adapt import add_as_is
+from ..endings import tell
+from ..grid import Grid
+from ..holdout import gain_text
+from ..program import Rules, rules_of
+from ..race import Contender
+from ..race_fights import Arena, Budget, add_budget
+from ..series import series_fights
+from ..tuning_files import MOST_FIGHTS, MOST_SETTINGS, Certificate, read_schedule, schedule_text
+from ..words import add_cwtune, add_json, command_parser, number_from, print_json
+from ..writing import temporary_folder
+from .folder import StudyFolder
+from .fresh import FIRST_HEAT_PLAYERS, find_winner
+from .inputs import read_inputs
+from .race import RaceOfStudy
+from .report import html_of, shown_values
+from .result import raced_numbers, tuned_numbers
 
 fight_count = number_from(1, MOST_FIGHTS)
 
@@ -54,13 +58,6 @@ class Study:
     def author_words(self, name, *words):
         """Returns the words of a command for authors that takes the program and the rules."""
         return [name, *words, f"--program={self.args.program}", *self.rules]
-
-    def spread_words(self, *words):
-        """Returns the words by which cwtune-spread tunes the box."""
-        hosts = [f"--hosts={self.args.hosts}"] if self.args.hosts else []
-        return self.author_words("cwtune-spread", *words, *hosts, f"--jobs={self.args.jobs}",
-                                 "--progress", "box.red", "schedule.csv", "best.cert",
-                                 *self.opponents)
 
     def write_series(self, seed, rounds, name):
         """Writes the schedule that `cwtune-series` writes, which the log has."""
@@ -97,10 +94,12 @@ class Study:
         """Makes box.red, the settings that are tuned: here all of the template."""
         self.folder.run(["cat", "template.red"], "box.red")
 
-    def tune_all(self):
-        """Plays every fight of the box, and has the certificate checked. Returns how many fights
-        that were, and the line of the check."""
-        self.folder.run(self.spread_words("--all", "--check"), "best.txt", logs_messages=False)
+    def tune_box(self, *words):
+        """Tunes the box. Returns how many fights that took, and the last line, that of a check."""
+        hosts = [f"--hosts={self.args.hosts}"] if self.args.hosts else []
+        self.folder.run(self.author_words(
+            "cwtune-spread", *words, *hosts, f"--jobs={self.args.jobs}", "--progress", "box.red",
+            "schedule.csv", "best.cert", *self.opponents), "best.txt", logs_messages=False)
         lines = (self.folder.path / "best.txt").read_text().splitlines()
         fights = next(line.split()[1] for line in lines if line.startswith("fights "))
         return {"fights": int(fights), "check": lines[-1]}
@@ -109,7 +108,7 @@ class Study:
         """Returns the first settings of the ranking of the box."""
         cert = Certificate(self.folder.path / "best.cert")
         ranking = cert.ranked(read_schedule(self.folder.path / "schedule.csv"))
-        return [setting for _, setting in ranking.full[:study_fresh.FIRST_HEAT_PLAYERS]]
+        return [setting for _, setting in ranking.full[:FIRST_HEAT_PLAYERS]]
 
     def go(self):
         """Goes through all stages."""
@@ -130,8 +129,8 @@ class Study:
         print(f"all {grid.count()} settings are tuned: their ranking is exact", flush=True)
         if "best" not in self.folder.mark.stages:
             self.tell_estimate(grid)
-        tuning = stage("best", self.tune_all, "best.cert", "best.txt")
-        winner, points, last_points = study_fresh.find_winner(self, self.first_settings())
+        tuning = stage("best", lambda: self.tune_box("--all", "--check"), "best.cert", "best.txt")
+        winner, points, last_points = find_winner(self, self.first_settings())
         stage("winner", lambda: self.write_winner(winner, "box.red"), "winner.red")
         return {"tuning": tuning, "winner": winner, "points": points, "last_points": last_points}
 
@@ -153,14 +152,14 @@ class Study:
 
     def write_report(self, results):
         """Writes report.json and report.html."""
-        report = report_numbers(self, results)
+        report = (raced_numbers if "race" in results else tuned_numbers)(self, results)
         self.folder.write("report.json", (json.dumps(report, indent=1) + "\n").encode())
-        self.folder.write("report.html", study_report.html_of(report).encode(errors="replace"))
+        self.folder.write("report.html", html_of(report).encode(errors="replace"))
 
 
 def print_fresh(name, player, report):
     """Prints what a player made in its fresh fights, and its values."""
-    fresh, values = player["fresh"], study_report.shown_values(report, player["values"])
+    fresh, values = player["fresh"], shown_values(report, player["values"])
     constants = " ".join(f"{constant}={value}" for constant, value in values.items())
     print(f"fresh: {name}: {fresh['points']} of {3 * fresh['fights']} ({fresh['percent']:.1f}% "
           f"+- {fresh['error']:.1f}) {constants}")
@@ -198,7 +197,7 @@ def print_end(folder, report):
     gain = report["gain"]
     print_raced(report) if report["race"] else print_tuned(report)
     if gain and report["winner"]["values"] != report["start"]["values"]:
-        print(f"over START: {gain['percent']:+.1f}% +- {gain['error']:.1f}, {gain['words']}")
+        print(f"over START: {gain_text(gain)}")
         if gain["words"] != "a gain":
             print("keep START: these fights show no gain of winner.red")
     else:
@@ -233,8 +232,7 @@ def make_parser():
                         help="throw away what is done, and begin again")
     add_budget(parser)
     add_json(parser)
-    add_program(parser)
-    add_rules(parser)
+    add_cwtune(parser)
     add_as_is(parser)
     parser.add_argument("warrior", metavar="WARRIOR", help="a template, or with words "
                         "PLACE=VALUES a Redcode text")
@@ -250,7 +248,7 @@ def make_parser():
 def main():
     parser = make_parser()
     args = parser.parse_mixed()
-    study = Study(args, study_inputs.read(parser, args))
+    study = Study(args, read_inputs(parser, args))
     try:
         # Standard output is for the object alone.
         with contextlib.redirect_stdout(sys.stderr if args.json else sys.stdout):
@@ -258,6 +256,6 @@ def main():
         with study.folder.reading("report.json") as report:
             print_json(report) if args.json else print_end(study.folder, report)
     except KeyboardInterrupt:
-        print(f"stopped: what is done is kept in {study.folder.given_path}: repeat the command to "
-              "go on", file=sys.stderr)
+        tell(f"stopped: what is done is kept in {study.folder.given_path}: repeat the command to "
+             "go on")
         raise

@@ -5,8 +5,8 @@ computed from it: an opponent's standard error comes from its wins, ties and los
 """
 import math
 
-from . import study_charts, study_map
-from .study_page import (DASH, decimal, escaped, folded, fresh_percent, integer, name_list, page,
+from . import charts, maps
+from .page import (DASH, decimal, escaped, folded, fresh_percent, integer, page,
                          source, table, with_error)
 
 WINNER_FILE = "winner.red"
@@ -23,10 +23,16 @@ ERROR_NOTE = "± is one standard error."
 def html_of(report):
     """Returns the page of a report, a string that UTF-8 can hold."""
     return page(f"{report['title']}: a study by cwtune", [
-        *opening(report), *exactness(report), *comparison(report), *opponents(report),
+        *opening(report),
+        *section("What is proved, and what is measured", "<ul>", *(
+            f"<li>{item}</li>"
+            for item in (raced_items if report["race"] else tuned_items)(report)), "</ul>"),
+        *comparison(report), *opponents(report),
         *(landscape(report) if report["landscape"] else ()),
         *(finalists(report) if report["race"] else ranking(report)),
-        *making(report), *winner_text(report)])
+        *making(report),
+        *section(f"The winner’s text: <code>{WINNER_FILE}</code>",
+                 source(f"The text of {WINNER_FILE}", report["winner_text"]))])
 
 
 def section(heading, *pieces):
@@ -54,13 +60,6 @@ def opening(report):
     if start["values"] == winner["values"]:
         notes.insert(0, "The winner is START itself.")
     return [title, paragraph(sentence, "lead"), paragraph(" ".join(notes), "soft")]
-
-
-def exactness(report):
-    """Returns what is proved, and what is measured."""
-    items = raced_items(report) if report["race"] else tuned_items(report)
-    return section("What is proved, and what is measured",
-                   f"<ul>{''.join(f'<li>{item}</li>' for item in items)}</ul>")
 
 
 def tuned_items(report):
@@ -159,7 +158,7 @@ def opponents(report):
                    key=lambda line: -line[0]["percent"])
     heads = ["opponent", "gain", START, WINNER, *OUTCOMES, *OUTCOMES]
     rows = [opponent_row(gain, sides) for gain, sides in lines]
-    bars = study_charts.draw_bars(*zip(*(sides for _, sides in lines)))
+    bars = charts.draw_bars(*zip(*(sides for _, sides in lines)))
     return section(
         "Opponent by opponent", f"<figure>{bars}</figure>",
         table("Fresh fights against each opponent", heads, rows,
@@ -171,17 +170,17 @@ def opponents(report):
 
 def landscape(report):
     """Returns the totals of the box, and what each constant does to them."""
-    box = study_map.read_landscape(report["landscape"], lists_of(report))
+    box = maps.read_landscape(report["landscape"], lists_of(report))
     start_values, winner_values = (report[side]["values"] for side in ("start", "winner"))
     is_small = box.count() <= MOST_CELLS
-    step, picture = study_map.draw_landscape(box, start_values, winner_values, is_small)
+    step, picture = maps.draw_landscape(box, start_values, winner_values, is_small)
     notes = [f"{escaped(name)} is held at {escaped(value)}, the winner's value."
              for name, value in shown_values(report, winner_values).items()
              if name not in box.names]
     if step > 1:
         shown = "point" if len(box.names) == 1 else "square"
         notes.append(f"Each {shown} is the greatest total among {step} values of each constant.")
-    if study_map.is_outside(start_values, winner_values, box):
+    if maps.is_outside(start_values, winner_values, box):
         shown = values_text(shown_values(report, start_values))
         notes.append(f"START is not in this picture: {shown}.")
     if all(opponent["weight"] == 1 for opponent in report["opponents"]):
@@ -224,7 +223,7 @@ def effects(report):
         return []
     pictures = "".join(
         f"<figure>{picture}</figure>"
-        for picture in study_charts.draw_effects(of_constants, report["winner"]["values"], lists))
+        for picture in charts.draw_effects(of_constants, report["winner"]["values"], lists))
     pieces = ["<h3>What each constant does</h3>", paragraph(
         "The mean tuned total of each value, over all settings of the box that have it, with its "
         f"standard error. A filled mark is the winner's value. {ERROR_NOTE}"),
@@ -286,14 +285,6 @@ def some_of(values):
     return ", ".join(shown)
 
 
-def constants_table(report):
-    """Returns the range of each constant, and its values in START, winner and box."""
-    heads = ["constant", "lowest", "highest", "step", "START", "winner", "values in the box"]
-    rows = [constant_row(constant, lists_of(report).get(constant["name"]))
-            for constant in report["constants"]]
-    return table("Constants of the template", heads, rows)
-
-
 def constant_row(constant, texts):
     """Returns the range of a constant, as cells. `texts` is its list, or None."""
     ends, players, box = ([texts[value] if texts else value for value in values] for values in (
@@ -315,11 +306,13 @@ def facts(report):
     opponents = ", ".join(escaped(opponent["name"]) + (
         f" (counts {integer(opponent['weight'])} times)" if opponent["weight"] != 1 else "")
                           for opponent in report["opponents"])
-    return name_list([
+    pairs = [
         ("Made", f"{escaped(report['made'])} by {escaped(report['program'])}"),
         ("Rules", values_text(report["rules"])), ("Opponents", opponents),
         ("Settings", integer(report["settings"])), ("Seed", escaped(report["seed"])),
-        ("Fights", ", ".join(fights))])
+        ("Fights", ", ".join(fights))]
+    items = (f"<dt>{name}</dt><dd>{meaning}</dd>" for name, meaning in pairs)
+    return f"<dl>{''.join(items)}</dl>"
 
 
 def digests(caption, files):
@@ -339,14 +332,11 @@ def commands(lines):
 
 def making(report):
     """Returns how the study was made, so that it can be made again."""
-    return section("How it was made", facts(report), constants_table(report),
-                   "<h3>Commands</h3>",
+    heads = ["constant", "lowest", "highest", "step", "START", "winner", "values in the box"]
+    rows = [constant_row(constant, lists_of(report).get(constant["name"]))
+            for constant in report["constants"]]
+    return section("How it was made", facts(report),
+                   table("Constants of the template", heads, rows), "<h3>Commands</h3>",
                    paragraph("Each can be typed in the folder of this report.", "soft"),
                    commands(report["commands"]), "<h3>Digests</h3>",
                    digests("Opponents", report["opponents"]), digests("Files", report["files"]))
-
-
-def winner_text(report):
-    """Returns the text of the winner, by the name of its file."""
-    return section(f"The winner’s text: <code>{WINNER_FILE}</code>",
-                   source(f"The text of {WINNER_FILE}", report["winner_text"]))

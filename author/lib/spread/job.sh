@@ -1,7 +1,7 @@
 #!/bin/sh
-# Runs a piece of `cwtune-spread` on a host, and packs what came of it. spread_hosts.py has GNU
+# Runs a piece of `cwtune-spread` on a host, and packs what came of it. hosts.py has GNU
 # parallel start it in a new folder with the inputs, within a temporary folder of GNU parallel's.
-# Use: spread_job.sh PIECE TO COMMAND..
+# Use: job.sh PIECE TO COMMAND..
 # PIECE is the first part of the names of the files of the piece. TO is the folder that gets the
 # archive with the report of the command, its fault, its status and what it wrote. Fails if another
 # host might have a result.

@@ -8,8 +8,8 @@ that is an index of a list in the author's text the pictures show what is in the
 """
 from typing import NamedTuple
 
-from . import study_charts as charts
-from .study_page import integer
+from . import charts
+from .page import integer
 
 SHADES = 7
 MOST_SQUARES = 10000
@@ -82,7 +82,7 @@ def thinned(landscape, most=MOST_SQUARES):
     """Returns how many values of each constant become one, so that there are at most `most`
     squares, and the landscape of the greatest totals."""
     step, totals = 1, landscape.totals
-    while count_after(landscape, step) > most:
+    while -(-len(totals) // step) * -(-len(totals[0]) // step) > most:
         step += 1
     rows, columns = range(0, len(totals), step), range(0, len(totals[0]), step)
     thin_totals = [[greatest(total for row in totals[first_row:first_row + step]
@@ -90,11 +90,6 @@ def thinned(landscape, most=MOST_SQUARES):
                     for first_column in columns] for first_row in rows]
     thin_ranges = [values[::step] for values in landscape.ranges]
     return step, landscape._replace(ranges=thin_ranges, totals=thin_totals)
-
-
-def count_after(landscape, step):
-    """Returns how many squares there are if `step` values of each constant become one."""
-    return -(-len(landscape.totals) // step) * -(-len(landscape.totals[0]) // step)
 
 
 def is_outside(values, winner_values, landscape):
@@ -131,25 +126,14 @@ class Squares(NamedTuple):
         return round(TOP + self.rows * self.height, 2)
 
 
-def squares_of(landscape):
-    rows, columns = len(landscape.totals), len(landscape.totals[0])
-    width = min(60, (charts.RIGHT - charts.LEFT) / columns)
-    return Squares(rows, columns, width, min(width, 306 / rows))
-
-
-def draw_cross(x, y, width, height):
-    """Returns a small cross in the middle of a square."""
-    arm = min(3, width / 4, height / 4)
-    return charts.path(f"M{x - arm:.2f} {y - arm:.2f}l{2 * arm:.2f} {2 * arm:.2f}"
-                       f"m0 {-2 * arm:.2f}l{-2 * arm:.2f} {2 * arm:.2f}", "curve")
-
-
 def draw_square(squares, place, total, shade, title):
     """Yields a square, and its total if there is room. Without a total it is a cross."""
     (x, y), width, height = squares.corner(place), squares.width, squares.height
     middle_x, middle_y = round(x + width / 2, 2), round(y + height / 2, 2)
     if total is None:
-        yield draw_cross(middle_x, middle_y, width, height)
+        arm = min(3, width / 4, height / 4)
+        yield charts.path(f"M{middle_x - arm:.2f} {middle_y - arm:.2f}l{2 * arm:.2f} {2 * arm:.2f}"
+                          f"m0 {-2 * arm:.2f}l{-2 * arm:.2f} {2 * arm:.2f}", "curve")
         return
     # A little larger, so that no line of the page shows between two squares.
     yield charts.rect(x, y, round(width + 0.3, 2), round(height + 0.3, 2), f"q{shade}", title)
@@ -215,7 +199,9 @@ def legend(landscape, top, with_start):
 
 def draw_map(landscape, start_place, winner_place, titled):
     """Draws a map of two constants. A place may be None."""
-    squares = squares_of(landscape)
+    rows, columns = len(landscape.totals), len(landscape.totals[0])
+    width = min(60, (charts.RIGHT - charts.LEFT) / columns)
+    squares = Squares(rows, columns, width, min(width, 306 / rows))
     bottom, (upwards, across) = squares.bottom(), landscape.names
     elements = [*draw_squares(landscape, squares, titled), *draw_ticks(squares, landscape)]
     elements += [draw_mark(squares, place, style) for place, style in
