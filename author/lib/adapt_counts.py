@@ -1,6 +1,6 @@
 """Writes CURLINE as the numbers of instructions before it, so that the count of an earlier block
-may still change: as `(4+2*(DECOYS))` after a block of two instructions. A count in which CURLINE is
-written so counts in turn."""
+may still change: as `(4+2*(DECOYS))` after a block of two instructions. Such a sum may be
+part of a count itself."""
 from typing import NamedTuple
 
 from .pmars_text import given_names
@@ -41,7 +41,7 @@ class Curline:
             self.blocks.append(CountedBlock(count, block.count, size))
 
     def count_of(self, line, start):
-        """Returns the count from a column of a line on, with what was written for CURLINE."""
+        """Returns the count after column `start` of a line, with the sums for CURLINE."""
         end = line.column + len(line.text)
         count = self.lines[line.index][:end]
         for (index, first, last), new in sorted(self.sums.items(), reverse=True):

@@ -155,8 +155,8 @@ def name_of(place):
 
 
 def place_named(name, place):
-    """Returns the place of a constant with this name if it can be that of `place`, else None. A
-    line has the number of the name, since the text may be an adapted one."""
+    """Returns `place` if a constant with this name can be of it, else None. A line gets its number
+    from the name, since it may have another one in the adapted text."""
     number = re.match("line([0-9]+)_", name)
     if number and place[0].isdecimal():
         place = f"{number[1]}.{place.partition('.')[2]}"

@@ -80,9 +80,9 @@ class Line(NamedTuple):
         return [span for span in spans if self.is_own(span)]
 
     def is_own(self, span):
-        """Returns whether characters are in the author's text, and in no other line that has places
-        itself, nor are the count of a block in a sum for CURLINE: after a parenthesis that
-        `cwtune-adapt` wrote into a count."""
+        """Returns whether characters are of this line of the author's text, or of one that has no
+        places, unless these are another block's count in a sum for CURLINE: in a count, after a
+        parenthesis that `cwtune-adapt` wrote."""
         origin, before = self.origin(span), Span(span.start - 1, span.start)
         is_in_sum = self.word == "for" and self.spelled(before) == "(" and not self.origin(before)
         return origin and (origin.line == self.number

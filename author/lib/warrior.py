@@ -48,7 +48,7 @@ def own_lines(template, setting):
 
 
 def places_of(template, setting):
-    """Returns for each constant that `cwtune-vary` named the place that it opens."""
+    """Returns the place of each constant that has its name from `cwtune-vary`."""
     own, places = own_lines(template, setting), {}
     for line in lines_of("\n".join(line for line, _ in own)):
         spots = [spot for field in line.fields for spot in spots_in(line, field)]

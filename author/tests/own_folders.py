@@ -159,8 +159,8 @@ def in_process(module, words, folder):
 
 
 class OwnFolders(SpreadTrial, StudyTrial):
-    """Work folders of a stranger. COUNT is how many are damaged by chance, and STEP at each which
-    file that a study removes it is killed."""
+    """Work folders of a stranger: COUNT are damaged by chance, and a study is killed at every
+    STEP-th file that it removes."""
 
     FILES = {**SpreadTrial.FILES, **StudyTrial.FILES, **{
         f"victim/{name}": "mine, without a line feed"

@@ -134,13 +134,13 @@ class Trial(unittest.TestCase, Place):
         Place.__init__(self, self.program, folder, self.FILES)
 
     def need(self, *tools, **paths):
-        """Leaves the trial out if a tool is not on the PATH, or one of `paths` is none."""
+        """Leaves the trial out if a tool is not on the PATH, or one of `paths` is None."""
         paths = {tool: shutil.which(tool) for tool in tools} | paths
         if missing := [tool for tool, path in paths.items() if not path]:
             self.skipTest(f"no {', no '.join(missing)}")
 
     def wrong(self, name, faults):
-        """Tells what is wrong, in a list, with what has a name."""
+        """Fails with the list of what is wrong with the part `name`, if anything is."""
         with self.subTest(name):
             if faults:
                 self.fail("\n".join(faults))
