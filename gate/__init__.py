@@ -27,9 +27,6 @@ refuse.two_devices
                  a certificate and a template that have one inode
 
 `author.tests.run` and `release.try_release` try the commands for authors and the release.
-Their libraries: `play` starts the program in a folder, `inputs` has the files that runs share
-(inputs.toml), `tally` counts, `lib.running` runs commands and trials, `functions` and `lib.lanes`
-are of `edits`, `cert_inputs` is of `cert_inputs_trials` and `play`, `lib.ranking_model` of
-`ranking_trials`, and `refuse.runs` and `refuse.once_each` are of `refuse`. `prove.sh` is `make
-prove`.
+Their libraries are in `lib`, but for `functions`, which is of `edits`, and `refuse.runs` and
+`refuse.once_each`, which are of `refuse`. `prove.sh` is `make prove`.
 """

@@ -9,10 +9,10 @@ from author.lib.endings import run_tool
 from author.lib.program import run_program
 from author.lib.words import program_word
 
-from . import cert_inputs, inputs
-from .inputs import RULES
-from .play import Place, end
-from .tally import compare, tally
+from .lib import cert_inputs, inputs
+from .lib.inputs import RULES
+from .lib.play import Place, end
+from .lib.tally import compare, tally
 
 FILES = inputs.files("dat.red", "imp.red", "both.csv", "imps.red", "step.red", "tail.red",
                      "empty.red")

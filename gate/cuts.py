@@ -7,11 +7,11 @@ to be answered as a rule of this file says, which follows from `docs/FORMATS.md`
 from author.lib.endings import run_tool
 from author.lib.words import program_word
 
-from . import inputs
-from .inputs import FILES, RULES
+from .lib import inputs
+from .lib.inputs import FILES, RULES
+from .lib.play import end, play
 from .lib.running import side_by_side
-from .play import end, play
-from .tally import compare, tally
+from .lib.tally import compare, tally
 
 IMP = b"ORG 0\nMOV.I $0, $1\n"
 FIGHT, CERT = (FILES[name].encode() for name in ("imps.fight", "imps.cert"))

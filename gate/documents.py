@@ -18,7 +18,7 @@ from typing import NamedTuple
 from author.lib.endings import run_tool
 from author.lib.words import program_word
 
-from .tally import tally
+from .lib.tally import tally
 
 ROOT = pathlib.Path(__file__).resolve().parent.parent
 # All documents share a folder: USING.md goes on with the files of README.md, which comes first.

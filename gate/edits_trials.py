@@ -6,7 +6,7 @@ from author.lib.endings import run_tool
 from author.lib.words import module_parser
 
 from .lib import lanes
-from .tally import compare, tally
+from .lib.tally import compare, tally
 
 ROOT = pathlib.Path(__file__).resolve().parent.parent
 # A crate with an edit, the kit that checks it, and its `rt ci`.

@@ -12,10 +12,10 @@ import os, pathlib, pty, resource, shutil, signal, subprocess, tempfile, threadi
 from author.lib.endings import run_tool
 from author.lib.words import program_word
 
-from . import inputs
-from .inputs import RULES
-from .play import SECONDS, Place, end, ended
-from .tally import compare, tally
+from .lib import inputs
+from .lib.inputs import RULES
+from .lib.play import SECONDS, Place, end, ended
+from .lib.tally import compare, tally
 
 FILES = {
     **inputs.files("dat.red", "imp.red", "one.red", "imps.red", "both.csv", "imps.fight",

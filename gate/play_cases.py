@@ -9,10 +9,10 @@ from author.lib.program import program_of
 from author.lib.words import add_built, module_parser
 from author.lib.writing import naming
 
-from . import inputs
+from .lib import inputs
+from .lib.play import Place, end
 from .lib.running import side_by_side
-from .play import Place, end
-from .tally import tally
+from .lib.tally import tally
 
 FILLED = ["stdin", "out", "err", "err_begins"]
 NEEDED = {"name": str}

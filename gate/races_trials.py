@@ -10,7 +10,7 @@ from bench.races import gain_said
 from bench.races_table import Race, Results, table_of
 
 from .lib.running import ROOT, ran_module
-from .tally import compare, tally
+from .lib.tally import compare, tally
 
 # Stand-ins for cwtune-seek, which print the template with another START: at once, after SIGTERM,
 # and after 1.3 seconds whatever they are told.

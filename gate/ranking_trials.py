@@ -11,10 +11,10 @@ from author.lib.endings import run_tool
 from author.lib.tuning_files import Certificate, Template, read_schedule
 from author.lib.words import program_word
 
+from .lib.play import in_folder
 from .lib.ranking_model import Aim, Search, Table, first_too_high, listed, rank_line, row_line
 from .lib.running import side_by_side
-from .play import in_folder
-from .tally import compare, tally
+from .lib.tally import compare, tally
 
 TEMPLATES = 300
 CORE = 40

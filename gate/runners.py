@@ -6,14 +6,14 @@ of gate/__init__.py, but for those that are run by hand.
 """
 import itertools, pathlib, re, sys, tempfile
 
-import gate
+import gate.lib
 from author.lib.endings import Fault, run_tool
 from author.lib.words import module_parser
 from pmars.compare import Programs
 
 from .gate import EDITS, STEPS
 from .lib.running import ROOT, ran, ran_module
-from .tally import compare, tally
+from .lib.tally import compare, tally
 
 ROOMS = ["author", "bench", "gate", "pmars", "release"]
 # The end of a module that can be run.
@@ -36,7 +36,7 @@ REFUSED = {
     "rt test": ["gate.refuse.growth"],
 }
 FAILING = "/bin/false"
-TALLY = "from gate.tally import *; exit(tally([('a', []), ('b', LeftOut('no x'))]))"
+TALLY = "from gate.lib.tally import *; exit(tally([('a', []), ('b', LeftOut('no x'))]))"
 # What a case says that is refused, and what is said of it.
 CASES = {'words = "asm $smal dat.red"': "no words for `$smal`\n",
          'words = "asm \'dat.red"': "`words`: No closing quotation\n",
@@ -105,6 +105,7 @@ def listed():
     first = {f"gate.{name}" for name in re.findall("(?m)^([a-z_.]+)(?:  .*)?$", gate.__doc__)}
     yield same("gate/__init__.py", run_in_gate, first)
     named = first | {f"gate.{name}" for name in re.findall("`([a-z_.]+)`", gate.__doc__)}
+    named |= {f"gate.lib.{name}" for name in re.findall("(?m)^([a-z_]+)  ", gate.lib.__doc__)}
     yield same("gate/__init__.py, with libraries,", named & modules_of(["gate"]),
                modules_of(["gate"]))
 

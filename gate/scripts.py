@@ -4,12 +4,12 @@ import itertools, re, signal, subprocess, sys, time
 from author.lib.endings import run_tool
 from author.lib.words import program_word
 
-from . import inputs
-from .inputs import RULES
+from .lib import inputs
+from .lib.inputs import RULES
+from .lib.play import in_folder
 from .lib.running import ROOT, ran
+from .lib.tally import compare, tally
 from .pipes import take_interrupts
-from .play import in_folder
-from .tally import compare, tally
 
 EXAMPLES = ROOT / "examples"
 DEMO = ["sh", EXAMPLES / "demo.sh"]

@@ -8,11 +8,11 @@ from author.lib.endings import run_tool
 from author.lib.spread.shares import is_verdict, verdict_of
 from author.lib.words import program_word
 
-from . import inputs
-from .inputs import RULES
+from .lib import inputs
+from .lib.inputs import RULES
+from .lib.play import in_folder, play
 from .lib.running import side_by_side
-from .play import in_folder, play
-from .tally import compare, tally
+from .lib.tally import compare, tally
 
 SHARES = [1, 2, 3, 7]
 # Templates with rows of all kinds: refused ones, and ones that share a warrior.

@@ -10,10 +10,11 @@ import os, pty, re, select, tempfile, time
 from author.lib.endings import run_tool
 from author.lib.words import program_word
 
-from . import inputs, pipes
-from .inputs import RULES
-from .play import Place, end, shown
-from .tally import compare, tally
+from . import pipes
+from .lib import inputs
+from .lib.inputs import RULES
+from .lib.play import Place, end, shown
+from .lib.tally import compare, tally
 
 FILES = {
     **inputs.files("dat.red", "imp.red", "both.csv"),

@@ -10,7 +10,7 @@ import contextlib, hashlib, importlib, pathlib, re, shutil, subprocess, tarfile,
 
 from author.lib.endings import Fault, run_tool
 from author.lib.words import program_word
-from gate.tally import compare, tally
+from gate.lib.tally import compare, tally
 
 from . import dist, manual
 

@@ -4,7 +4,7 @@ import argparse, os
 from unittest import mock
 
 from author.lib.spread.hosts import HostJobs
-from gate.inputs import RULES
+from gate.lib.inputs import RULES
 
 from .spread_trial import DECOY, RANKED, SpreadTrial, left_over
 from .trial import SECONDS

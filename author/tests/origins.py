@@ -2,7 +2,7 @@
 import os
 
 from author.lib.program import run_program
-from gate import cert_inputs
+from gate.lib import cert_inputs
 
 from .trial import Refusal, Trial, usage_error
 

@@ -3,7 +3,7 @@ they check, and gives them what they have to refuse.
 """
 import signal
 
-from gate import inputs
+from gate.lib import inputs
 
 from .spread_trial import DECOY, SMALL, SpreadTrial, left_over, without_fights
 from .trial import SECONDS, usage_error

@@ -2,8 +2,8 @@
 import contextlib, os, random, re, signal, subprocess, time
 from typing import NamedTuple
 
-from gate import inputs
-from gate.inputs import RULES
+from gate.lib import inputs
+from gate.lib.inputs import RULES
 
 from .trial import EXAMPLES, SECONDS, Trial, removed, wait_until
 

@@ -3,9 +3,9 @@ import os, pathlib, pty, re, signal, threading, time
 from unittest import mock
 
 from author.lib import tuning_files
-from gate import inputs
-from gate.inputs import RULES
-from gate.play import shown
+from gate.lib import inputs
+from gate.lib.inputs import RULES
+from gate.lib.play import shown
 
 from .spread_trial import (DECOY, OPPONENTS, RANKED, SCHEDULE, SMALL, TWELVE, SpreadTrial,
                            left_over, without_fights)

@@ -5,7 +5,7 @@ from unittest import mock
 from author.lib import regular, tuning_files, writing
 from author.lib.endings import quoted
 from author.lib.schema import from_json
-from gate import play
+from gate.lib import play
 
 from .origins import note
 from .trial import AUTHOR, SECONDS, TUNING, Refusal, Trial, came_of, command, python, wait_until

@@ -7,8 +7,8 @@ from typing import NamedTuple
 
 from author.lib.endings import Fault
 from author.lib.program import program_of
-from gate.play import Place
-from gate.tally import LeftOut, compare, tally
+from gate.lib.play import Place
+from gate.lib.tally import LeftOut, compare, tally
 
 AUTHOR = pathlib.Path(__file__).resolve().parents[1]
 EXAMPLES = AUTHOR.parent / "examples"

@@ -13,7 +13,7 @@ from author.lib.program import program_of
 from author.lib.words import module_parser
 
 from ..lib.running import ROOT, ran, side_by_side
-from ..tally import tally
+from ..lib.tally import tally
 from .runs import library_of, refuse_each
 
 PROGRAMS = [f"crates/{crate}/out/{crate}_tests"

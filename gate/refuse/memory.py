@@ -10,10 +10,10 @@ import functools, tempfile
 from author.lib.endings import run_tool
 from author.lib.words import program_word
 
-from . import once_each
+from ..lib.play import end
 from ..lib.running import side_by_side
-from ..play import end
-from ..tally import tally
+from ..lib.tally import tally
+from . import once_each
 from .runs import FILES, all_runs, library_of, refuse_each
 
 REFUSED = end(3, err="failed: OutOfMemory\n")

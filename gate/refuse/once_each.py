@@ -8,7 +8,7 @@ import os
 
 from author.lib.endings import Fault
 
-from ..play import play
+from ..lib.play import play
 
 RULES = "--core=4000 --cycles=20 --tasks=4 --length=4 --distance=4".split()
 IMP = "MOV 0, 1\n"

@@ -3,9 +3,9 @@ import pathlib, subprocess, tomllib
 
 from author.lib.endings import Fault
 
-from .. import inputs
-from ..inputs import RULES
-from ..play import end
+from ..lib import inputs
+from ..lib.inputs import RULES
+from ..lib.play import end
 
 HERE = pathlib.Path(__file__).resolve().parent
 OLD_CERT = "cwcert,1,1\nbest,0,0\ncap,0,-\n"

@@ -8,8 +8,8 @@ import os, tempfile
 from author.lib.endings import run_tool
 from author.lib.words import program_word
 
-from ..play import end, play
-from ..tally import compare, tally
+from ..lib.play import end, play
+from ..lib.tally import compare, tally
 from .runs import FILES, TUNINGS, library_of, with_rules
 
 WORDS, WANTED = TUNINGS[0]

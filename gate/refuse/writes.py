@@ -13,9 +13,9 @@ import os, signal, tempfile
 from author.lib.endings import run_tool
 from author.lib.words import program_word
 
+from ..lib.play import Place, end, play
 from ..lib.running import side_by_side
-from ..play import Place, end, play
-from ..tally import tally
+from ..lib.tally import tally
 from .runs import FILES, TUNINGS, all_runs, library_of, with_rules
 
 BESIDE, BESIDE_INPUTS = "CERT.unfinished-1", "CERT.inputs.unfinished-1"

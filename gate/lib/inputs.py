@@ -2,9 +2,9 @@
 of `examples/` as their load files, which are Redcode texts too."""
 import pathlib, tomllib
 
-HERE = pathlib.Path(__file__).resolve().parent
-WARRIORS = HERE.parent / "examples" / "warriors"
-SHARED = tomllib.loads((HERE / "inputs.toml").read_text("utf-8"))
+GATE = pathlib.Path(__file__).resolve().parents[1]
+WARRIORS = GATE.parent / "examples" / "warriors"
+SHARED = tomllib.loads((GATE / "inputs.toml").read_text("utf-8"))
 FILES = SHARED["files"] | {path.with_suffix(".red").name: path.read_text("ascii")
                            for path in sorted(WARRIORS.glob("*.load"))}
 WORDS, TEXTS = SHARED["words"], SHARED["texts"]
