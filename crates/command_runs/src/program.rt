@@ -21,6 +21,9 @@ use std::io::{Read, Write};
 use std::rt::Files;
 use tune_runs::RunFault;
 
+const LETTERS_BEHIND: &str =
+    "error: no letters can follow `-h` or `-V`\n\nFor more information, try '--help'.\n";
+
 /// Runs the command that `words` ask for, and returns the exit status: 0 success or accepted, 1
 /// input refused or certificate rejected, 2 usage error, a part that the template does not have, or
 /// a CERT or CERT.inputs that is not overwritten, 3 I/O error or out of memory.
@@ -136,8 +139,13 @@ fn show<F: Files, W: Write, V: Write, T: Witness>(
     let Ok(text) = answer.to_string(host.alloc) else {
         return Err(host.end_without_memory());
     };
-    if answer.use_stderr() || !mentions_help(words) {
+    if answer.use_stderr() {
         tell(host.err, &[text.as_str()]);
+        return Err(Ending::Misused);
+    }
+    // `clap` takes `-hx` for `-h`.
+    if !mentions_help(words) {
+        tell(host.err, &[LETTERS_BEHIND]);
         return Err(Ending::Misused);
     }
     match out.write_all(text.as_bytes()) {
