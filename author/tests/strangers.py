@@ -242,7 +242,7 @@ class Memory(Trial):
             self.same(f"{big} takes three times the size of a certificate at most",
                       (0, True), (status, most - least < 3 * size))
         refused = {self.peak("cwtune-files big.cert", megabytes)[:2]
-                   for megabytes in range(16, 64, 8)}
+                   for megabytes in range(16, 64, 2)}
         self.same("without memory", True, (3, "failed: out of memory\n") in refused)
         self.same("and never else", [], [end for end in refused if end[0] not in (0, 3, 127)
                                          and "Traceback" in end[1]])

@@ -18,14 +18,14 @@ is_rule option =
 abbrev pub takes_value : (command option : List ℕ) → Bool
 takes_value command option =
     if bytes_eq command (codes "fight") then
-      is_rule option || (bytes_eq option (codes "--position") || bytes_eq option (codes "--first"))
+    is_rule option || (bytes_eq option (codes "--position") || bytes_eq option (codes "--first"))
     else (if bytes_eq command (codes "asm") then is_rule option || bytes_eq option (codes "--setting")
     else (if bytes_eq command (codes "tune") then
-      is_rule option || (bytes_eq option (codes "--part") || (bytes_eq option (codes "--cache")
-      || (bytes_eq option (codes "--keep") || bytes_eq option (codes "--floor"))))
+    is_rule option || (bytes_eq option (codes "--part") || (bytes_eq option (codes "--cache")
+    || (bytes_eq option (codes "--keep") || bytes_eq option (codes "--floor"))))
     else (if bytes_eq command (codes "check") then
-      is_rule option || (bytes_eq option (codes "--part") || (bytes_eq option (codes "--share")
-      || (bytes_eq option (codes "--keep") || bytes_eq option (codes "--floor"))))
+    is_rule option || (bytes_eq option (codes "--part") || (bytes_eq option (codes "--share")
+    || (bytes_eq option (codes "--keep") || bytes_eq option (codes "--floor"))))
     else false)))
 
 -- `--help` and `-h`, and with `version` the options that ask for the version too.

@@ -106,10 +106,7 @@ impl NumberOption {
     }
 
     // Returns the number that the option is given.
-    pub(crate) fn value_in<'a>(
-        &self,
-        matches: &ArgMatches<'a>,
-    ) -> Result<Option<u32>, BadValue<'a>>
+    pub(crate) fn value_in<'a>(&self, matches: &ArgMatches<'a>) -> Result<Option<u32>, BadValue<'a>>
         ensures given { IfOk result (IsGiven SaysNumber (first_value (found_of matches.now) self.now.name.now)) }
         ensures wrong { IsErr result → IsSaidWrong SaysNumber (first_value (found_of matches.now) self.now.name.now) }
     {
