@@ -76,8 +76,8 @@ def raced(folder, stand_in, pmars=PMARS):
     (folder / "pmars").write_text(pmars)
     (folder / "pmars").chmod(0o755)
     return ran_module("bench.races", f"--climb={folder}", "--searches=climb", "--templates=stone",
-               "--seconds=1", "--seeds=1", "--program=/bin/true", f"--pmars={folder}/pmars",
-               f"--results={folder}/results")
+                      "--seconds=1", "--seeds=1", "--program=/bin/true", f"--pmars={folder}/pmars",
+                      f"--results={folder}/results")
 
 
 def run_trials(folder):
@@ -110,11 +110,11 @@ def refused_trials(folder):
     yield compare("another pMARS", (3, "", said), raced(folder, AT_ONCE, "#!/bin/sh\n"))
     words = ["bench.races", "--results=none", "--program=/bin/true"]
     yield compare("an empty folder", (2, "", "error: gate: no cwtune-seek in it\n"),
-                  run(*words, "--climb=gate"))
+                  ran_module(*words, "--climb=gate"))
     for options, said in {"--searches=climb": "the climb needs --climb FOLDER",
                           "--searches=best": "argument --searches: best is not some of search, "
                           "naive, climb"}.items():
-        status, _, err = run(*words, options)
+        status, _, err = ran_module(*words, options)
         yield compare(options, (2, f"python3 -m bench.races: error: {said}"),
                       (status, err.splitlines()[-1]))
 
