@@ -222,8 +222,8 @@ def make_parser():
                         help="fresh fights against each opponent in a heat, if the template is "
                         "tuned whole [default: 100]")
     parser.add_argument("--box", type=number_from(1), default=2, metavar="N",
-                        help="tune the settings up to N steps from a race's winner; up to 1 if "
-                        "these are more than --exact [default: 2]")
+                        help="tune the settings up to N steps from a race's winner; 1 step if "
+                        "N steps hold more than --exact [default: 2]")
     parser.add_argument("--certify", action="store_true", help="tune the box around a race's "
                         "winner with all fights, check the certificate, and draw its totals")
     parser.add_argument("--by-kind", action="store_true",
