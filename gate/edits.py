@@ -5,8 +5,8 @@ another. The edits of a crate are tried in rounds, at most one for each function
 that call one another. One check judges a round: it asks for the edited functions alone, and the
 proof of every other function is a hole, unless it calls itself or is in a cycle of calls. An edit
 is refused if a goal of the function that it changes stays open, or if one of that function's proof
-files fails; but not if only a premise of a call that the edit adds stays open, or if the proof file
-fails only because the edit took a name away.
+files fails, and not only because the edit took a name away. If only a premise of a call that the
+edit adds stays open, the round's line says so.
 
 A goal that stays open shows what the clause refuses. A proof file that fails shows only that this
 proof is not one of the wrong body: another one might be. So such an edit needs a line
@@ -222,8 +222,6 @@ def faults_of(crate, edits, text):
     said, errors = read_check(text)
     faults = [f"{edit.name}: NOT REFUSED: {edit.function.path}: {words_on(edit, said)}"
               for edit in edits if not is_refused(edit, said, errors)]
-    faults += [f"{edit.name}: refused only for a premise of a call that it adds: {goals}"
-               for edit in edits if (goals := " ".join(open_premises(edit, said)))]
     words = words_on(crate.harmless, said)
     if not CLOSED.match(words) and not CALLS.match(words):
         faults.append(f"{crate.harmless.function.path}: a harmless edit was refused: {words}")
@@ -289,7 +287,9 @@ def judge(crate, number, edits, options):
     by_proofs = [edit.name for edit in by_proofs]
     if not faults:
         keep(key, by_proofs)
-    return len(edits) + 1, faults, label + told_of(by_proofs, options)
+    by_premises = "".join(f", {edit.name} only for a premise of a call that it adds: {goals}"
+                          for edit in edits if (goals := " ".join(open_premises(edit, said))))
+    return len(edits) + 1, faults, label + told_of(by_proofs, options) + by_premises
 
 
 def told_of(by_proofs, options):

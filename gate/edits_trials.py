@@ -35,9 +35,7 @@ VERDICTS = [
     ([OPEN + "`returns`", HARMLESS], ""),
     ([OPEN + "`returns`, `one-requires`; it calls `low::one`", HARMLESS], ""),
     ([OPEN + "`two-requires`", HARMLESS], ""),
-    ([OPEN + "`one-requires`, `in-Ok-one-requires-clause-found`", HARMLESS],
-     "it: refused only for a premise of a call that it adds: "
-     "one-requires in-Ok-one-requires-clause-found"),
+    ([OPEN + "`one-requires`, `in-Ok-one-requires-clause-found`", HARMLESS], ""),
     (["fn low::first: no holes", HARMLESS], "it: NOT REFUSED: low::first: no holes"),
     ([HARMLESS], "it: NOT REFUSED: low::first: the check does not name it"),
     ([ERROR + "`returns`: it differs", NOT_PROVED, HARMLESS],
