@@ -12,7 +12,7 @@ first_of_further = 64
 abbrev pub first_of_modes : ℕ
 first_of_modes = 128
 
--- A class is a byte.
+-- A class fits a byte, of which no class has the values from 192.
 abbrev pub class_count : ℕ
 class_count = 256
 

@@ -20,7 +20,7 @@ TurnsLeave core mine theirs turns core_new my_new their_new =
     (first : Side) → seen_from first core_new my_new.items their_new.items ≡ play_of mine.capacity (seen_from first core mine.items theirs.items) first turns
 
 -- The premise of a fight: a core of m cells, the tasks of both sides in it, the same room for both,
--- and few cycles.
+-- and no more cycles than rules allow.
 pub record CanPlay (m : ℕ) (core : List Instruction) (mine theirs : Queue) (cycles : ℕ) : Type 0 where
   pub core_holds : IsCore m core
   pub mine_below : AreTasks m mine.items

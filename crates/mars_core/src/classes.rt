@@ -1,5 +1,5 @@
-//! Classes of instructions: 128 frequent ones, and one for each pair of modes. classes.py writes the
-//! tables.
+//! Classes of instructions: 128 frequent ones, and one for each pair of modes. classes.py writes
+//! the tables.
 ghost use Rattle.std.specs.Prelude.{◌≡◌, ◌<◌};
 ghost use Rattle.mars_core.specs.Classes.{class_count, class_of_key, class_from_32, class_from_64, class_from_96};
 

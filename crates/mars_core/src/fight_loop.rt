@@ -33,7 +33,7 @@ pub(crate) fn take_turns<C: Store>(
 }
 
 // Does what `take_turns` does, for two queues that are not empty. Returns the whole cycles and the
-// turns beyond them: their sum would be one more number that the compiler keeps in a register.
+// turns beyond them: beside their sum the compiler would keep the end of a queue in memory.
 //
 // Owns the cells and the queues while it runs, so that the compiler keeps their fields in
 // registers: it has to assume that a write to a cell changes what is behind a reference. Too large

@@ -75,8 +75,8 @@ pub(crate) fn next_turn<C: Store, const PLACE: u64>(
 
 // Executes the instruction at `pc`, which is `cell`, by its class (1994 draft).
 //
-// Tests come before each match: as the last arm of a match the others would count as rare, and the
-// compiler would inline nothing below that arm.
+// A test comes before each match: the compiler takes the last arm of a match to be rare, and would
+// inline nothing below it.
 #[inline(always)]
 fn execute<C: Store, const PLACE: u64>(
     cells: &mut C,
@@ -99,8 +99,8 @@ fn execute<C: Store, const PLACE: u64>(
     execute_by_modes::<C, PLACE>(cells, size, pc, cell, class)
 }
 
-// Executes the instruction at `pc`, which is `cell`, if it is one of the most frequent ones. Each has
-// an arm, in which the numbers of its opcode, modifier and modes are constants.
+// Executes the instruction at `pc`, which is `cell`, if it is one of the most frequent ones. Each
+// has an arm, in which the numbers of its opcode, modifier and modes are constants.
 #[inline(always)]
 fn execute_by_class<C: Store>(
     cells: &mut C,
@@ -185,8 +185,8 @@ fn execute_by_class<C: Store>(
     }
 }
 
-// Does what `execute_by_class` does for the further frequent instructions: the compiler inlines a
-// match of 64 such arms, not of more.
+// Does what `execute_by_class` does for the further frequent instructions. A match
+// has at most 64 arms (docs/HOT_LOOP.md).
 #[inline]
 fn execute_further<C: Store, const PLACE: u64>(
     cells: &mut C,

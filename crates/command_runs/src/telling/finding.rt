@@ -20,7 +20,7 @@ pub struct Finding {
     start_index: u32,
     // Whether the part has the start setting of the template.
     has_start: bool,
-    // A template of its own, since the inputs are gone when a setting is told.
+    // A template of its own, since the inputs are gone when a setting is printed.
     template: Option<Template>,
     // The index in the template of the part's first setting.
     first: u32,
