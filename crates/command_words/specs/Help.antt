@@ -34,8 +34,8 @@ is_help_option version word =
     bytes_eq word (codes "--help") || (bytes_eq word (codes "-h")
     || (version && (bytes_eq word (codes "--version") || bytes_eq word (codes "-V"))))
 
--- Such an option is before `--`, and not the value of an option of the command. `is_value` says
--- whether the first word is one.
+-- A help option is before `--`, and not the value of an option of the command. `is_value` says
+-- whether the first word is a value.
 abbrev pub has_help_option : (version : Bool) (command : List ℕ) (is_value : Bool) → List (List ℕ) → Bool
 has_help_option version command is_value [] = false
 has_help_option version command true (word ∷ words) = has_help_option version command false words

@@ -30,7 +30,7 @@ abbrev pub IsMeant : {X : Type 0} → (List ℕ → X → Type 0) → X → Opti
 IsMeant Says default None meant = meant ≡ default
 IsMeant Says default (Some word) meant = Says word meant
 
--- The option has a word, which says nothing.
+-- The option has a word, which says no value.
 abbrev pub IsSaidWrong : {X : Type 0} → (List ℕ → X → Type 0) → Option (List ℕ) → Type 0
 IsSaidWrong Says None = ⊥
 IsSaidWrong {X} Says (Some word) = (x : X) → Says word x → ⊥

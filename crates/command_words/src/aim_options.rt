@@ -13,8 +13,8 @@ use clap::ArgMatches;
 use tune_cert::Demand;
 use tune_problem::{Aim, limits};
 
-// Returns what a tuning, or a check, is asked for beside the optimum. The options of `check` read
-// those of `tune` too, which have the same names.
+// Returns what a tuning, or a check, is asked for beside the optimum. `CHECK_KEEP` and
+// `CHECK_FLOOR` serve `tune` too, whose options have the same names.
 pub(crate) fn demand_of<'a>(matches: &ArgMatches<'a>) -> Result<Demand, BadValue<'a>>
     ensures keep { IfOk result (λ demand. (given : Option ℕ) × IsGiven SaysNumber (first_value (found_of matches.now) (codes "keep")) given × (demand.keep ≡ kept_asked given)) }
     ensures floor { IfOk result (λ demand. IsGiven SaysNumber (first_value (found_of matches.now) (codes "floor")) demand.floor) }

@@ -1,5 +1,5 @@
 //! The options that take a number: a table of them, and how one is made and read. `clap` checks the
-//! range of `--keep` and `--cache`, and the command that of the others when it runs.
+//! range of `--keep` and `--cache`; the others are checked when the command runs.
 
 ghost use Rattle.std.specs.Prelude.{◌≡◌, Some, ℕ, IfOk, IfSome, IsErr};
 ghost use Rattle.clap.specs.Matches.{first_value, found_of};
