@@ -55,7 +55,7 @@ class Fight:
             for queue in self.queues:
                 pc = queue.popleft()
                 cell = self.core[pc]
-                self.executed[cell[0], cell[1], cell[2], cell[4]] += 1
+                self.executed[cell[0], canonical_modifier(*cell[:2]), cell[2], cell[4]] += 1
                 self.turns += 1
                 for address in self.step(pc, cell):
                     if len(queue) < self.tasks:
@@ -124,6 +124,15 @@ class Fight:
         """Returns the share of the turns whose instruction has no class of its own."""
         known = classes()
         return sum(count for key, count in self.executed.items() if key not in known) / self.turns
+
+
+def canonical_modifier(op, modifier):
+    """Returns the one modifier that stands for all with which the opcode does the same, as in the
+    classes."""
+    if op in ("JMP", "SPL", "NOP"):
+        return "B"
+    is_f = op == "DAT" or modifier == "I" and op not in ("MOV", "SEQ", "SNE")
+    return "F" if is_f else modifier
 
 
 def skips(op, modifier, pairs, a, b):

@@ -10,12 +10,18 @@ HERE = pathlib.Path(__file__).resolve().parent
 OPCODES = "DAT MOV ADD SUB MUL DIV MOD JMP JMZ JMN DJN SEQ SNE SLT SPL NOP".split()
 MODIFIERS = "A B AB BA F X I I".split()
 MODES = "#$*@{<}>"
+# The canonical modifier of each opcode that has no use for one, and the opcodes that take whole
+# instructions with I. With the others I does the same as F.
+CANONICAL = {"DAT": "F", "JMP": "B", "SPL": "B", "NOP": "B"}
+WHOLE = "MOV", "SEQ", "SNE"
 # The classes of `execute_by_class`, and the keys of one part of `class_of_key`.
 FIRST, PART = 64, 32
 
 
 def parsed(line):
     opcode, modifier, a_mode, b_mode = re.fullmatch(r"(\w+)\.(\w+) (.), (.)", line).groups()
+    if CANONICAL.get(opcode, modifier) != modifier or modifier == "I" and opcode not in WHOLE:
+        sys.exit(f"classes.txt: {line}: no canonical modifier")
     o, m = OPCODES.index(opcode), MODIFIERS.index(modifier)
     a, b = MODES.index(a_mode), MODES.index(b_mode)
     return line, (o, m, a, b), m + 8 * o + 256 * (a + 8 * b)

@@ -3,20 +3,20 @@ use Rattle.std.proofs.Common.{◌≡◌, ℕ, sym, ◌∙◌, ◌<◌, ◌+◌, 
 use Rattle.std.proofs.lemmas.Bool.{cases_lt}
 use Rattle.rc_instr.specs.Instruction.{opcode_number, modifier_number, mode_number}
 use Rattle.rc_instr.specs.declared.instruction.Instruction.{Instruction}
-use Rattle.mars_core.specs.Classes.{key_of, class_of, modes_class_of, IsClassOf, IsCoded, IsModed}
+use Rattle.mars_core.specs.Classes.{key_of, canonical_modifier, canonical, class_of, modes_class_of, IsClassOf, IsCoded, IsModed}
 use Rattle.mars_core.specs.Codes.{opcode_of, modifier_of, mode_of}
 use Rattle.mars_core.proofs.Keys.{key_in, Leads, leads}
 use Rattle.mars_core.proofs.Packing.{opcode_small, modifier_small, mode_small}
 
--- a key says the parts
-parted : (i : Instruction) (o k a b : ℕ) → key_of i ≡ k + 8 * o + 256 * (a + 8 * b) → k < 8 → o < 16 → a < 8 → b < 8 → IsCoded o k a b i
+-- the key of a canonical instruction says the parts
+parted : (i : Instruction) (o k a b : ℕ) → key_of (canonical i) ≡ k + 8 * o + 256 * (a + 8 * b) → k < 8 → o < 16 → a < 8 → b < 8 → IsCoded o k a b i
 parted i o k a b e lk lo la lb =
     let so = opcode_small i.opcode in
-    let sk = modifier_small i.modifier in
+    let sk = modifier_small (canonical_modifier i.opcode i.modifier) in
     let sm = mode_small i.a_mode in
     let sn = mode_small i.b_mode in
     let eo : opcode_number i.opcode ≡ o = omega (arith, e, so.0, sk.0, sm.0, sn.0) in
-    let ek : modifier_number i.modifier ≡ k = omega (arith, e, so.0, sk.0, sm.0, sn.0) in
+    let ek : modifier_number (canonical_modifier i.opcode i.modifier) ≡ k = omega (arith, e, so.0, sk.0, sm.0, sn.0) in
     let ea : mode_number i.a_mode ≡ a = omega (arith, e, so.0, sk.0, sm.0, sn.0) in
     let eb : mode_number i.b_mode ≡ b = omega (arith, e, so.0, sk.0, sm.0, sn.0) in
     record {
@@ -26,14 +26,14 @@ parted i o k a b e lk lo la lb =
       b_mode_is = sym sn.1 ∙ ap mode_of eb;
     }
 
-led_own : (i : Instruction) (n c : ℕ) → n ≡ class_of i → n ≡ c → c < 128 → Leads (key_of i) (class_of i) → key_of i ≡ key_in c
+led_own : (i : Instruction) (n c : ℕ) → n ≡ class_of i → n ≡ c → c < 128 → Leads (key_of (canonical i)) (class_of i) → key_of (canonical i) ≡ key_in c
 led_own i n c p e s (inl q) = sym q.1 ∙ ap key_in (sym p ∙ e)
 led_own i n c p e s (inr q) = absurd (omega (arith, p, q, e, s))
 
-led : (i : Instruction) (n c : ℕ) → IsClassOf i n → n ≡ c → c < 128 → key_of i ≡ key_in c
-led i n c h e s = led_own i n c (h.own (omega (arith, e, s))) e s (leads (key_of i))
+led : (i : Instruction) (n c : ℕ) → IsClassOf i n → n ≡ c → c < 128 → key_of (canonical i) ≡ key_in c
+led i n c h e s = led_own i n c (h.own (omega (arith, e, s))) e s (leads (key_of (canonical i)))
 
--- one of the first 128 classes says the opcode, the modifier and the modes
+-- one of the first 128 classes says the opcode, the canonical modifier and the modes
 pub coded : (i : Instruction) (n c o k a b : ℕ) → IsClassOf i n → n ≡ c → c < 128 → key_in c ≡ k + 8 * o + 256 * (a + 8 * b) → k < 8 → o < 16 → a < 8 → b < 8 → IsCoded o k a b i
 coded i n c o k a b h e s f lk lo la lb = parted i o k a b (led i n c h e s ∙ f) lk lo la lb
 

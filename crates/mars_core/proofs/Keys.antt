@@ -38,7 +38,7 @@ key_in c =
     else if c == 27 then 337
     else if c == 28 then 2369
     else if c == 29 then 10609
-    else if c == 30 then 2416
+    else if c == 30 then 6201
     else if c == 31 then 2062
     else if c == 32 then 2385
     else if c == 33 then 11022
@@ -106,9 +106,9 @@ key_in c =
     else if c == 95 then 12625
     else if c == 96 then 14673
     else if c == 97 then 6481
-    else if c == 98 then 8534
-    else if c == 99 then 12630
-    else if c == 100 then 14678
+    else if c == 98 then 57
+    else if c == 99 then 4153
+    else if c == 100 then 14393
     else if c == 101 then 4420
     else if c == 102 then 6468
     else if c == 103 then 14660
@@ -123,7 +123,7 @@ key_in c =
     else if c == 112 then 4209
     else if c == 113 then 2673
     else if c == 114 then 8817
-    else if c == 115 then 10613
+    else if c == 115 then 12345
     else if c == 116 then 2064
     else if c == 117 then 2072
     else if c == 118 then 2068
@@ -153,9 +153,9 @@ leads_from_96 k =
     -- table of tests from 96
     leads_if (k == 14673) k 96 _ 14673 (λ e. eqb-true _ _ e) (omega arith) refl (
     leads_if (k == 6481) k 97 _ 6481 (λ e. eqb-true _ _ e) (omega arith) refl (
-    leads_if (k == 8534) k 98 _ 8534 (λ e. eqb-true _ _ e) (omega arith) refl (
-    leads_if (k == 12630) k 99 _ 12630 (λ e. eqb-true _ _ e) (omega arith) refl (
-    leads_if (k == 14678) k 100 _ 14678 (λ e. eqb-true _ _ e) (omega arith) refl (
+    leads_if (k == 57) k 98 _ 57 (λ e. eqb-true _ _ e) (omega arith) refl (
+    leads_if (k == 4153) k 99 _ 4153 (λ e. eqb-true _ _ e) (omega arith) refl (
+    leads_if (k == 14393) k 100 _ 14393 (λ e. eqb-true _ _ e) (omega arith) refl (
     leads_if (k == 4420) k 101 _ 4420 (λ e. eqb-true _ _ e) (omega arith) refl (
     leads_if (k == 6468) k 102 _ 6468 (λ e. eqb-true _ _ e) (omega arith) refl (
     leads_if (k == 14660) k 103 _ 14660 (λ e. eqb-true _ _ e) (omega arith) refl (
@@ -170,7 +170,7 @@ leads_from_96 k =
     leads_if (k == 4209) k 112 _ 4209 (λ e. eqb-true _ _ e) (omega arith) refl (
     leads_if (k == 2673) k 113 _ 2673 (λ e. eqb-true _ _ e) (omega arith) refl (
     leads_if (k == 8817) k 114 _ 8817 (λ e. eqb-true _ _ e) (omega arith) refl (
-    leads_if (k == 10613) k 115 _ 10613 (λ e. eqb-true _ _ e) (omega arith) refl (
+    leads_if (k == 12345) k 115 _ 12345 (λ e. eqb-true _ _ e) (omega arith) refl (
     leads_if (k == 2064) k 116 _ 2064 (λ e. eqb-true _ _ e) (omega arith) refl (
     leads_if (k == 2072) k 117 _ 2072 (λ e. eqb-true _ _ e) (omega arith) refl (
     leads_if (k == 2068) k 118 _ 2068 (λ e. eqb-true _ _ e) (omega arith) refl (
@@ -298,7 +298,7 @@ leads k =
     leads_if (k == 337) k 27 _ 337 (λ e. eqb-true _ _ e) (omega arith) refl (
     leads_if (k == 2369) k 28 _ 2369 (λ e. eqb-true _ _ e) (omega arith) refl (
     leads_if (k == 10609) k 29 _ 10609 (λ e. eqb-true _ _ e) (omega arith) refl (
-    leads_if (k == 2416) k 30 _ 2416 (λ e. eqb-true _ _ e) (omega arith) refl (
+    leads_if (k == 6201) k 30 _ 6201 (λ e. eqb-true _ _ e) (omega arith) refl (
     leads_if (k == 2062) k 31 _ 2062 (λ e. eqb-true _ _ e) (omega arith) refl (
     leads_from_32 k))))))))))))))))))))))))))))))))
     -- end of tests from 0

@@ -3,6 +3,7 @@ pub mod Keys
 pub mod Packing
 pub mod Words
 pub mod ClassParts
+pub mod Canonical
 pub mod Stores
 pub mod Written
 pub mod Sums

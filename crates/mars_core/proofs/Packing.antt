@@ -11,7 +11,7 @@ use Rattle.rc_instr.specs.declared.instruction.Mode.{Mode}
 use Rattle.rc_instr.specs.declared.instruction.Mode.TheVariants.{Immediate, Direct, AIndirect, BIndirect, APredecrement, BPredecrement, APostincrement, BPostincrement}
 use Rattle.mars_core.specs.Numbers.{with_field}
 use Rattle.mars_core.specs.Numbers.{ANumber, BNumber}
-use Rattle.mars_core.specs.Classes.{key_of, class_of, modes_class_of, IsClassOf}
+use Rattle.mars_core.specs.Classes.{key_of, canonical_modifier, canonical, class_of, modes_class_of, IsClassOf}
 use Rattle.mars_core.specs.Codes.{opcode_of, modifier_of, mode_of}
 use Rattle.mars_core.specs.Packed.{IsClassed, class_in, packed, unpacked, mark_of, marked, same_parts}
 use Rattle.mars_core.proofs.Keys.{Leads, leads, class_small}
@@ -70,16 +70,16 @@ key_small i =
     let sn = mode_small i.b_mode in
     omega (arith, so.0, sk.0, sm.0, sn.0)
 
-modes_led : (i : Instruction) (n : ℕ) → n ≡ class_of i → 128 ≤ n → Leads (key_of i) (class_of i) → n ≡ modes_class_of i
+modes_led : (i : Instruction) (n : ℕ) → n ≡ class_of i → 128 ≤ n → Leads (key_of (canonical i)) (class_of i) → n ≡ modes_class_of i
 modes_led i n e l (inl h) = absurd (omega (arith, e, l, h.0))
 modes_led i n e l (inr h) =
     let so = opcode_small i.opcode in
-    let sk = modifier_small i.modifier in
+    let sk = modifier_small (canonical_modifier i.opcode i.modifier) in
     omega (arith, e, h, so.0, sk.0)
 
 -- what an instruction's own class says of it is true
 pub own_class : (i : Instruction) (n : ℕ) → n ≡ class_of i → IsClassOf i n
-own_class i n e = record { own = λ _. e; modes = λ l. modes_led i n e l (leads (key_of i)) }
+own_class i n e = record { own = λ _. e; modes = λ l. modes_led i n e l (leads (key_of (canonical i))) }
 
 -- what the class of its modes says of it is true
 pub modes_class : (i : Instruction) (n : ℕ) → n ≡ modes_class_of i → IsClassOf i n
@@ -114,7 +114,7 @@ unpacked_packed i w e a b =
     let sk = modifier_small i.modifier in
     let sm = mode_small i.a_mode in
     let sn = mode_small i.b_mode in
-    let c = class_small (key_of i) (key_small i) in
+    let c = class_small (key_of (canonical i)) (key_small (canonical i)) in
     let o : w / 8 % 16 ≡ opcode_number i.opcode = omega (arith, so.0, sk.0, sm.0, sn.0, c) in
     let k : w % 8 ≡ modifier_number i.modifier = omega (arith, so.0, sk.0, sm.0, sn.0, c) in
     let m : w / 256 % 8 ≡ mode_number i.a_mode = omega (arith, so.0, sk.0, sm.0, sn.0, c) in
@@ -131,7 +131,7 @@ classed_packed i w e a b =
     let sk = modifier_small i.modifier in
     let sm = mode_small i.a_mode in
     let sn = mode_small i.b_mode in
-    let c = class_small (key_of i) (key_small i) in
+    let c = class_small (key_of (canonical i)) (key_small (canonical i)) in
     let h : class_in w ≡ class_of i = omega (arith, so.0, sk.0, sm.0, sn.0, c) in
     record { class_is = own_class (unpacked w) (class_in w) (h ∙ sym (ap class_of (unpacked_packed i w e a b))) }
 

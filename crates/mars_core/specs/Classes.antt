@@ -1,9 +1,13 @@
--- Classes of instructions. Each below `first_of_modes` is a frequent opcode with its modifier and
--- its modes, the most frequent first; docs/HOT_LOOP.md says how these were chosen. Each of the
--- others says the modes of both operands, and nothing else. classes.py writes the tables.
+-- Classes of instructions. Each below `first_of_modes` is a frequent opcode with its canonical
+-- modifier and its modes, the most frequent first; docs/HOT_LOOP.md says how these were chosen. Each
+-- of the others says the modes of both operands, and nothing else. classes.py writes the tables.
 use Rattle.std.specs.Prelude.{◌≡◌, ℕ, ◌+◌, ◌*◌, ◌/◌, ◌<◌, ◌≤◌, ◌==◌, if◌then◌else◌}
 use Rattle.rc_instr.specs.Instruction.{opcode_number, modifier_number, mode_number}
 use Rattle.rc_instr.specs.declared.instruction.Instruction.{Instruction}
+use Rattle.rc_instr.specs.declared.instruction.Opcode.{Opcode}
+use Rattle.rc_instr.specs.declared.instruction.Opcode.TheVariants.{Dat, Mov, Add, Sub, Mul, Div, Mod, Jmp, Jmz, Jmn, Djn, Seq, Sne, Slt, Spl, Nop}
+use Rattle.rc_instr.specs.declared.instruction.Modifier.{Modifier}
+use Rattle.rc_instr.specs.declared.instruction.Modifier.TheVariants.{B, F, I}
 use Rattle.mars_core.specs.Codes.{opcode_of, modifier_of, mode_of}
 
 abbrev pub first_of_further : ℕ
@@ -16,10 +20,36 @@ first_of_modes = 128
 abbrev pub class_count : ℕ
 class_count = 256
 
--- The opcode, modifier and modes of an instruction have these numbers.
+-- The modifier that pairs the same numbers: F in place of I.
+abbrev pub in_pairs : Modifier → Modifier
+in_pairs I = F
+in_pairs k = k
+
+-- The canonical modifier of an instruction stands for all with which it does the same: F for I, but
+-- not with MOV, SEQ and SNE, which then take whole instructions; and F or B for any modifier, with
+-- the opcodes that have no use for one.
+abbrev pub canonical_modifier : Opcode → Modifier → Modifier
+canonical_modifier Dat k = F
+canonical_modifier Jmp k = B
+canonical_modifier Spl k = B
+canonical_modifier Nop k = B
+canonical_modifier Mov k = k
+canonical_modifier Seq k = k
+canonical_modifier Sne k = k
+canonical_modifier Add k = in_pairs k
+canonical_modifier Sub k = in_pairs k
+canonical_modifier Mul k = in_pairs k
+canonical_modifier Div k = in_pairs k
+canonical_modifier Mod k = in_pairs k
+canonical_modifier Jmz k = in_pairs k
+canonical_modifier Jmn k = in_pairs k
+canonical_modifier Djn k = in_pairs k
+canonical_modifier Slt k = in_pairs k
+
+-- The opcode, canonical modifier and modes of an instruction have these numbers.
 pub record IsCoded (opcode modifier a_mode b_mode : ℕ) (i : Instruction) : Type 0 where
   pub opcode_is : i.opcode ≡ opcode_of opcode
-  pub modifier_is : i.modifier ≡ modifier_of modifier
+  pub modifier_is : canonical_modifier i.opcode i.modifier ≡ modifier_of modifier
   pub a_mode_is : i.a_mode ≡ mode_of a_mode
   pub b_mode_is : i.b_mode ≡ mode_of b_mode
 
@@ -38,9 +68,9 @@ class_from_96 k =
     -- table of keys from 96
     if k == 14673 then 96  -- DJN.B $, >
     else if k == 6481 then 97  -- DJN.B $, @
-    else if k == 8534 then 98  -- DJN.I $, {
-    else if k == 12630 then 99  -- DJN.I $, }
-    else if k == 14678 then 100  -- DJN.I $, >
+    else if k == 57 then 98  -- JMP.B #, #
+    else if k == 4153 then 99  -- JMP.B #, *
+    else if k == 14393 then 100  -- JMP.B #, >
     else if k == 4420 then 101  -- JMZ.F $, *
     else if k == 6468 then 102  -- JMZ.F $, @
     else if k == 14660 then 103  -- JMZ.F $, >
@@ -55,7 +85,7 @@ class_from_96 k =
     else if k == 4209 then 112  -- SPL.B #, *
     else if k == 2673 then 113  -- SPL.B *, $
     else if k == 8817 then 114  -- SPL.B *, {
-    else if k == 10613 then 115  -- SPL.X $, <
+    else if k == 12345 then 115  -- JMP.B #, }
     else if k == 2064 then 116  -- ADD.A #, $
     else if k == 2072 then 117  -- SUB.A #, $
     else if k == 2068 then 118  -- ADD.F #, $
@@ -180,13 +210,17 @@ class_of_key k =
     else if k == 337 then 27  -- DJN.B $, #
     else if k == 2369 then 28  -- JMZ.B $, $
     else if k == 10609 then 29  -- SPL.B $, <
-    else if k == 2416 then 30  -- SPL.A $, $
+    else if k == 6201 then 30  -- JMP.B #, @
     else if k == 2062 then 31  -- MOV.I #, $
     else class_from_32 k
     -- end of keys from 0
 
+-- The instruction with its canonical modifier.
+abbrev pub canonical : Instruction → Instruction
+canonical i = record i { modifier = canonical_modifier i.opcode i.modifier }
+
 abbrev pub class_of : Instruction → ℕ
-class_of i = class_of_key (key_of i)
+class_of i = class_of_key (key_of (canonical i))
 
 -- The class that gives the modes of an instruction, whether it is a frequent one or not.
 abbrev pub modes_class_of : Instruction → ℕ

@@ -1,4 +1,4 @@
-//! Instructions whose opcode, modifier and modes are known at compile time.
+//! Instructions whose opcode, canonical modifier and modes are known at compile time.
 ghost use Rattle.std.specs.Prelude.{◌<◌, ◌≤◌, ◌+◌};
 ghost use Rattle.mars_core.specs.Classes.{IsCoded};
 ghost use Rattle.mars_core.specs.Codes.{opcode_of, modifier_of, mode_of};
@@ -14,8 +14,7 @@ use crate::operand::{Located, evaluate};
 use crate::turn::Executed;
 
 // Executes the instruction at `pc`, which is `cell`. The const parameters stand for its opcode,
-// modifier and modes, as `Codes` numbers them.
-#[tactic(auto, unfolding(crate::specs::Step::step_of))]
+// canonical modifier and modes, as `Codes` numbers them.
 #[inline(always)]
 pub(crate) fn arm<
     C: Store,

@@ -1,7 +1,8 @@
 //! An instruction in one word.
-ghost use Rattle.std.specs.Prelude.{◌≡◌, ◌%◌};
+ghost use Rattle.std.specs.Prelude.{◌≡◌, ◌<◌, ◌%◌};
 ghost use Rattle.rc_instr.specs.Instruction.{modifier_number};
 ghost use Rattle.rc_instr.specs.declared.instruction.Instruction.{Instruction};
+ghost use Rattle.mars_core.specs.Classes.{key_of, canonical};
 ghost use Rattle.mars_core.specs.Codes.{modifier_of};
 ghost use Rattle.mars_core.specs.Packed.{IsClassed, packed, unpacked, is_marked, marked, empty_word, same_parts};
 
@@ -10,7 +11,7 @@ use crate::classes::{CLASS_COUNT, class_of_key};
 use crate::codes::{
     CODE_COUNT, mode_code, mode_from, modifier_code, modifier_from, opcode_code, opcode_from,
 };
-use rc_instr::Instruction;
+use rc_instr::{Instruction, Modifier, Opcode};
 
 // What the parts of a word are multiplied by: the mark, the A-number, the class and the B-number.
 // Below the mark are the modifier, the opcode and the modes (specs/Packed.antt has the table).
@@ -29,18 +30,43 @@ pub struct PackedCell {
     ghost classed: { IsClassed word },
 }
 
-// Packs an instruction, without a mark.
-#[tactic(auto, unfolding(crate::specs::Packed::packed))]
-#[inline]
-fn pack(instruction: Instruction) -> u64
-    ensures { result ≡ packed instruction }
+fn key_of(instruction: Instruction) -> u64
+    ensures value { result ≡ key_of instruction }
+    ensures small { result < 16384 }
 {
     let code = modifier_code(instruction.modifier) + 8 * opcode_code(instruction.opcode);
     let modes = mode_code(instruction.a_mode) + 8 * mode_code(instruction.b_mode);
+    code + 256 * modes
+}
+
+// Returns the instruction with its canonical modifier, with which it does the same.
+fn canonical(instruction: Instruction) -> Instruction
+    ensures { result ≡ canonical instruction }
+{
+    let modifier = match instruction.opcode {
+        Opcode::Mov | Opcode::Seq | Opcode::Sne => instruction.modifier,
+        Opcode::Dat => Modifier::F,
+        Opcode::Jmp | Opcode::Spl | Opcode::Nop => Modifier::B,
+        _ => match instruction.modifier {
+            Modifier::I => Modifier::F,
+            modifier => modifier,
+        },
+    };
+    Instruction {
+        modifier,
+        ..instruction
+    }
+}
+
+// Packs an instruction, without a mark.
+#[tactic(auto, unfolding(crate::specs::Packed::packed))]
+fn pack(instruction: Instruction) -> u64
+    ensures { result ≡ packed instruction }
+{
     let a = u64::from(instruction.a_number);
     let b = u64::from(instruction.b_number);
-    let key = code + 256 * modes;
-    key + A_NUMBER * a + CLASS * class_of_key(key) + B_NUMBER * b
+    let class = class_of_key(key_of(canonical(instruction)));
+    key_of(instruction) + A_NUMBER * a + CLASS * class + B_NUMBER * b
 }
 
 impl PackedCell {

@@ -147,7 +147,7 @@ fn execute_by_class<C: Store>(
         27 => arm::<C, 10, 1, 1, 0>(cells, size, pc, cell), // DJN.B $, #
         28 => arm::<C, 8, 1, 1, 1>(cells, size, pc, cell), // JMZ.B $, $
         29 => arm::<C, 14, 1, 1, 5>(cells, size, pc, cell), // SPL.B $, <
-        30 => arm::<C, 14, 0, 1, 1>(cells, size, pc, cell), // SPL.A $, $
+        30 => arm::<C, 7, 1, 0, 3>(cells, size, pc, cell), // JMP.B #, @
         31 => arm::<C, 1, 6, 0, 1>(cells, size, pc, cell), // MOV.I #, $
         32 => arm::<C, 10, 1, 1, 1>(cells, size, pc, cell), // DJN.B $, $
         33 => arm::<C, 1, 6, 3, 5>(cells, size, pc, cell), // MOV.I @, <
@@ -238,9 +238,9 @@ fn execute_further<C: Store, const PLACE: u64>(
         95 => arm::<C, 10, 1, 1, 6>(cells, size, pc, cell), // DJN.B $, }
         96 => arm::<C, 10, 1, 1, 7>(cells, size, pc, cell), // DJN.B $, >
         97 => arm::<C, 10, 1, 1, 3>(cells, size, pc, cell), // DJN.B $, @
-        98 => arm::<C, 10, 6, 1, 4>(cells, size, pc, cell), // DJN.I $, {
-        99 => arm::<C, 10, 6, 1, 6>(cells, size, pc, cell), // DJN.I $, }
-        100 => arm::<C, 10, 6, 1, 7>(cells, size, pc, cell), // DJN.I $, >
+        98 => arm::<C, 7, 1, 0, 0>(cells, size, pc, cell), // JMP.B #, #
+        99 => arm::<C, 7, 1, 0, 2>(cells, size, pc, cell), // JMP.B #, *
+        100 => arm::<C, 7, 1, 0, 7>(cells, size, pc, cell), // JMP.B #, >
         101 => arm::<C, 8, 4, 1, 2>(cells, size, pc, cell), // JMZ.F $, *
         102 => arm::<C, 8, 4, 1, 3>(cells, size, pc, cell), // JMZ.F $, @
         103 => arm::<C, 8, 4, 1, 7>(cells, size, pc, cell), // JMZ.F $, >
@@ -255,7 +255,7 @@ fn execute_further<C: Store, const PLACE: u64>(
         112 => arm::<C, 14, 1, 0, 2>(cells, size, pc, cell), // SPL.B #, *
         113 => arm::<C, 14, 1, 2, 1>(cells, size, pc, cell), // SPL.B *, $
         114 => arm::<C, 14, 1, 2, 4>(cells, size, pc, cell), // SPL.B *, {
-        115 => arm::<C, 14, 5, 1, 5>(cells, size, pc, cell), // SPL.X $, <
+        115 => arm::<C, 7, 1, 0, 6>(cells, size, pc, cell), // JMP.B #, }
         116 => arm::<C, 2, 0, 0, 1>(cells, size, pc, cell), // ADD.A #, $
         117 => arm::<C, 3, 0, 0, 1>(cells, size, pc, cell), // SUB.A #, $
         118 => arm::<C, 2, 4, 0, 1>(cells, size, pc, cell), // ADD.F #, $

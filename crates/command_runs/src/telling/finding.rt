@@ -1,4 +1,5 @@
 //! What a search has found so far, with the names of the constants.
+ghost use Rattle.std.specs.Prelude.{◌≡◌, None};
 
 use crate::telling::{tell, tell_bytes};
 use itoa::Buffer;
@@ -28,7 +29,9 @@ pub struct Finding {
 
 impl Finding {
     /// Makes the finding of a search that has visited no setting.
-    pub fn new(alloc: Global) -> Finding {
+    pub fn new(alloc: Global) -> Finding
+        ensures { result.best ≡ None }
+    {
         Finding {
             alloc,
             best: None,
@@ -41,7 +44,9 @@ impl Finding {
     }
 
     /// Keeps what names the values, if memory allows.
-    pub fn begin(&mut self, inputs: &Inputs) {
+    pub fn begin(&mut self, inputs: &Inputs)
+        ensures { self.new.best ≡ self.old.best }
+    {
         let template = inputs.template();
         self.template = Template::read(self.alloc, template.text()).ok();
         self.start_index = inputs.start_number();
@@ -51,7 +56,9 @@ impl Finding {
     }
 
     /// Keeps the best setting. A search visits the start setting first.
-    pub fn see(&mut self, standing: &Standing) {
+    pub fn see(&mut self, standing: &Standing)
+        ensures { self.new.best ≡ standing.now.best }
+    {
         self.best = standing.best;
         if let Some(best) = standing.best {
             if standing.settings == 1 && self.has_start && best.vector == self.start_index {
@@ -70,7 +77,10 @@ impl Finding {
     }
 
     /// Writes the best setting with its total and its values, and the total of the start setting.
-    pub fn tell_progress<V: Write>(&self, err: &mut Outlet<V>) {
+    /// Writes nothing if no setting was found.
+    pub fn tell_progress<V: Write>(&self, err: &mut Outlet<V>)
+        ensures { self.now.best ≡ None → err.new ≡ err.old }
+    {
         if self.best.is_none() {
             return;
         }

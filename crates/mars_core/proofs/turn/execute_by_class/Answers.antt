@@ -94,7 +94,7 @@ pub arm-requires-in-29-clause-coded : goal.arm-requires-in-29-clause-coded
 arm-requires-in-29-clause-coded g c = coded _ _ 29 14 1 1 5 c.requires.class c.in-29.is (omega arith) refl (omega arith) (omega arith) (omega arith) (omega arith)
 
 pub arm-requires-in-30-clause-coded : goal.arm-requires-in-30-clause-coded
-arm-requires-in-30-clause-coded g c = coded _ _ 30 14 0 1 1 c.requires.class c.in-30.is (omega arith) refl (omega arith) (omega arith) (omega arith) (omega arith)
+arm-requires-in-30-clause-coded g c = coded _ _ 30 7 1 0 3 c.requires.class c.in-30.is (omega arith) refl (omega arith) (omega arith) (omega arith) (omega arith)
 
 pub arm-requires-in-31-clause-coded : goal.arm-requires-in-31-clause-coded
 arm-requires-in-31-clause-coded g c = coded _ _ 31 1 6 0 1 c.requires.class c.in-31.is (omega arith) refl (omega arith) (omega arith) (omega arith) (omega arith)

@@ -106,13 +106,13 @@ pub arm-requires-in-97-clause-coded : goal.arm-requires-in-97-clause-coded
 arm-requires-in-97-clause-coded g c = coded _ _ 97 10 1 1 3 c.requires.class c.in-97.is (omega arith) refl (omega arith) (omega arith) (omega arith) (omega arith)
 
 pub arm-requires-in-98-clause-coded : goal.arm-requires-in-98-clause-coded
-arm-requires-in-98-clause-coded g c = coded _ _ 98 10 6 1 4 c.requires.class c.in-98.is (omega arith) refl (omega arith) (omega arith) (omega arith) (omega arith)
+arm-requires-in-98-clause-coded g c = coded _ _ 98 7 1 0 0 c.requires.class c.in-98.is (omega arith) refl (omega arith) (omega arith) (omega arith) (omega arith)
 
 pub arm-requires-in-99-clause-coded : goal.arm-requires-in-99-clause-coded
-arm-requires-in-99-clause-coded g c = coded _ _ 99 10 6 1 6 c.requires.class c.in-99.is (omega arith) refl (omega arith) (omega arith) (omega arith) (omega arith)
+arm-requires-in-99-clause-coded g c = coded _ _ 99 7 1 0 2 c.requires.class c.in-99.is (omega arith) refl (omega arith) (omega arith) (omega arith) (omega arith)
 
 pub arm-requires-in-100-clause-coded : goal.arm-requires-in-100-clause-coded
-arm-requires-in-100-clause-coded g c = coded _ _ 100 10 6 1 7 c.requires.class c.in-100.is (omega arith) refl (omega arith) (omega arith) (omega arith) (omega arith)
+arm-requires-in-100-clause-coded g c = coded _ _ 100 7 1 0 7 c.requires.class c.in-100.is (omega arith) refl (omega arith) (omega arith) (omega arith) (omega arith)
 
 pub arm-requires-in-101-clause-coded : goal.arm-requires-in-101-clause-coded
 arm-requires-in-101-clause-coded g c = coded _ _ 101 8 4 1 2 c.requires.class c.in-101.is (omega arith) refl (omega arith) (omega arith) (omega arith) (omega arith)
@@ -157,7 +157,7 @@ pub arm-requires-in-114-clause-coded : goal.arm-requires-in-114-clause-coded
 arm-requires-in-114-clause-coded g c = coded _ _ 114 14 1 2 4 c.requires.class c.in-114.is (omega arith) refl (omega arith) (omega arith) (omega arith) (omega arith)
 
 pub arm-requires-in-115-clause-coded : goal.arm-requires-in-115-clause-coded
-arm-requires-in-115-clause-coded g c = coded _ _ 115 14 5 1 5 c.requires.class c.in-115.is (omega arith) refl (omega arith) (omega arith) (omega arith) (omega arith)
+arm-requires-in-115-clause-coded g c = coded _ _ 115 7 1 0 6 c.requires.class c.in-115.is (omega arith) refl (omega arith) (omega arith) (omega arith) (omega arith)
 
 pub arm-requires-in-116-clause-coded : goal.arm-requires-in-116-clause-coded
 arm-requires-in-116-clause-coded g c = coded _ _ 116 2 0 0 1 c.requires.class c.in-116.is (omega arith) refl (omega arith) (omega arith) (omega arith) (omega arith)
