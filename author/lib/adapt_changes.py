@@ -73,7 +73,6 @@ class Finder:
             change.readings.add(reading)
 
     def word(self, index, root):
-        """Returns what stands at a root."""
         return self.lines[index].text[slice(*root)]
 
     def take_out(self, where, note, reading):
@@ -149,8 +148,7 @@ class Finder:
                      "what is after ROF is a comment now", DROPPED)
 
     def begins_value(self, text):
-        """Forgets the numbers of labels and of CURLINE that were read before a count or an
-        assertion."""
+        """Forgets the numbers that were read before a count or an assertion."""
         self.numbers = []
 
     def number(self, text, source, root, what, value):
@@ -184,7 +182,6 @@ class Finder:
                          text.reading)
 
     def block(self, text, block):
-        """Keeps a block that is copied."""
         if text.inside:
             return
         head = self.head_of(text, block)
@@ -267,8 +264,7 @@ class Finder:
     # Names.
 
     def repeated_label(self, text, source, root):
-        """Makes a comment of a line with a label that is there already, or takes it out if it is
-        the copy of a line."""
+        """Makes a comment of a line with a known label, or takes out that of a copied line."""
         line = self.lines[text.index]
         is_copy = any(other.number() == line.number() for other in self.lines[:text.index])
         note = f"{self.word(text.index, root)} is a label already, so pMARS leaves this out"
@@ -278,7 +274,6 @@ class Finder:
             self.comment_from((text.index, root[0]), note, text.reading)
 
     def text_of(self, known):
-        """Returns what an EQU name stands for."""
         parts = [self.lines[line.index][line.column:line.column + len(line.text)].strip()
                  for line in known.lines]
         return joined(parts, "\n        ")
@@ -325,7 +320,6 @@ class Finder:
                     f"the name {last.name} is on the line of its EQU now")
 
     def own_equ(self, text, known, label):
-        """Gives one of the names of an EQU a line of its own."""
         note = f"{label.name} has an EQU of its own"
         self.take_out((label.index, *label.root), note, label.reading)
         if len(known.lines) == 1:
@@ -357,8 +351,7 @@ class Finder:
     # While instructions are made.
 
     def expression(self, where, chars, node, registers, others=frozenset()):
-        """Writes an expression otherwise if `cwtune` would give it another value. `others` are the
-        roots of what is beside it."""
+        """Writes an expression otherwise if it has to be. `others` are the roots beside it."""
         index, reading = where
         extents = extents_of(chars)
         if not is_other_here(chars.text, node, extents):
@@ -374,7 +367,6 @@ class Finder:
                  f"{self.word(index, (start, end)).strip()} is written as {text}", reading)
 
     def write_out_root(self, index, reading, root):
-        """Writes out the EQU that stands at a root."""
         name = self.word(index, root)
         for known in self.equs:
             if (index, *root) in self.uses[known]:
@@ -404,7 +396,6 @@ class Finder:
         self.expression((code.index, code.reading), operand.chars, node, registers, others)
 
     def lone_operand(self, instruction):
-        """Writes the A-operand of a DAT with one operand."""
         code, start = instruction.code, min(instruction.a.roots())
         if start in instruction.head_roots:
             self.write_out_root(code.index, code.reading, start)

@@ -64,8 +64,7 @@ class Curline:
             if token.kind == "name"))
 
     def written(self, where, value):
-        """Returns the text of CURLINE, whose value is given, as a `Traced`. `where` is its line and
-        its columns there."""
+        """Returns the `Traced` text of CURLINE. `where` is its line and its columns there."""
         rest = value - sum(block.copies * block.size for block in self.blocks)
         terms = [f"{block.size}*(" + block.count + ")" for block in self.blocks]
         new = "(" + joined([Traced.new(str(rest)), *terms], "+") + ")" if terms else None

@@ -45,8 +45,7 @@ def open_streams():
 
 
 def encoded(error):
-    """Encodes the first character that a stream cannot: a byte of a name as it is, and another one
-    as a backslash and its number."""
+    """Encodes a byte of a name as it is, and another character as a backslash and its number."""
     first = UnicodeEncodeError(error.encoding, error.object, error.start, error.start + 1,
                                error.reason)
     try:
@@ -139,7 +138,6 @@ def say(word, message, status):
 
 
 def note(text):
-    """Writes a note on standard error."""
     say("note", text, 0)
 
 

@@ -41,7 +41,6 @@ class Grid:
                             "from 0")
 
     def read(self, path):
-        """Returns the text of the template."""
         return pathlib.Path(path).read_bytes()
 
     def count(self):
@@ -88,8 +87,7 @@ def is_range_line(line):
 
 
 def read_range(path, number, line):
-    """Returns the name of a constant, its range, and its value in START. `number` is that of the
-    line, for the fault."""
+    """Returns name, range and START of a constant. The fault has the `number` of the line."""
     words = re.split(rb"[ \t\r]+", line[6:].strip(BLANKS))
     if (len(words) == 5 and re.fullmatch(NAME.encode(), words[0])
             and all(re.fullmatch(rb"-?[0-9]{1,5}", word) for word in words[1:])):

@@ -13,7 +13,7 @@ them.
 
 Example: cwtune-holdout my.red my.cert
 """
-import math, pathlib, random
+import functools, math, pathlib, random
 from typing import NamedTuple
 
 from . import cert_inputs, tuning_files
@@ -63,50 +63,15 @@ class FreshPoints(NamedTuple):
 
     def __str__(self):
         """Returns the points and their percentage, or the percentage alone if weights differ."""
-        percentage = f"{self.mean():.1f}% +- {self.error():.1f}"
+        numbers = self.numbers()
+        percentage = f"{numbers['percent']:.1f}% +- {numbers['error']:.1f}"
         if len(set(self.opponent_weights)) != 1:
             return percentage
-        fights = sum(map(len, self.by_opponent))
-        return f"{sum(map(sum, self.by_opponent))} of {3 * fights} ({percentage})"
-
-
-class FreshFights:
-    """The fresh fights that this command plays, at the same positions for each warrior."""
-
-    def __init__(self, args, opponent_weights):
-        self.args, self.opponent_weights = args, opponent_weights
-
-    def schedule(self):
-        """Returns the text of their schedule."""
-        args, dice = self.args, random.Random(self.args.seed)
-        low, high = args.distance, args.core - args.distance
-        return tuning_files.schedule_text(
-            tuning_files.Fight(opponent, dice.randint(low, high), "co"[index % 2])
-            for opponent in range(len(args.opponents)) for index in range(args.rounds))
-
-    def play(self, *asm_words):
-        """Returns what a warrior makes in them. `asm_words` are the words of `cwtune asm` for it.
-
-        The warrior plays as the only setting of a template.
-        """
-        args, rules = self.args, rules_of(self.args).words()
-        load_file = output_of(args.program, "asm", *EXPLAIN, *rules, *asm_words)
-        with temporary_folder() as folder:
-            files = [pathlib.Path(folder, name) for name in ("t.red", "s.csv", "cert")]
-            template, schedule, cert = files
-            template.write_bytes(b";@tune ONE 0 0 1 0\n" + load_file)
-            schedule.write_text(self.schedule())
-            output_of(args.program, "tune", *EXPLAIN, *rules, "--", *files,
-                      *args.opponents)
-            points = tuning_files.Certificate(cert).points(0)
-        rounds = args.rounds
-        return FreshPoints([[points[opponent * rounds + index] for index in range(rounds)]
-                            for opponent in range(len(args.opponents))], self.opponent_weights)
+        return f"{numbers['points']} of {3 * numbers['fights']} ({percentage})"
 
 
 def weights_by_opponent(schedule, opponents):
-    """Returns for each of `opponents` opponents the sum of its fights' weights in a schedule, or 1
-    without one."""
+    """Returns the sum of the weights of each opponent's fights in a schedule, 1 without one."""
     if not schedule:
         return [1] * opponents
     fights = tuning_files.read_schedule(schedule)
@@ -132,8 +97,7 @@ def gain_of(points, weights):
 
 
 def gain_numbers(difference):
-    """Returns a gain in percentage points with its error, and what it is in words: a gain or a loss
-    is more than two standard errors."""
+    """Returns a gain in percent, its error, and its words: above two standard errors it is one."""
     percent, error = difference.mean(), difference.error()
     words = ("no difference that these fights show" if abs(percent) <= 2 * error
              else "a gain" if percent > 0 else "a loss")
@@ -141,7 +105,6 @@ def gain_numbers(difference):
 
 
 def gain_text(gain):
-    """Returns the text of a gain, given its numbers."""
     return f"{gain['percent']:+.1f}% +- {gain['error']:.1f}, {gain['words']}"
 
 
@@ -153,17 +116,31 @@ class Holdout:
         self.cert = tuning_files.Certificate(args.cert)
         self.template = tuning_files.Template(args.template).checked_for(self.cert)
         self.fights = self.cert.fights(args.schedule)
-        weights = weights_by_opponent(args.schedule, len(args.opponents))
-        self.fresh_fights = FreshFights(args, weights)
+        self.weights = weights_by_opponent(args.schedule, len(args.opponents))
         self.ranking = self.cert.ranked(self.fights)
-        self.points = {}
 
+    def play(self, *asm_words):
+        """Returns what a warrior makes in the fresh fights, which it plays as the only setting of a
+        template. `asm_words` are the words of `cwtune asm` for it."""
+        args, rules, rounds = self.args, rules_of(self.args).words(), self.args.rounds
+        load_file = output_of(args.program, "asm", *EXPLAIN, *rules, *asm_words)
+        dice, low, high = random.Random(args.seed), args.distance, args.core - args.distance
+        fights = [tuning_files.Fight(opponent, dice.randint(low, high), "co"[index % 2])
+                  for opponent in range(len(args.opponents)) for index in range(rounds)]
+        with temporary_folder() as folder:
+            files = [pathlib.Path(folder, name) for name in ("t.red", "s.csv", "cert")]
+            template, schedule, cert = files
+            template.write_bytes(b";@tune ONE 0 0 1 0\n" + load_file)
+            schedule.write_text(tuning_files.schedule_text(fights))
+            output_of(args.program, "tune", *EXPLAIN, *rules, "--", *files, *args.opponents)
+            points = tuning_files.Certificate(cert).points(0)
+        return FreshPoints([[points[index] for index in range(first, first + rounds)]
+                            for first in range(0, len(fights), rounds)], self.weights)
+
+    @functools.cache
     def fresh_points(self, setting):
         """Returns what a setting makes in the fresh fights, which it plays once."""
-        if setting not in self.points:
-            self.points[setting] = self.fresh_fights.play(f"--setting={setting}", "--",
-                                                          self.args.template)
-        return self.points[setting]
+        return self.play(f"--setting={setting}", "--", self.args.template)
 
     def player(self, setting, rank=None):
         """Returns the numbers of a setting: in the tuning, its total None if it was dropped, and in
@@ -182,22 +159,19 @@ class Holdout:
               f"{self.template.constants(player['setting'])}", flush=True)
 
     def first(self):
-        """Yields the numbers of the first of the ranking."""
         for rank, (_, setting) in enumerate(self.ranking.full[:self.args.top], 1):
             yield self.player(setting, rank)
 
     def print_first(self):
-        """Prints what the first of the ranking make."""
         for player in self.first():
             shown_rank = f", rank {player['rank']}" if player["rank"] else ""
             self.print_setting(f"setting {player['setting']}{shown_rank}", player)
 
     def other(self):
-        """Returns with whom the best setting is compared: its name, and its fresh points, None if
-        there is nothing to compare."""
+        """Returns the name of whom the best is compared with, and its fresh points or None."""
         args, start = self.args, self.template.start
         if args.against:
-            return escaped(args.against), self.fresh_fights.play("--", args.against)
+            return escaped(args.against), self.play("--", args.against)
         is_other = self.cert.assembles(start) and start != self.cert.best
         return "START", self.fresh_points(start) if is_other else None
 

@@ -112,8 +112,7 @@ def draw_line(plot, totals):
 
 
 def label_values(axes, template, constant):
-    """Labels the axis from left to right: a constant that is an index of a list has what is in the
-    list there."""
+    """Labels the axis from left to right, of an index of a list with what is in the list."""
     name, values = template.names[constant], template.ranges[constant]
     axes.set_xlabel(name)
     if name in template.lists:
@@ -121,8 +120,7 @@ def label_values(axes, template, constant):
 
 
 def maps_of(totals, x, y, others):
-    """Returns the totals and the caps as arrays: for each choice of the constants `others` a map
-    over the constants y and x."""
+    """Returns totals and caps as arrays: maps over y and x, for each choice of the `others`."""
     import numpy
     sizes = [len(values) for values in totals.template.ranges]
     arrays = (numpy.array(heights).reshape(sizes).transpose([*others, y, x])
@@ -131,7 +129,6 @@ def maps_of(totals, x, y, others):
 
 
 def label_ticks(set_ticks, values, most):
-    """Labels an axis with at most `most` of its values."""
     indices = range(0, len(values), -(-len(values) // most))
     set_ticks(list(indices), [str(values[index]) for index in indices])
 
@@ -255,7 +252,6 @@ def make_parser():
 
 
 def save(figure, title, path):
-    """Writes a picture under its title."""
     figure.suptitle(title, fontsize=11)
     kind = path[-3:]
     date = {"Date": None} if kind == "svg" else None

@@ -67,7 +67,6 @@ def malformed(word):
 
 
 def numbers_from(word, text):
-    """Returns the range or the list of numbers of a word."""
     match = NUMBERS.fullmatch(text)
     numbers = [int(number or 1) for number in (match.groups() if match else text.split(","))
                if match or LIST.fullmatch(text)]
@@ -91,8 +90,7 @@ def once(texts):
 
 
 def constant_of(spot, opening, text):
-    """Returns the constant for a place, and a note if it has other values than were asked for, or
-    an empty text. `text` is the warrior's."""
+    """Returns the constant for a place, and a note if its values are not those asked for, or ''."""
     if spot.kind != "number":
         return constant_of_list(spot, spot.name, list(opening.values), text)
     start, values = int(spot.spelled()), opening.values
@@ -113,8 +111,7 @@ def constant_of(spot, opening, text):
 
 
 def constant_of_list(spot, name, texts, text):
-    """Returns the constant for a place with a list of values, and a note if the text's own value
-    is not in it, or an empty text."""
+    """Returns the constant for a place with a list, and a note as `constant_of` does."""
     spelled, note = spot.spelled(), tried_too(spot, Opening("", "", texts))
     own = own_value(spot)
     if note:
@@ -144,8 +141,7 @@ def tried_too(spot, opening):
 
 
 def number_name(spot, text):
-    """Returns the name of the constant that is the number at a place: the name of an EQU line that
-    is no more than a number, else a free one."""
+    """Returns the name of an EQU line that is no more than a number, else a free one."""
     return spot.name if spot.field == "equ" and "." not in spot.name else free_name(spot.name, text)
 
 
@@ -164,8 +160,7 @@ def place_named(name, place):
 
 
 def free_name(place, text):
-    """Returns a name for the constant of a place, which is no name of the text. The line of an
-    earlier tuning does not count."""
+    """Returns a constant's name that the text has not, but for the line of an earlier tuning."""
     name = name_of(place)
     lines = [line for line in text.split("\n") if not line.startswith(STRATEGY)]
     taken = set(re.findall(NAME, "\n".join(lines)))

@@ -14,7 +14,7 @@ import contextlib, dataclasses, errno, fcntl, json, os, pathlib, re, stat
 from .endings import Fault
 from .regular import digest_of, kind_of, read_regular, sha256_of
 from .schema import Malformed, from_json
-from .writing import naming, open_new, replacing
+from .writing import naming, replacing
 
 # More than any file of JSON that a command makes has.
 MOST_BYTES = 1 << 26
@@ -105,7 +105,6 @@ class OwnFolder:
             yield room, rf"({names})(\.\d+\.new)?{more}"
 
     def maker(self):
-        """Returns the command with the version of its folders."""
         return f"{self.COMMAND} {self.VERSION}"
 
     @contextlib.contextmanager
@@ -164,10 +163,6 @@ class OwnFolder:
               replacing(room.descriptor, file_name, mode) as file):
             yield file
 
-    def create(self, name):
-        """Opens a file that is not there yet."""
-        return open_new(self.top.descriptor, name, "wb")
-
     def open_to_append(self, name):
         """Opens a file of the folder, or makes it, to read it and to write at its end. Refuses one
         that has a name elsewhere, too, as it would change there."""
@@ -181,7 +176,6 @@ class OwnFolder:
         return file
 
     def write(self, name, text):
-        """Writes a file of the folder, whole."""
         with self.whole_file(name, "wb") as file:
             file.write(text)
 
@@ -204,8 +198,7 @@ class OwnFolder:
                     room.refuse_strange(pattern)
 
     def remove_all(self):
-        """Removes the rooms and all files of the command but the mark. The mark has to say so
-        before, since a kill may come in between."""
+        """Removes all but the mark, which has to say so before, since a kill may come."""
         for name, pattern in self.patterns():
             with self.room(name) as room:
                 if room:
@@ -215,8 +208,7 @@ class OwnFolder:
                     os.rmdir(name, dir_fd=self.top.descriptor)
 
     def refuse_other_inputs(self, recorded, inputs, complaint):
-        """Refuses a folder if what it recorded of its inputs differs from `inputs`. `complaint` is
-        the text that says so."""
+        """Refuses, with `complaint`, a folder that recorded other inputs than these."""
         others = [f"{kind} was {recorded.get(kind)}" if kind.startswith("--") else kind
                   for kind, value in inputs.items() if recorded.get(kind) != value]
         if others:

@@ -121,7 +121,6 @@ class Spot(NamedTuple):
 
 
 def kind_of(field):
-    """Returns what kind of thing a field has."""
     return "number" if field in ("a", "b", "equ") else field.rpartition("-")[2]
 
 
@@ -135,8 +134,7 @@ def place_of(adapted, row, start, end):
 
 
 def assembled_lines(text):
-    """Returns the numbers and the texts of the lines that are assembled: from `;redcode`, if there
-    is such a line, to END."""
+    """Returns numbers and texts of the lines from `;redcode`, if there is one, to END."""
     lines = list(enumerate(text.split("\n"), 1))
     heads = [number for number, line in lines if line[:8].lower() == ";redcode"]
     lines = lines[heads[0] if heads else 0:]
@@ -193,8 +191,7 @@ def hide_fields(lines):
 
 
 def mode_in_equ(line, field, equs):
-    """Returns that the mode of an operand is in the EQU line of its first name, or an empty text.
-    `equs` has the EQU lines by their names."""
+    """Returns that an operand's mode is in an EQU line, or ''. `equs` has these by their names."""
     if kind_of(field) != "mode" or line.spelled(line.fields[field]):
         return ""
     text, equ = line.spelled(line.fields[field[0]]), None
@@ -291,7 +288,6 @@ def title_of(line, field):
 
 
 def line_of(path, lines, name, field):
-    """Returns the line that a name or a number means."""
     if name.isdecimal():
         found = [line for line in lines if line.number == int(name) and line.fields]
         if not found:

@@ -118,7 +118,6 @@ class Instruction:
         return state
 
     def add(self, state, text, roots):
-        """Adds to the expression of an operand."""
         chars = (self.a if state == "A rest" else self.b).chars
         chars.extend(text, roots)
         self.has_value = True
@@ -159,8 +158,6 @@ class Instruction:
 
 
 class Load:
-    """The load file of a text."""
-
     def __init__(self, text):
         self.text, self.start, self.lines = text, 0, []
         if not text.address:
@@ -183,7 +180,6 @@ class Load:
             self.start = 0
 
     def set_start(self, instruction):
-        """Reads the value of ORG or END."""
         value = instruction.value(instruction.b)
         if instruction.opcode == "ORG":
             self.start = value % self.text.rules.core

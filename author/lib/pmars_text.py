@@ -143,7 +143,6 @@ class PmarsText:
         self.goes_on, self.index, self.inside, self.warnings = True, 0, None, set()
 
     def expand(self):
-        """Reads all lines."""
         while self.at < len(self.lines) and self.goes_on:
             made = Chars()
             state = self.read_line(made)
@@ -211,7 +210,6 @@ class PmarsText:
         return token.end, state
 
     def read_assertion(self, source, token, made):
-        """Reads an assertion, and refuses one that is false."""
         word = token_at(source.text, token.end)
         if word.text.upper() != "ASSERT":
             return
@@ -230,7 +228,6 @@ class PmarsText:
         self.finder.assertion(self, chars, node, before)
 
     def name_step(self, source, token, made, state):
-        """Reads a word."""
         word = token.text.upper()
         if self.dropping:
             return self.dropped_step(token, word)
@@ -248,7 +245,6 @@ class PmarsText:
         return (self.read_block if word == "FOR" else self.read_equ)(source, token.end, made)
 
     def dropped_step(self, token, word):
-        """Reads a word of a block that is dropped."""
         if word in ("FOR", "ROF"):
             self.dropping += 1 if word == "FOR" else -1
             return State.WRONG
@@ -335,7 +331,6 @@ class PmarsText:
         return name, at, counters
 
     def number_step(self, source, at, made, what):
-        """Puts in the number of a counter, or of a label."""
         state, known, root = what
         if known.kind == "counter":
             text = f"{known.value:02}"
@@ -348,7 +343,6 @@ class PmarsText:
         return at, state
 
     def read_equ_use(self, source, at, made, what):
-        """Reads what an EQU name stands for."""
         state, known, root = what
         if known.is_open:
             raise PmarsFault(self.index, "an EQU that names itself")
@@ -393,7 +387,6 @@ class PmarsText:
         return State.VALUE
 
     def read_block(self, source, at, made):
-        """Reads the head of a block, and its copies."""
         labels, counter = self.take_labels(), None
         if labels:
             *labels, counter = labels
@@ -455,13 +448,11 @@ def given_names(rules):
 
 
 def blank_at(text, at):
-    """Returns a blank if there is one at a column."""
     return " " if text[at:at + 1] and text[at:at + 1] in BLANKS else ""
 
 
 def lines_of(texts):
-    """Returns the lines that pMARS keeps of those of a text: from its `;redcode` line to a second
-    one, without empty lines and comments."""
+    """Returns what pMARS keeps of the lines, from a `;redcode` to the next, but empty ones."""
     kept = []
     heads = [index for index, text in enumerate(texts) if is_head(text)]
     first = heads[0] + 1 if heads else 0

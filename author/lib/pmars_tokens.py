@@ -33,7 +33,6 @@ class Token(NamedTuple):
 
 
 def token_at(text, start):
-    """Returns the first token of a text from `start` on."""
     match = TOKEN.match(text, start)
     if not match:
         return Token("", "", len(text), len(text))
@@ -53,5 +52,4 @@ def comment_sign(text):
 
 
 def code_of(text):
-    """Returns a line without its comment."""
     return text.partition(";")[0]

@@ -92,7 +92,6 @@ class Race:
         self.survivors, self.model = [], None
 
     def run(self):
-        """Runs the race to its end. Returns the outcome."""
         self.start.add(self.arena.rates([self.start], self.arena.trial_blocks())[0])
         self.start.guess = self.start.rate()
         self.arena.tell_estimate(f"a race of {self.grid.count()} settings")
@@ -167,8 +166,7 @@ class Race:
         return bool(new)
 
     def race(self, new, limit):
-        """Races those that played the first heat of a round against the survivors of the round
-        before. Sets the survivors of this one."""
+        """Races the new ones of a round against the survivors of the last. Sets the survivors."""
         runners, length = self.best([*new, *self.survivors]), FIRST_HEAT
         while length < LONGEST_HEAT or len(runners) > SURVIVORS + 1:
             length = min(2 * length, LONGEST_HEAT)
@@ -185,7 +183,6 @@ class Race:
         return self.with_start(ranked[:count])
 
     def with_start(self, contenders):
-        """Returns contenders, and START if it assembles."""
         has_start = any(one.values == self.start.values for one in contenders)
         return contenders + [self.start] * (self.start.assembles and not has_start)
 

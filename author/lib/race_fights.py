@@ -4,7 +4,7 @@ Each process plays one setting, as the only one of a template, in some blocks; -
 side by side. What was played is a list of records, which a study keeps in a file. A race that is
 begun again with these takes the points from them, up to where it was stopped.
 """
-import argparse, concurrent.futures, operator, os, pathlib, random, resource, shutil
+import argparse, concurrent.futures, itertools, operator, os, pathlib, random, resource, shutil
 import subprocess, time
 from typing import NamedTuple
 
@@ -29,17 +29,12 @@ END_PART, END_SECONDS = 0.01, 0.4
 WITH_PARENT = ["setpriv", "--pdeathsig", "KILL", "--"] if shutil.which("setpriv") else []
 
 
-def processor_seconds():
-    """Returns the seconds of this process and of its children that have ended."""
-    return sum(sum(resource.getrusage(who)[:2])
-               for who in (resource.RUSAGE_SELF, resource.RUSAGE_CHILDREN))
-
-
 def clock():
     """Returns the seconds that --minutes counts. Measurements set CWTUNE_CLOCK=processor, since the
     time on a wall says little on a busy machine."""
     if os.environ.get("CWTUNE_CLOCK") == "processor":
-        return processor_seconds()
+        return sum(sum(resource.getrusage(who)[:2])
+                   for who in (resource.RUSAGE_SELF, resource.RUSAGE_CHILDREN))
     return time.monotonic()
 
 
@@ -67,7 +62,6 @@ class Positions:
         self.shift = dice.randrange(2)
 
     def fight(self, opponent, block):
-        """Returns the fight of a block, which is given by its number."""
         cycle, index = divmod(block, len(self.positions))
         return Fight(opponent, self.positions[index], "co"[(index + cycle + self.shift) % 2])
 
@@ -84,8 +78,7 @@ class Arena:
     def __init__(self, args, budget, grid, opponents, weights, records, folder, work=None):
         self.args, self.budget, self.grid, self.records = args, budget, grid, records
         self.rules = rules_of(args)
-        self.opponents, self.weights = zip(*((path, weight) for path, weight
-                                             in zip(opponents, weights) if weight))
+        self.opponents, self.weights = opponents, weights
         self.folder, dice = pathlib.Path(folder), random.Random(args.seed)
         self.work = work or self.folder
         self.positions = [Positions(self.rules, dice) for _ in self.opponents]
@@ -112,7 +105,6 @@ class Arena:
         return clock() - self.began_at
 
     def used(self):
-        """Returns which part of the budget is used."""
         return self.budget.used(self.fights, self.seconds)
 
     def has_room(self, plays, limit):
@@ -126,7 +118,6 @@ class Arena:
         return max(0, left / len(self.opponents))
 
     def charge(self, fights, seconds):
-        """Takes fights and seconds from the budget."""
         self.fights += fights
         self.seconds += seconds
         self.began_at = clock() - self.seconds
@@ -144,8 +135,7 @@ class Arena:
                       for opponent, positions in enumerate(self.positions)) for number in numbers]
 
     def trial_blocks(self):
-        """Returns the first blocks, of START alone, which show how long the race takes. They take
-        two seconds at most, but in very slow fights."""
+        """Returns the first blocks, which START plays alone. They take about two seconds."""
         return self.new_blocks(max(1, min(TRIAL_BLOCKS, TRIAL_FIGHTS // len(self.opponents))))
 
     def rates(self, contenders, blocks):
@@ -179,18 +169,19 @@ class Arena:
 
     def run(self, settings, blocks):
         """Plays settings in blocks, several processes side by side."""
-        pieces = range(0, len(blocks), BLOCKS_OF_PROCESS)
-        for piece in pieces:
+        firsts = range(0, len(blocks), BLOCKS_OF_PROCESS)
+        for piece in firsts:
             fights = (fight for block in blocks[piece:piece + BLOCKS_OF_PROCESS] for fight in block)
             (self.folder / f"{piece}.csv").write_text(schedule_text(fights))
         futures = []
         for number, values in enumerate(settings):
             (self.folder / f"{number}.red").write_bytes(self.grid.line_through(values, ()))
             futures.append([self.threads.submit(self.run_process, number, piece)
-                            for piece in pieces])
+                            for piece in firsts])
         points = []
         for of_setting in futures:
-            points.append(joined([future.result() for future in of_setting]))
+            pieces = [future.result() for future in of_setting]
+            points.append(None if None in pieces else list(itertools.chain(*pieces)))
             self.tell_progress()
         self.plays_of_jobs += len(settings) * len(blocks)
         return points
@@ -233,13 +224,7 @@ class Arena:
              f"{counted(self.args.jobs, 'processor')}")
 
     def tell_progress(self):
-        """Prints how far the race is, if some seconds have passed since the last line."""
         self.pace.tell(f"{100 * self.used():.0f}%: {self.news}, {self.fights} fights")
-
-
-def joined(pieces):
-    """Returns the points of the pieces of a heat, one after the other."""
-    return None if None in pieces else [block for piece in pieces for block in piece]
 
 
 def duration(seconds):
@@ -272,7 +257,6 @@ def hosts_file(word):
 
 
 def minutes(word):
-    """Reads a number of minutes for argparse."""
     try:
         number = float(word)
     except ValueError:
@@ -283,7 +267,6 @@ def minutes(word):
 
 
 def budget_of(args):
-    """Returns the budget of the words of a command, which has a default."""
     if not (args.fights or args.minutes):
         args.fights = DEFAULT_FIGHTS
     return Budget(args.fights, args.minutes and 60 * args.minutes)

@@ -37,7 +37,6 @@ class Journal(list):
         return Fault(f"{self.shown}: line {len(self) + 1}: {what}", 2)
 
     def read(self, line):
-        """Returns the record of the next line. Refuses one that is none."""
         try:
             record = from_json(Record, line)
             if len(record["settings"]) == len(record["points"]):

@@ -11,8 +11,8 @@ from . import cert_inputs, tuning_files
 from .endings import Fault, note
 from .program import assemble, rules_of
 from .watching import watched
-from .words import (add_files, add_json, add_cwtune, command_parser, counted,
-                    number_from, print_json)
+from .words import (add_files, add_json, add_cwtune, command_parser, counted, number_from,
+                    print_json)
 
 # With more settings than this none is assembled, to save time.
 MOST_ASSEMBLED = 2000
@@ -29,7 +29,6 @@ def scores_of(setting, cert, fights, template):
 
 
 def score_of(opponent, points, fights):
-    """Returns what a setting made against an opponent, by the points of its fights."""
     scheduled = [(index, fight.weight) for index, fight in enumerate(fights)
                  if fight.opponent == opponent]
     played = [(points[index], weight) for index, weight in scheduled if index in points]
@@ -50,14 +49,6 @@ def print_scores(title, scores):
         left = f", {one['not_played']} not played" if one["not_played"] else ""
         print(f"    opponent {one['opponent']}: {one['wins']} wins {one['ties']} ties "
               f"{one['losses']} losses, {one['score']} of {one['greatest']}{left}")
-
-
-def print_start(start, best, template):
-    """Prints what START made, and how much less than the best."""
-    total = start["total"]
-    shown = "" if total is None else f", total {total}, {best['total'] - total} less than the best"
-    print_scores(f"START, setting {start['setting']}{shown} "
-                 f"{template.constants(start['setting'])}", start)
 
 
 def print_first(numbers, template, wanted):
@@ -116,8 +107,7 @@ def idle_text(constant):
 
 
 def constants_of(template, warriors):
-    """Returns for each constant how many choices of the others there are, and in how many all its
-    values make the same warrior."""
+    """Returns for each constant in how many choices of the others it changes nothing."""
     count, block, constants = len(template.values_of_settings), 1, []
     for name, values in reversed(list(zip(template.names, template.ranges))):
         step, block = block, block * len(values)
@@ -149,7 +139,11 @@ def print_numbers(numbers, template, wanted):
     print_scores(f"best setting {best['setting']}, total {best['total']} of {numbers['greatest']}"
                  f"{constants}", best)
     if template:
-        print_start(numbers["start"], best, template)
+        start, total = numbers["start"], numbers["start"]["total"]
+        less = "" if total is None else (
+            f", total {total}, {best['total'] - total} less than the best")
+        print_scores(f"START, setting {start['setting']}{less} "
+                     f"{template.constants(start['setting'])}", start)
     print_first(numbers, template, wanted)
     if template:
         print("constants that change nothing: in how many choices of the others")
@@ -158,8 +152,7 @@ def print_numbers(numbers, template, wanted):
 
 
 def print_totals(cert, fights, template):
-    """Prints a line for each setting, with commas: the total of one that played all fights, the cap
-    of a dropped one."""
+    """Prints a line for each setting, with commas: its total, or its cap if it was dropped."""
     names = template.names if template else []
     print(",".join(["setting", "row", "total", *names]))
     for setting in range(cert.count):

@@ -112,13 +112,11 @@ def texts_of(slots, value_of):
 
 
 def is_range_of(line, names):
-    """Returns whether a line is the range line of one of these constants."""
     return is_range_line(line.encode("latin-1")) and line.split()[1:2] and line.split()[1] in names
 
 
 def after_code(path, lines, index, names, code):
-    """Returns the index after the lines that are assembled in place of a kept line, which comes
-    before `index`. Refuses others."""
+    """Returns the index after `code`, which a kept line before `index` has. Refuses other lines."""
     number = index
     while index < len(lines) and is_range_of(lines[index], names):
         index += 1

@@ -102,26 +102,15 @@ class Template(Grid):
             raise Fault(f"{path}: not a template, a schedule or a certificate")
         return text
 
-    def steps(self, setting):
-        """Returns for each constant the index of the setting's value, the last constant first."""
-        indices = []
-        for values in reversed(self.ranges):
-            setting, index = divmod(setting, len(values))
-            indices.append(index)
-        return indices
-
     def nearest_start(self, settings):
         """Returns which of the settings is the fewest steps from START; of several the first."""
-        start_steps = self.steps(self.start)
-
         def distance(setting):
-            pairs = zip(self.steps(setting), start_steps)
-            return sum(abs(index - start_index) for index, start_index in pairs)
+            values = zip(self.values_of_settings[setting], self.start_values, self.ranges)
+            return sum(abs(value - start) // whole.step for value, start, whole in values)
 
         return min(settings, key=distance)
 
     def with_start(self, setting):
-        """Returns the text of this template with another setting as START."""
         return self.text(self.ranges, self.values_of_settings[setting])
 
     def constants(self, setting):
@@ -129,12 +118,10 @@ class Template(Grid):
         return self.constants_of(self.values_of_settings[setting])
 
     def values_by_name(self, setting):
-        """Returns the values of a setting by the names of the constants."""
         return dict(zip(self.names, self.values_of_settings[setting]))
 
     def checked_for(self, cert):
-        """Returns this template. Refuses it if the certificate has another number of rows than it
-        has settings."""
+        """Returns this template. Refuses it if it has not a setting for each row of `cert`."""
         if len(self.values_of_settings) != cert.count:
             raise Fault(f"the certificate is of {cert.count} settings, and the template "
                         f"has {len(self.values_of_settings)}", 2)
@@ -224,7 +211,6 @@ class AnyCertificate:
         return dict(self.items(setting)) if self.assembles(setting) else None
 
     def plays_all(self, setting, fights):
-        """Returns whether a setting played all of these fights."""
         twin = self.twin(setting)
         return (self.assembles(setting)
                 and self.starts[twin + 1] - self.starts[twin] == len(fights))
@@ -295,7 +281,6 @@ class Certificate(AnyCertificate):
         return self.cap(setting, fights) if self.plays_all(setting, fights) else None
 
     def ranked(self, fights):
-        """Returns the ranking of the settings by these fights."""
         keys, dropped, first_dropped = [], 0, math.inf
         for setting in watched(range(self.count), self.count, "totals"):
             if self.assembles(setting):
@@ -352,8 +337,7 @@ def cap(listed, fights):
 
 
 def exactness_text(exact, wanted):
-    """Returns a text that says how many of the first of a ranking are exact, though settings were
-    dropped. `wanted` is how many were asked for."""
+    """Returns a text that says how many of the first `wanted` of a ranking are exact."""
     shown = "the first of the ranking is exact" if exact == 1 else (
         f"the first {exact} of the ranking are exact")
     return shown if exact >= wanted else (

@@ -73,7 +73,6 @@ class Varied:
         return "\n".join(lines).encode("latin-1")
 
     def lines_for(self, row, line, starts_alone):
-        """Returns the lines of the template for a line of the text."""
         here = sorted((opened for opened in self.opened if opened.spot.line.row == row),
                       key=lambda opened: opened.spot.span, reverse=True)
         if not here:

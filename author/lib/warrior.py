@@ -38,8 +38,7 @@ def equ_line(name, value):
 
 
 def own_lines(template, setting):
-    """Returns the author's lines of a template with the values of a setting, and the slots that
-    each had."""
+    """Returns the author's lines with the values of a setting, and the slots that each had."""
     value_of = template.values_by_name(setting)
     lines = [line.decode("latin-1") for line in template.lines]
     lines, _ = slots.author_lines(template.path, lines, value_of)
@@ -59,8 +58,7 @@ def places_of(template, setting):
 
 
 def strategy_line(template, setting, totals):
-    """Returns the line that says what the values are, and their total and that of START, each None
-    if it is not known."""
+    """Returns the line with the values, their total and START's, each None if not known."""
     (total, start_total), places = totals, places_of(template, setting)
     values = [f"{places.get(name, name)}={template.shown_value(name, value)}"
               for name, value in template.values_by_name(setting).items()]
@@ -70,7 +68,6 @@ def strategy_line(template, setting, totals):
 
 
 def text_of(template, setting, totals=(None, None)):
-    """Returns the author's text with the values of a setting."""
     return finished([line for line, _ in own_lines(template, setting)], template, setting, totals)
 
 
@@ -102,8 +99,7 @@ def with_equs(lines, value_of, end):
 
 
 def with_strategy(lines, line):
-    """Returns lines with the line of this command after the author's `;strategy` lines. That of an
-    earlier tuning is left out."""
+    """Returns lines with a line after the `;strategy` lines, without that of an earlier tuning."""
     lines = [other for other in lines if not other.startswith(STRATEGY)]
     head = max(last_that_begins(lines, ";redcode"), 0)
     places = [last_that_begins(lines[head:], word) for word in LINES_BEFORE]
@@ -112,21 +108,18 @@ def with_strategy(lines, line):
 
 
 def last_that_begins(lines, word):
-    """Returns the index of the last of the lines that begins with a word, in letters of any case;
-    of `;redcode` the first; -1 if there is none."""
+    """Returns the index of the last line that begins so, of `;redcode` the first; else -1."""
     found = [index for index, line in enumerate(lines) if line[:len(word)].lower() == word]
     return (found[0] if word == ";redcode" else found[-1]) if found else -1
 
 
 def setting_word(word):
-    """Reads the W of --setting for argparse."""
     if word != "start" and not re.fullmatch("[0-9]{1,7}", word):
         raise argparse.ArgumentTypeError(f"{word} is neither an index from 0 nor `start`")
     return word
 
 
 def setting_of(template, word):
-    """Returns the setting that the W of --setting names."""
     if word == "start":
         return template.start
     setting = int(word)
@@ -136,8 +129,7 @@ def setting_of(template, word):
 
 
 def total_of_start(cert, template, schedule):
-    """Returns the total of START, or None if it was dropped, or if the certificate has weights and
-    there is no schedule."""
+    """Returns the total of START, or None if that is not known."""
     if cert.version == 2 and schedule is None:
         return None
     return cert.total_of(template.start, cert.fights(schedule))
@@ -229,7 +221,6 @@ def print_start(args, path):
 
 
 def print_text(args, path):
-    """Prints the text of a setting of the template at a path."""
     template, totals = tuning_files.Template(path), (None, None)
     args.schedule, why_unused = None, ""
     if args.cert is None:

@@ -18,8 +18,7 @@ MEANING = {"core": "the core size", "cycles": "the most cycles of a fight",
 
 
 class Parser(argparse.ArgumentParser):
-    """A parser to which names after `--` are files, whatever they begin with, also where files and
-    options may be mixed."""
+    """A parser to which names after `--` are files, also where files and options are mixed."""
 
     # What stands before a name with a dash while argparse reads it. No word of a command has it.
     FENCE = "\0"
@@ -126,8 +125,7 @@ def add_hill(parser, default="94nop"):
 
 
 def add_cwtune(parser, of_tuning=False):
-    """Adds the program and the options of the rules. With `of_tuning` the tuning's rules are the
-    defaults."""
+    """Adds the program and the rules. With `of_tuning` the tuning's are the defaults."""
     add_program(parser)
     group = parser.add_argument_group("rules")
     add_hill(group, "the rules of the tuning, else 94nop" if of_tuning else "94nop")

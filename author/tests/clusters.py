@@ -30,7 +30,6 @@ class Clusters(SpreadTrial):
             return f"slurm-{self.slurm.submit(self.folder, array, SCRIPT, *words)}.out"
 
     def jobs(self, array, *words, **options):
-        """Runs jobs to their end. Returns what they print."""
         name = self.begin(array, *words, **options)
         wait_until(lambda: not self.slurm.queue())
         return self.read(name).decode()
@@ -73,7 +72,6 @@ class Clusters(SpreadTrial):
         self.same("-d.red", 0, self.spread("--merge=2", "./-d.red", *DECOY[1:]).status)
 
     def cancelled(self):
-        """Ends jobs by scancel."""
         self.jobs("1-2", "2", *DECOY)
         before = self.times()
         self.write_program("stuck", f"""case $2 in

@@ -31,8 +31,7 @@ class OnHosts:
         self.settle(self.top / "work")
 
     def remains(self):
-        """Returns what there should not be after a run: in temporary folders, beside CERT, and of
-        processes, which have a few seconds to end."""
+        """Returns what a run left: processes after some seconds, folders of hosts and of CERT."""
         deadline = time.monotonic() + 8
         while (running := running_in(self.top)) and time.monotonic() < deadline:
             time.sleep(0.1)
@@ -87,8 +86,7 @@ class Hosts(OnHosts, SpreadTrial):
         self.same("beside another", (tuned, NOTHING), (self.found(DECOY, came), self.remains()))
 
     def test_three(self):
-        """Tunes on three hosts of which one dies, one goes silent and one cannot run the program,
-        and on this one."""
+        """Tunes on a host that dies, one that goes silent, one without the program, and here."""
         self.tune(*DECOY)
         best = self.read("CERT").splitlines()[:2]
         self.clear()

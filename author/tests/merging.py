@@ -47,8 +47,7 @@ class Merging(SpreadTrial):
         return mock.patch.dict(os.environ, {"PATH": f"{self.folder}:{os.environ['PATH']}"})
 
     def host_jobs(self, numbers):
-        """Runs the jobs of a stub by a stand-in for GNU parallel. Returns the jobs, and the numbers
-        of those that ended, with their statuses."""
+        """Runs jobs by a stand-in for GNU parallel. Returns them, and those ended by number."""
         args, ended = argparse.Namespace(hosts=self.folder / "hosts", jobs=1), []
         jobs = HostJobs(args, FolderStub(self.folder), numbers)
         while jobs.keep_running():
@@ -77,8 +76,7 @@ class Merging(SpreadTrial):
                   (jobs.fault, ended))
 
     def merged(self, name, expected, *words):
-        """Compares what `cwtune-spread` says of parts, by default of three of the decoy, and that
-        it writes no certificate."""
+        """Compares what is said of parts, by default of three, and that no CERT is written."""
         came = self.spread(*(words or ["--merge=3", *DECOY]))
         self.same(name, (expected, None, None), (came, self.read("CERT"), self.read("CERT.whole")))
 

@@ -64,7 +64,6 @@ class Fuzz:
         return status, [line for line in out.splitlines() if line[:7] != "fights "], err
 
     def play(self, dice):
-        """Plays a case by chance."""
         name = dice.choice([".", *self.names])
         how, make = dice.choice(DAMAGES)
         outside = self.trial.texts_of("victim")
@@ -87,7 +86,6 @@ class Fuzz:
 
 
 def random_json(path, text, dice):
-    """Writes JSON with one value changed."""
     try:
         value = json.loads(text)
     except ValueError:
@@ -159,8 +157,7 @@ def in_process(module, words, folder):
 
 
 class OwnFolders(SpreadTrial, StudyTrial):
-    """Work folders of a stranger: COUNT are damaged by chance, and a study is killed at every
-    STEP-th file that it removes."""
+    """Work folders of a stranger: COUNT are damaged, and kills come at each STEP-th removal."""
 
     FILES = {**SpreadTrial.FILES, **StudyTrial.FILES, **{
         f"victim/{name}": "mine, without a line feed"
@@ -347,8 +344,7 @@ class OwnFolders(SpreadTrial, StudyTrial):
         self.same("kills met a spread that removes its folders", True, number > 15)
 
     def test_kills_of_studies(self):
-        """Kills a study that begins anew at some of the files that it removes, and repeats the
-        command."""
+        """Kills a study that begins anew at some removals, and repeats the command."""
         self.need("strace")
         words = [*FEW, "--rounds=1", "--fresh=1", *STUDY]
         self.study(*words)

@@ -138,7 +138,6 @@ def renamed(piece, names):
 
 
 def hostile():
-    """Returns a report whose words are hostile."""
     report = renamed(sample((3, 3, 2), opponents=len(HOSTILE)),
                      dict(zip(["STEP", "FIRST", "DECOY", "core"], HOSTILE)))
     report["title"] = report["winner_text"] = report["check"] = "\n".join(HOSTILE)

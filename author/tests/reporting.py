@@ -54,8 +54,7 @@ def words_of(report):
 
 
 def numbers_of(piece, left_out=()):
-    """Yields the numbers of a piece of a report as the page spells them, without commas. The values
-    of the keys `left_out` are left out."""
+    """Yields the numbers of a report as the page spells them, but those of the keys `left_out`."""
     if isinstance(piece, dict):
         for name, value in piece.items():
             yield from () if name in left_out else numbers_of(value, left_out)
@@ -105,7 +104,6 @@ def pictures(page):
 
 
 def faults_of(page, reader):
-    """Returns what is wrong with a page that was read."""
     levels, ids = reader.levels, reader.ids
     return [*reader.wrong, *pictures(page)[1],
             *(f"h{level} after h{before}" for before, level in zip(levels, levels[1:])

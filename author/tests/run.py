@@ -151,8 +151,7 @@ class Commands(Trial):
 
 
 def interrupt(job):
-    """Ends a job by Ctrl-C. One that comes just before the job reads is not seen, so that another
-    has to follow."""
+    """Ends a job by Ctrl-C, again if it came just before the job reads, which is not seen."""
     for _ in range(SECONDS // 5):
         job.send_signal(signal.SIGINT)
         with contextlib.suppress(subprocess.TimeoutExpired):
@@ -167,8 +166,7 @@ def writer_of(pipe):
 
 
 def chosen(parser, names):
-    """Returns the trials that have one of some texts in their names, or all. Refuses a text that is
-    in none."""
+    """Returns the trials with one of `names` in their names, or all. Refuses an unknown one."""
     suites = map(unittest.TestLoader().loadTestsFromModule, [sys.modules[__name__], *MODULES])
     trials = [trial for suite in suites for of_class in suite for trial in of_class]
     for name in names:

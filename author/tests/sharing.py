@@ -77,8 +77,7 @@ class Sharing(SpreadTrial):
                               *CHECK_ONLY), self.done("shares")))
 
     def test_kept_shares(self):
-        """Gives a folder of shares other inputs, a job that was stopped, and files that are
-        damaged."""
+        """Gives a folder of shares other inputs, and damaged files."""
         cert, line = self.tune_decoy()
         shares = ["--shares=16", *CHECK_ONLY]
         self.unfinished(*shares, kind="shares")

@@ -48,11 +48,9 @@ class SpreadTrial(Trial):
                            timeout=SECONDS)
 
     def spread(self, *words):
-        """Returns the result of `cwtune-spread`."""
         return self.call("cwtune-spread", *words)
 
     def check(self, words):
-        """Returns the status of a check of CERT."""
         return self.verdict(words)[0]
 
     def verdict(self, words):
@@ -61,12 +59,10 @@ class SpreadTrial(Trial):
         return end.status, end.out.decode()
 
     def found(self, words, result):
-        """Returns what a tuning found: its result without the fights, which depend on which part
-        ends when, and the status of a check of CERT."""
+        """Returns a tuning's result without the fights, and the status of a check of CERT."""
         return without_fights(result), self.check(words)
 
     def tuned(self, words=DECOY):
-        """Returns what one `cwtune tune` finds."""
         found = self.found(words, self.tune(*words))
         self.clear()
         return found
@@ -112,8 +108,7 @@ class SpreadTrial(Trial):
         return job.returncode, err.decode()
 
     def unfinished(self, *words, kind="parts"):
-        """Leaves CERT.parts or CERT.shares as a kill leaves it, with some of the pieces done, and
-        of parts no CERT."""
+        """Leaves CERT.parts or CERT.shares as a kill leaves it, with some pieces done."""
         for _ in range(10):
             for name in [f"CERT.{kind}", *["CERT"] * (kind == "parts")]:
                 removed(self.folder / name)

@@ -281,7 +281,6 @@ case $1 in tune) {self.program} "$@" | head -c -5;; *) {self.program} "$@";; esa
         return text.decode()
 
     def test_explained(self):
-        """Compares an explanation on a terminal with that of `tune`."""
         self.write("x.red", inputs.FILES["imps.red"])
         self.write("near.csv", b"opponent,position,first\n0,3,c\n")
         words = [*RULES, "x.red", "near.csv", "CERT", "dat.red"]
@@ -304,7 +303,6 @@ case $1 in tune) {self.program} "$@" | head -c -5;; *) {self.program} "$@";; esa
                   self.spread("--explain", *SMALL).err)
 
     def total_of_start(self):
-        """Returns the total of START by the certificate of the decoy."""
         cert = tuning_files.Certificate(self.folder / "CERT")
         fights = tuning_files.read_schedule(self.folder / "schedule.csv")
         return cert.total_of(94, fights)

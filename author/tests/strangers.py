@@ -224,8 +224,7 @@ class Memory(Trial):
         self.write("big.red", f";@tune A 0 {rows // 100 - 1} 1 0\n;@tune B 0 99 1 0\nDAT A, B\n")
 
     def peak(self, words, megabytes=0):
-        """Returns status and standard error of a command, and its greatest memory in bytes. With
-        `megabytes` it has no more."""
+        """Returns status, standard error and most bytes of memory, which `megabytes` may bound."""
         completed = python(MEASURE, str(megabytes << 20), *command(*words.split()), cwd=self.folder)
         status, most = completed.stdout.split()
         return int(status), completed.stderr, int(most)
@@ -278,8 +277,7 @@ class Endings(Trial):
                 completed.stderr.count("\n") == 1))
 
     def test_interrupts(self):
-        """Interrupts a command in a destructor, where Python drops the exception, and while it
-        imports its modules."""
+        """Interrupts a command in a destructor, and while it imports its modules."""
         for code in [DROPPED, EARLY]:
             completed = python(code, preexec_fn=lambda: signal.signal(signal.SIGINT, signal.SIG_DFL)
                                if code == EARLY else None)
@@ -287,8 +285,7 @@ class Endings(Trial):
                       (completed.returncode, completed.stderr))
 
     def test_old_pythons(self):
-        """Starts each command as a Python 3.10 does, and reads with the grammar of 3.6 what is read
-        before that is seen."""
+        """Starts commands as a Python 3.10 does, and parses as 3.6 what is read before that."""
         scripts = sorted(AUTHOR.glob("cwtune-*"))
         for path in [*scripts, AUTHOR / "lib/__init__.py", AUTHOR / "lib/start.py"]:
             ast.parse(path.read_text(), feature_version=(3, 6))

@@ -27,7 +27,6 @@ class StudyTrial(Trial):
              **{f"all/{name}": text for name, text in OPPONENTS.items()}}
 
     def study(self, *words):
-        """Returns the result of `cwtune-study`."""
         return self.call("cwtune-study", *FEW, *words)
 
     def begin(self, *words):
@@ -56,6 +55,5 @@ class StudyTrial(Trial):
         return list(self.mark(name)["stages"])
 
     def texts_of(self, name):
-        """Returns the texts of all files of a folder."""
         return {path: path.read_bytes() for path in (self.folder / name).rglob("*")
                 if path.is_file()}

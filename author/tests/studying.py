@@ -63,7 +63,6 @@ NANO = ["--core=80", "--length=5", "--distance=5"]
 
 
 def without_seconds(log):
-    """Returns the lines of a log without the seconds that the commands took."""
     return [line.rpartition("  # ")[0] or line for line in log.decode().splitlines()]
 
 
@@ -127,8 +126,7 @@ class Studying(StudyTrial):
                   fresh_of_ranking[winner["rank"] - 1]["points"])
 
     def tuned(self, template, study):
-        """Returns the report of `cwtune tune` by the schedule of a study: its lines by their first
-        words."""
+        """Returns the report of `cwtune tune` by a study's schedule, by the first words."""
         output = self.tune(*NANO, "--cycles=800", "--tasks=80", template, f"{study}/schedule.csv",
                            "CERT", *(f"all/{name}" for name in OPPONENTS)).out
         return dict(line.split(" ", 1) for line in output.splitlines())
@@ -285,8 +283,7 @@ class Studying(StudyTrial):
                 2, f"error: p.study/race.jsonl: line 1: {fault}\n"), self.study(*words)[::2])
 
     def test_whole(self):
-        """Kills a study of a whole template after each stage, and compares it with an unbroken
-        one."""
+        """Kills a study of a whole template after each stage, and compares the end."""
         self.study("p.red", "all")
         unbroken, log = self.read("p.study/report.json"), self.read("p.study/log.txt")
         shutil.rmtree(self.folder / "p.study")

@@ -29,8 +29,7 @@ class Result(NamedTuple):
 
 
 class Refusal(NamedTuple):
-    """A command line that has to be refused: its words, the status, and the line on standard
-    error. There is no output."""
+    """A command line to refuse: its words, the status, and its line. There is no output."""
 
     words: str
     status: int
@@ -43,12 +42,10 @@ def usage_error(words, message):
 
 
 def command(name, *words, python=sys.executable):
-    """Returns the words that run a command by this Python."""
     return [python, str(AUTHOR / name), *words]
 
 
 def run(*words, folder=TUNING, python=sys.executable):
-    """Runs a command. Returns its result."""
     completed = subprocess.run(command(*words, python=python), cwd=folder,
                                stdin=subprocess.DEVNULL, capture_output=True, encoding="utf-8",
                                errors="surrogateescape", timeout=SECONDS)
@@ -91,8 +88,7 @@ def started(words, **options):
 
 
 def wait_until(is_so, job=None, seconds=SECONDS):
-    """Waits until `is_so` returns something true, or the job has ended. Returns what it returned
-    last. Gives up after some seconds."""
+    """Waits until `is_so` returns something true, or a job has ended. Returns the last value."""
     deadline = time.monotonic() + seconds
     while not (value := is_so()) and not (job and job.poll() is not None):
         if time.monotonic() > deadline:
@@ -102,7 +98,6 @@ def wait_until(is_so, job=None, seconds=SECONDS):
 
 
 def removed(path):
-    """Removes a file, a link or a folder, if it is there."""
     if path.is_dir() and not path.is_symlink():
         shutil.rmtree(path)
     else:
@@ -158,7 +153,6 @@ class Trial(unittest.TestCase, Place):
         super().write(name, text)
 
     def write_program(self, name, script):
-        """Writes a program, of the commands of a bash script."""
         self.write(name, f"#!/bin/bash\n{script}\n")
         (self.folder / name).chmod(0o755)
 
@@ -173,12 +167,10 @@ class Trial(unittest.TestCase, Place):
         return run(*self.words(line, *words), folder=self.folder / below, **options)
 
     def started(self, line, *words, **streams):
-        """Starts a command in the folder, as a context."""
         return started(command(*self.words(line, *words)), cwd=self.folder,
                        **{"stdout": subprocess.DEVNULL, "stderr": subprocess.DEVNULL, **streams})
 
     def cwtune(self, words, **options):
-        """Runs the program. Returns its `End`."""
         return Place.run(self, words, **options)
 
     def tune(self, *words):
@@ -233,7 +225,6 @@ def broke_off(fault):
 
 
 def tried(trials):
-    """Plays trials. Yields names, and what was wrong."""
     for trial in trials:
         outcome = Outcome()
         trial.run(outcome)
@@ -241,8 +232,7 @@ def tried(trials):
 
 
 def play(program, trials):
-    """Plays trials by a program, which the commands find, and can be interrupted. Returns the exit
-    status."""
+    """Plays trials by a program, which the commands find. Returns the exit status."""
     Trial.program = program_of(program)
     # They look on the PATH, if none is built here.
     os.environ["PATH"] = f"{pathlib.Path(Trial.program).parent}:{os.environ['PATH']}"

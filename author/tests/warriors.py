@@ -42,8 +42,7 @@ class Warriors(Trial):
                                                                "stone.red"]}}
 
     def wrong_settings(self, text, count):
-        """Returns which settings of a template `text_of` makes another warrior of, and whether it
-        has another number of settings."""
+        """Returns which of `count` settings are another warrior in their text."""
         self.write("t.red", text)
         path, setting_path = self.folder / "t.red", self.folder / "setting.red"
         template, wrong = tuning_files.Template(path), []

@@ -79,8 +79,7 @@ def method_of(args):
 
 
 def count_settings(args):
-    """Returns the number of settings, which the program counts, and its notes of what is ignored in
-    the template, which this shows."""
+    """Returns the settings, which the program counts, and its notes, which this shows."""
     completed = run_program(args.program, "settings", *explain_words(args), "--", args.template)
     if completed.returncode != 0:
         end_as(args.program, completed.returncode, completed.stderr)
@@ -151,7 +150,6 @@ def run_jobs(args, folder, progress):
 
 
 def how_to_go_on(folder, progress):
-    """Returns the text that says what is done, and what to repeat."""
     return (f"{len(progress.done())} of {folder.piece_count} {folder.PIECE}s are done, and kept in "
             f"{folder.given_path}: repeat the command to run the others")
 
@@ -225,11 +223,10 @@ def finish(args, folder, progress, notes):
 
 
 def write_inputs(args):
-    """Writes CERT.inputs beside a regular file CERT, as `tune` does. If that fails, an older one is
-    removed, and nothing else changes."""
+    """Writes CERT.inputs beside a regular CERT, as `tune` does, or removes an older one."""
     if not os.path.isfile(args.cert):
         return
-    name, files = cert_inputs.inputs_path(args.cert), [args.template, args.schedule, *args.opponent]
+    name, files = f"{args.cert}.inputs", [args.template, args.schedule, *args.opponent]
     try:
         printed = run_program(args.program, "--version").stdout.decode()
         version = printed.removeprefix("cwtune ").strip()
@@ -242,8 +239,7 @@ def write_inputs(args):
 
 
 def print_start(args, whole):
-    """Prints on standard error what START made, if it played all fights and somebody asks. `whole`
-    is the certificate."""
+    """Says what START made by the certificate `whole`, if it played all and somebody asks."""
     if not explain_words(args):
         return
     cert, template = tuning_files.Certificate(whole), tuning_files.Template(args.template)

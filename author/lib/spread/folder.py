@@ -78,8 +78,7 @@ class ClusterPieces(Pieces):
         return read_regular(MOST_REPORT_BYTES, f"{self.given_path}.{number}.{kind}").decode()
 
     def fault_in(self, kind, otherwise):
-        """Returns the fault that a job wrote to a file, `otherwise` if that is empty, or where to
-        look if it is not there."""
+        """Returns the fault that a job wrote to a file, or what to say if it wrote none."""
         path = f"{self.given_path}.{kind}"
         try:
             lines = pathlib.Path(path).read_text(errors="replace").splitlines()
@@ -145,11 +144,9 @@ class SpreadFolder(Pieces, OwnFolder):
         return {"": f"{self.OWN_FILES}|{self.UNFINISHED_FILES}"}
 
     def inputs_fingerprint(self):
-        """Returns the fingerprint of the inputs as they are now."""
         return self.fingerprint(lambda copy: sha256_of(copy.source))
 
     def copies_fingerprint(self):
-        """Returns the fingerprint of the copies in the folder."""
         return self.fingerprint(lambda copy: self.sha256(copy.name))
 
     def fingerprint(self, digest_of_copy):
@@ -160,13 +157,12 @@ class SpreadFolder(Pieces, OwnFolder):
         return digests | self.input_options
 
     def fill(self, piece_count, setting_count):
-        """Makes the folder anew: copies the inputs, and then writes the mark with their
-        fingerprint, which it returns."""
-        self.write_mark(Mark(self.maker(), self.PIECE))
+        """Makes the folder anew, and returns its mark, which is written once all is there."""
+        mark = Mark(self.maker(), self.PIECE)
+        self.write_mark(mark)
         self.remove_all()
         self.put_back_copies()
-        mark = Mark(self.maker(), self.PIECE, piece_count, setting_count,
-                    self.copies_fingerprint())
+        mark.parts, mark.count, mark.of = piece_count, setting_count, self.copies_fingerprint()
         self.write_mark(mark)
         return mark
 
@@ -209,8 +205,7 @@ class SpreadFolder(Pieces, OwnFolder):
             json.dump(result, file)
 
     def read_done(self, number):
-        """Returns what was written of a piece that is done, or None, also if that was cut. Refuses
-        what is not of its form."""
+        """Returns what is written of a piece, None if it is not done or was cut."""
         try:
             return self.load(f"{number}.done", self.RESULT)
         except (FileNotFoundError, NotJson):

@@ -9,8 +9,7 @@ from ..endings import end_with_parent
 
 
 def ended(jobs, show):
-    """Runs jobs to their end. Yields number and status of each that ends, and meanwhile calls
-    `show` again and again."""
+    """Runs jobs. Yields number and status of each that ends, and calls `show` meanwhile."""
     try:
         while jobs.keep_running():
             yield from jobs.take_ended()

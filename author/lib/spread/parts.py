@@ -19,6 +19,7 @@ from ..program import NO_CANDIDATE, rules_of
 from ..regular import sha256_of
 from ..schema import Sha256
 from ..tuning_files import MOST_BYTES, Template
+from ..writing import open_new
 from .folder import JOB_FILES, ClusterPieces, SpreadFolder, copies_of
 
 # A count that `cwtune` prints, and the values of a setting.
@@ -83,8 +84,7 @@ class PartResult:
 
 
 class ClusterParts(ClusterPieces):
-    """Parts. Job I writes the certificate of its part as CERT.I, and what `tune` prints as
-    CERT.I.report and CERT.I.fault."""
+    """Parts. Job I writes CERT.I, and what `tune` prints as CERT.I.report and CERT.I.fault."""
 
     PIECE = "part"
 
@@ -102,7 +102,6 @@ class ClusterParts(ClusterPieces):
         return Part(self.settings(number), report)
 
     def fault(self, number):
-        """Returns why a part has no result."""
         return self.fault_in(f"{number}.fault",
                              f"{self.cert(number)}.report is cut, or not there")
 
@@ -111,7 +110,6 @@ class ClusterParts(ClusterPieces):
         return pathlib.Path(f"{self.given_path}.whole.{os.getpid()}.new")
 
     def writing_whole(self):
-        """Opens that file."""
         return self.whole().open("x")
 
 
@@ -165,7 +163,7 @@ class Parts(SpreadFolder):
 
     def run(self, words, output_name):
         """Runs the program in the folder, with its output in a file there. Returns its status."""
-        with self.create(output_name) as output:
+        with open_new(self.top.descriptor, output_name, "wb") as output:
             return subprocess.run(["./cwtune", *words], cwd=self.path, stdin=subprocess.DEVNULL,
                                   stdout=output, stderr=subprocess.DEVNULL,
                                   preexec_fn=end_with_parent).returncode
@@ -193,7 +191,6 @@ class Parts(SpreadFolder):
         self.write(f"{number}.{self.pid}.red", text)
 
     def words(self, number):
-        """Returns the words that tune a part in the folder."""
         name = f"{number}.{self.pid}"
         return ["./cwtune", "tune", f"--part={number}/{self.piece_count}", *self.tune_options,
                 *self.floor(number), f"{name}.red", "s.csv", f"{name}.cert", *self.opponents]

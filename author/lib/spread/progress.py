@@ -20,11 +20,9 @@ class Progress:
         self.began_at, self.settings_before = time.monotonic(), self.settings_done()
 
     def done(self):
-        """Returns what came of the pieces that are done."""
         return [result for result in self.results.values() if result]
 
     def numbers_left(self):
-        """Returns the numbers of the pieces that are not done."""
         return [number for number, result in self.results.items() if result is None]
 
     def show(self):
@@ -39,9 +37,12 @@ class Progress:
             self.last_line_at = time.monotonic()
 
     def clear(self):
-        """Clears the line at a terminal."""
         if self.shown:
             rewrite()
+
+    def settings_done(self):
+        return sum(len(self.folder.settings(number))
+                   for number, result in self.results.items() if result)
 
     def time_left(self):
         """Returns the text of the time that is left, once a piece was done in this run."""
@@ -55,11 +56,6 @@ class Progress:
 
 
 class PartsProgress(Progress):
-    """The parts of a tuning."""
-
-    def settings_done(self):
-        return sum(len(part.settings) for part in self.done())
-
     def line(self):
         parts, folder = self.done(), self.folder
         line = (f"{len(parts)} of {folder.piece_count} parts, {self.settings_done()} of "
@@ -71,12 +67,6 @@ class PartsProgress(Progress):
 
 
 class SharesProgress(Progress):
-    """The shares of a check."""
-
-    def settings_done(self):
-        return sum(len(self.folder.settings(number))
-                   for number, verdict in self.results.items() if verdict)
-
     def line(self):
         return (f"{len(self.done())} of {self.folder.piece_count} shares of the check, "
                 f"{self.settings_done()} of {self.folder.setting_count} settings"

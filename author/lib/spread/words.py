@@ -9,7 +9,6 @@ MOST_PIECES = 2 ** 32 - 1
 
 
 def add_options(parser):
-    """Adds all options and words of the command."""
     parser.add_argument("--progress", action="store_true",
                         help="print a line every 20 seconds on standard error, if it is not a "
                         "terminal")

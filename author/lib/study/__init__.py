@@ -71,7 +71,6 @@ class Study:
             ["cwtune-series", *words, str(seed), str(rounds), str(len(weights))], name, 0)
 
     def copy_inputs(self):
-        """Copies the inputs, and makes the template of a warrior."""
         folder, inputs = self.folder, self.inputs
         (folder.path / "opponents").mkdir(exist_ok=True)
         for path, (_, text) in zip(self.opponents, inputs.opponents):
@@ -105,13 +104,11 @@ class Study:
         return {"fights": int(fights), "check": lines[-1]}
 
     def first_settings(self):
-        """Returns the first settings of the ranking of the box."""
         cert = Certificate(self.folder.path / "best.cert")
         ranking = cert.ranked(read_schedule(self.folder.path / "schedule.csv"))
         return [setting for _, setting in ranking.full[:FIRST_HEAT_PLAYERS]]
 
     def go(self):
-        """Goes through all stages."""
         args, stage = self.args, self.folder.stage
         warrior = ["warrior.red"] if args.ranges else []
         stage("inputs", self.copy_inputs, "template.red", "start.red", *warrior, *self.opponents)
@@ -151,14 +148,12 @@ class Study:
         self.folder.run(words, "winner.red")
 
     def write_report(self, results):
-        """Writes report.json and report.html."""
         report = (raced_numbers if "race" in results else tuned_numbers)(self, results)
         self.folder.write("report.json", (json.dumps(report, indent=1) + "\n").encode())
         self.folder.write("report.html", html_of(report).encode(errors="replace"))
 
 
 def print_fresh(name, player, report):
-    """Prints what a player made in its fresh fights, and its values."""
     fresh, values = player["fresh"], shown_values(report, player["values"])
     constants = " ".join(f"{constant}={value}" for constant, value in values.items())
     print(f"fresh: {name}: {fresh['points']} of {3 * fresh['fights']} ({fresh['percent']:.1f}% "
@@ -166,7 +161,6 @@ def print_fresh(name, player, report):
 
 
 def print_tuned(report):
-    """Prints what the tuning of a whole template found."""
     best, winner, start = report["ranking"][0], report["winner"], report["start"]
     if report["refused"]:
         print(f"{report['refused']} of the {report['settings']} settings do not assemble")
@@ -177,7 +171,6 @@ def print_tuned(report):
 
 
 def print_raced(report):
-    """Prints what the race found."""
     race, box = report["race"], report["box"]
     print(f"race: {race['settings']} of {report['settings']} settings in {race['fights']} fights")
     if box:

@@ -79,7 +79,6 @@ def label(x, y, words, style=""):
 
 
 def path(pen_moves, style):
-    """Returns the path that `pen_moves` draw, in the words of SVG."""
     return f'<path d="{pen_moves}" class="{style}"/>'
 
 
@@ -125,7 +124,6 @@ def legend_of_bars():
 
 
 def draw_bars(start_opponents, winner_opponents):
-    """Draws the percents of START and of the winner against each opponent."""
     x_scale, elements, y = Scale(0, 100, 0, 300), list(legend_of_bars()), 40
     bottom = 22 + OPPONENT_HEIGHT * len(winner_opponents)
     for tick in (0, 25, 50, 75, 100):

@@ -93,8 +93,7 @@ def thinned(landscape, most=MOST_SQUARES):
 
 
 def is_outside(values, winner_values, landscape):
-    """Returns whether a setting is not on the picture: a value is not in the box, or one that is
-    held at the winner's differs."""
+    """Returns whether a value is not in the box, or one that is held there not the winner's."""
     held = [name for name in winner_values if name not in landscape.names]
     return landscape.place(values) is None or any(
         values[name] != winner_values[name] for name in held)
@@ -122,7 +121,6 @@ class Squares(NamedTuple):
                 round(TOP + (self.rows - 1 - row) * self.height, 2))
 
     def bottom(self):
-        """Returns the y at which the map ends."""
         return round(TOP + self.rows * self.height, 2)
 
 
@@ -143,7 +141,6 @@ def draw_square(squares, place, total, shade, title):
 
 
 def draw_squares(landscape, squares, titled):
-    """Yields the squares of a map, each with its title if `titled`."""
     least, most = landscape.least_and_greatest()
     for row, totals in enumerate(landscape.totals):
         for column, total in enumerate(totals):

@@ -93,7 +93,6 @@ def folded(summary, piece):
 
 
 def page(title, pieces):
-    """Returns the page of a list of pieces."""
     return ('<!DOCTYPE html>\n<html lang="en">\n<head>\n<meta charset="utf-8">\n'
             '<meta name="viewport" content="width=device-width, initial-scale=1">\n'
             f"<title>{escaped(title)}</title>\n<style>{STYLE}</style>\n</head>\n<body>\n<main>\n"

@@ -50,8 +50,7 @@ class RaceOfStudy:
 
     @contextlib.contextmanager
     def arena(self, name, *spent):
-        """Gives a block the arena, which has what was played by the file `name`. `spent` are the
-        results of the stages before."""
+        """Gives a block the arena, which goes on with the file `name` after stages `spent`."""
         paths = [str(self.folder.path / path) for path in self.study.opponents]
         with (temporary_folder() as folder, self.folder.open_to_append(name) as file,
               Arena(self.args, budget_of(self.args), self.grid, paths, self.args.weights,
@@ -63,8 +62,7 @@ class RaceOfStudy:
             yield arena
 
     def race(self):
-        """Races. Returns the winner, its `rise` and `points` as in an `Outcome`, the final, and
-        what the race used of the budget."""
+        """Races. Returns the `Outcome`, with how much of the budget was used."""
         share = RACED if self.rounds(budget_of(self.args).fights) else 1
         with self.arena("race.jsonl") as arena:
             race = Race(self.grid, arena, self.args.seed, share)

@@ -44,7 +44,6 @@ def paragraph(piece, style=""):
 
 
 def opening(report):
-    """Returns the title, and what was gained, in a sentence."""
     start, winner, gain = report["start"], report["winner"], report["gain"]
     title = f"<h1>{escaped(report['title'])}</h1>"
     if gain is None:
@@ -104,15 +103,13 @@ def tuned_rows(sides, greatest):
 
 
 def lists_of(report):
-    """Returns the lists of constants that are indices of a list in the author's text, by name, with
-    `-` for what is not written."""
+    """Returns the lists of constants that are indices of one, with `-` for what is not written."""
     return {constant["name"]: [text or "-" for text in constant["list"]]
             for constant in report["constants"] if constant.get("list")}
 
 
 def shown_values(report, values):
-    """Returns the values of a setting by the names of the constants. Of one that is an index of a
-    list it has what is in the list there."""
+    """Returns the values of a setting by names, and of an index what is in its list."""
     lists = lists_of(report)
     return {name: lists[name][value] if name in lists else value
             for name, value in values.items()}
@@ -123,7 +120,6 @@ def value_cells(report, values):
 
 
 def comparison(report):
-    """Returns START beside the winner."""
     start, winner = sides = report["start"], report["winner"]
     rows = list(map(list, zip(map(escaped, winner["values"]),
                               *(value_cells(report, side["values"]) for side in sides))))
@@ -239,7 +235,6 @@ def effects(report):
 
 
 def ranking_row(report, ranked, is_winner):
-    """Returns a setting of the ranking, as cells."""
     fresh = ranked["fresh"]
     return [escaped(ranked["rank"]) + (f" {WINNER}" if is_winner else ""),
             escaped(ranked["setting"]), *value_cells(report, ranked["values"]),
@@ -261,7 +256,6 @@ def ranking(report):
 
 
 def finalists(report):
-    """Returns the final of the race."""
     names, found = list(report["winner"]["values"]), report["race"]["finalists"]
     marked = [index for index, one in enumerate(found)
               if one["values"] == report["winner"]["values"]]
@@ -296,7 +290,6 @@ def constant_row(constant, texts):
 
 
 def facts(report):
-    """Returns what the study was made of, in words."""
     race, box = report["race"], report["box"]
     if race:
         fights = [f"{integer(race['fights'])} in the race"]
@@ -325,7 +318,6 @@ def digests(caption, files):
 
 
 def commands(lines):
-    """Returns the commands, folded if they are many."""
     piece = source("Commands", "\n".join(lines))
     return folded(f"The {len(lines)} commands", piece) if len(lines) > MOST_COMMANDS else piece
 

@@ -89,8 +89,7 @@ def constants_of(grid, winner_values, box):
 
 
 def common_numbers(study, grid, box, winner_values, points):
-    """Returns what each report has. `points` are those of the winner and of START in the fights
-    that picked nothing, or None."""
+    """Returns what each report has. `points`: the winner's and START's that picked nothing."""
     folder, args = study.folder, study.args
     version = run_program(args.program, "--version").stdout.decode(errors="replace").strip()
     winner_points, start_points = points or (None, None)
@@ -112,7 +111,6 @@ def common_numbers(study, grid, box, winner_values, points):
 
 
 def ranking_of(box, points, study):
-    """Returns the first of the ranking, each with its fresh fights."""
     return [{"rank": rank, "setting": setting, "values": box.template.values_by_name(setting),
              "tuned": total, "fresh": fresh_fights(points[str(setting)], study)}
             for rank, (total, setting) in enumerate(box.ranking.full[:len(points)], 1)]
@@ -123,7 +121,6 @@ def schedule_numbers(box):
 
 
 def tuned_numbers(study, results):
-    """Returns the report of a template that was tuned whole."""
     folder, winner = study.folder.path, int(results["winner"])
     grid, box, last_points = Grid(folder / "template.red"), Box(folder), results["last_points"]
     report = common_numbers(study, grid, box, box.template.values_by_name(winner),
@@ -140,7 +137,6 @@ def tuned_numbers(study, results):
 
 
 def raced_numbers(study, results):
-    """Returns the report of a template in which settings raced."""
     folder, race = study.folder.path, results["race"]
     grid = Grid(folder / "template.red")
     box, found, challenge = results["box"], None, results["challenge"]
