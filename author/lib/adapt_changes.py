@@ -84,9 +84,6 @@ class Finder:
         self.add((index, 0, len(line)) if is_alone else (index, start, end),
                  None if is_alone else "", note, reading)
 
-    def comment_out(self, index, note, reading=None):
-        self.comment_from((index, 0), note, reading)
-
     def comment_from(self, where, note, reading):
         """Makes a comment of a line from a column on."""
         index, start = where
@@ -130,7 +127,7 @@ class Finder:
         note = "prose in a block without copies is a comment now"
         if depth == 0:
             if is_bad or word_here(line.text) in ("FOR", "ROF", "END"):
-                self.comment_out(line.index, note, DROPPED)
+                self.comment_from((line.index, 0), note, DROPPED)
         elif depth > 0 and is_bad:
             end = line.column + word.end
             self.add((line.index, end, end), " ;", note, DROPPED)
@@ -160,7 +157,8 @@ class Finder:
             word = self.word(text.index, root)
             new, note = str(value) if value >= 0 else f"({value})", f"{word} is {value} here"
             if source.root:
-                new, note = chars.of_root(root).strip(), f"{word} is written out"
+                spelled = (char for char, its in zip(chars.text, chars.roots) if its == root)
+                new, note = "".join(spelled).strip(), f"{word} is written out"
             elif what == "CURLINE" and not text.blocks:
                 new = self.curline.written((text.index, *root), value)
             self.add((text.index, *root), new, note, text.reading)
@@ -178,8 +176,8 @@ class Finder:
         self.expression((text.index, text.reading), chars, node, registers)
 
     def assertion_without_value(self, text):
-        self.comment_out(text.index, "the assertion has no value, and is a comment now",
-                         text.reading)
+        self.comment_from((text.index, 0), "the assertion has no value, and is a comment now",
+                          text.reading)
 
     def block(self, text, block):
         if text.inside:
@@ -334,7 +332,7 @@ class Finder:
                           f"{self.word(text.index, root)} is a label of this already", text.reading)
 
     def stray_equ(self, text):
-        self.comment_out(text.index, "an EQU without a name is a comment now", text.reading)
+        self.comment_from((text.index, 0), "an EQU without a name is a comment now", text.reading)
 
     def join(self, text, source, root, name, counters):
         """Looks at a name with counters, of which the outer ones have to come first here."""

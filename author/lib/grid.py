@@ -44,7 +44,6 @@ class Grid:
         return pathlib.Path(path).read_bytes()
 
     def count(self):
-        """Returns the number of settings."""
         return math.prod(map(len, self.ranges))
 
     def constants_of(self, values):

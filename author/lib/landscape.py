@@ -134,7 +134,6 @@ def label_ticks(set_ticks, values, most):
 
 
 def inches_across(columns):
-    """Returns how wide each of `columns` maps side by side is."""
     return max(8 / columns, 3.6)
 
 

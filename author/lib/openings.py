@@ -57,7 +57,7 @@ def opening_from(word):
     if strange := [text for text in texts if text not in known]:
         raise argparse.ArgumentTypeError(f"{word}: {strange[0] or 'nothing'} is no {kind}; there "
                                          f"are {' '.join(known)}")
-    return Opening(word, place, once(texts))
+    return Opening(word, place, list(dict.fromkeys(texts)))
 
 
 def malformed(word):
@@ -75,18 +75,13 @@ def numbers_from(word, text):
     if max(map(abs, numbers)) > MOST_VALUE:
         raise argparse.ArgumentTypeError(f"{word}: values are -{MOST_VALUE} to {MOST_VALUE}")
     if not match:
-        return once(list(map(str, numbers)))
+        return list(dict.fromkeys(map(str, numbers)))
     low, high, step = numbers
     if step == 0:
         raise argparse.ArgumentTypeError(f"{word}: the step is 0")
     if low > high:
         raise argparse.ArgumentTypeError(f"{word}: {low} is above {high}")
     return range(low, high + 1, step)
-
-
-def once(texts):
-    """Returns texts without those that came before."""
-    return list(dict.fromkeys(texts))
 
 
 def constant_of(spot, opening, text):

@@ -46,7 +46,6 @@ class Room:
         os.close(self.descriptor)
 
     def names(self, pattern):
-        """Returns the names in the folder that match a pattern whole."""
         return [name for name in os.listdir(self.descriptor) if re.fullmatch(pattern, name)]
 
     def refuse_strange(self, pattern):
@@ -64,7 +63,6 @@ class Room:
                 "shown": f"{self.shown}/{name}"}
 
     def remove(self, pattern):
-        """Removes the files whose whole names match a pattern."""
         for name in self.names(pattern):
             os.unlink(name, dir_fd=self.descriptor)
 

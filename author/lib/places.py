@@ -282,7 +282,6 @@ def spots_in(line, field):
 
 
 def title_of(line, field):
-    """Returns the place of a field of a line."""
     label = line.labels[-1] if line.labels else line.number
     return str(label) if field == "equ" else f"{label}.{field}"
 

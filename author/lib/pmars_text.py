@@ -8,8 +8,7 @@ as it is met.
 import enum
 from typing import NamedTuple
 
-from .pmars_tokens import (BLANKS, LETTERS, OPCODES, PSEUDO_OPCODES, code_of, token_at,
-                           tokens_of)
+from .pmars_tokens import BLANKS, LETTERS, OPCODES, PSEUDO_OPCODES, code_of, token_at, tokens_of
 from .pmars_values import NoValue, ParserThere, Registers
 
 # What pMARS takes at most: labels of one instruction, lines of code, bytes of a line.
@@ -105,9 +104,6 @@ class Chars:
         taken.text, taken.roots = self.text, self.roots
         self.text, self.roots = "", []
         return taken
-
-    def of_root(self, root):
-        return "".join(char for char, its in zip(self.text, self.roots) if its == root)
 
 
 class Block(NamedTuple):
@@ -287,7 +283,6 @@ class PmarsText:
         return taken
 
     def define(self, labels):
-        """Gives labels the address of what comes next."""
         for label in labels:
             self.names[label.name] = Name("label", self.address)
 

@@ -140,7 +140,6 @@ class Race:
         return [contender for contender in played if contender.assembles]
 
     def plays_until(self, limit):
-        """Returns how many plays are left until the part `limit` of the race's budget is used."""
         return self.arena.plays_until(limit * self.share)
 
     def explore(self):

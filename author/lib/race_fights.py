@@ -101,14 +101,12 @@ class Arena:
         self.threads.shutdown()
 
     def elapsed(self):
-        """Returns the seconds of the race, as its budget counts them."""
         return clock() - self.began_at
 
     def used(self):
         return self.budget.used(self.fights, self.seconds)
 
     def has_room(self, plays, limit):
-        """Returns whether `plays` more are within a part of the budget."""
         fights = self.fights + plays * len(self.opponents)
         return self.budget.used(fights, self.seconds + plays * self.seconds_of_play) <= limit
 
@@ -145,7 +143,6 @@ class Arena:
                             for block in points] for points in self.play(contenders, blocks)]
 
     def is_recorded(self):
-        """Returns whether what comes next was played before."""
         return self.record_count < len(self.records)
 
     def play(self, contenders, blocks):

@@ -127,7 +127,6 @@ class Hosts:
         return plays if plays <= most else max(1, int(most / at_once)) * at_once
 
     def seconds_here(self):
-        """Returns the seconds of a play on a processor of this host."""
         return self.arena.seconds_of_jobs / self.arena.plays_of_jobs
 
     def processors(self):

@@ -33,7 +33,6 @@ class Journal(list):
         file.truncate(whole_bytes)
 
     def fault(self, what):
-        """Returns what is wrong with the next line."""
         return Fault(f"{self.shown}: line {len(self) + 1}: {what}", 2)
 
     def read(self, line):

@@ -71,6 +71,5 @@ class Model:
             left = [rest - constant.part(value) for rest, value in zip(left, column)]
 
     def guess(self, values):
-        """Returns the guess for a setting, as a part of the greatest total."""
         return self.mean + sum(constant.part(value)
                                for constant, value in zip(self.constants, values))

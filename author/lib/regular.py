@@ -16,7 +16,6 @@ class NotRegular(Fault):
 
 
 def kind_of(mode):
-    """Returns what a file of this mode is, in words."""
     return KINDS.get(stat.S_IFMT(mode), "a device")
 
 
@@ -34,13 +33,6 @@ def open_regular(path, flags=0, folder=None, shown=None):
         os.close(descriptor)
         raise NotRegular(shown or path)
     return open(descriptor, "rb")
-
-
-def refuse_endless(paths):
-    """Refuses what is there and can keep a reader waiting for ever."""
-    for path in paths:
-        if os.path.exists(path) and not (os.path.isfile(path) or os.path.isdir(path)):
-            raise NotRegular(path)
 
 
 def read_regular(most, *place, **more):

@@ -11,8 +11,7 @@ from . import cert_inputs, tuning_files
 from .endings import Fault, note
 from .program import assemble, rules_of
 from .watching import watched
-from .words import (add_files, add_json, add_cwtune, command_parser, counted, number_from,
-                    print_json)
+from .words import add_files, add_json, add_cwtune, command_parser, counted, number_from, print_json
 
 # With more settings than this none is assembled, to save time.
 MOST_ASSEMBLED = 2000

@@ -161,7 +161,6 @@ class AnyCertificate:
 
     @property
     def count(self):
-        """The number of settings."""
         return len(self.twins)
 
     def add_row(self, record):
@@ -304,8 +303,7 @@ def read_schedule(path):
     try:
         header, *records = read_records(path)
         has_weights = header == [*HEADER, "weight"]
-        fights = Fights(read_fight(record if has_weights else [*record, "1"])
-                        for record in records)
+        fights = Fights(read_fight(record if has_weights else [*record, "1"]) for record in records)
     except (ValueError, csv.Error):
         header, fights = None, []
     if not 0 < len(fights) <= MOST_FIGHTS or not (has_weights or header == HEADER):

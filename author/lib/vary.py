@@ -138,7 +138,6 @@ def lines_of_others(lines):
 
 
 def load_file_of_source(args, source):
-    """Returns the load file of a text. Refuses one that does not assemble."""
     return load_file_of(args.warrior, assemble_bytes(
         args.program, source.text.encode("latin-1"), *rules_of(args).words()))
 

@@ -204,20 +204,12 @@ def main():
         except tuning_files.TooManySettings:
             if args.setting != "start" or args.as_template:
                 raise
-            print_start(args, path)
-        if not (args.original or args.as_template) and (path != args.template or has_mark(path)):
+            with temporary_file(path, start_of(read_text(path), path)) as alone:
+                print_text(args, alone)
+        is_adapted = path != args.template or ADAPTED.encode() in map(
+            bytes.rstrip, read_text(path).split(b"\n"))
+        if is_adapted and not (args.original or args.as_template):
             note("this is the adapted text: --original FILE puts the values into yours")
-
-
-def has_mark(path):
-    """Returns whether `cwtune-vary` made a template of an adapted text."""
-    return ADAPTED.encode() in map(bytes.rstrip, read_text(path).split(b"\n"))
-
-
-def print_start(args, path):
-    """Prints the text of START of a template of any size, as that of a race."""
-    with temporary_file(path, start_of(read_text(path), path)) as alone:
-        print_text(args, alone)
 
 
 def print_text(args, path):

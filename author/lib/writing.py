@@ -71,7 +71,7 @@ def remove_left(folder, pattern):
     with contextlib.suppress(OSError):
         for name in os.listdir(folder):
             match = re.fullmatch(pattern, name)
-            if match and not is_running(int(match.groups()[-1])):
+            if match and not is_running(match.groups()[-1]):
                 remove_unlocked(os.path.join(folder, name))
 
 
@@ -91,16 +91,8 @@ def remove_unlocked(path):
 
 
 def is_running(pid):
-    """Returns whether another process of this host has this id."""
-    if pid == os.getpid():
-        return False
-    try:
-        os.kill(pid, 0)
-    except (ProcessLookupError, OverflowError):
-        return False
-    except PermissionError:
-        pass
-    return True
+    """Returns whether another process of this host has this id, which is given as a text."""
+    return pid != str(os.getpid()) and os.path.exists(f"/proc/{pid}")
 
 
 @contextlib.contextmanager

@@ -35,7 +35,6 @@ class Clusters(SpreadTrial):
         return self.read(name).decode()
 
     def times(self):
-        """Returns when the files of the parts were changed, by name."""
         return {path.name: path.stat().st_mtime_ns for path in self.folder.glob("CERT.*")}
 
     def arrays(self):

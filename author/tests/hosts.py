@@ -45,7 +45,6 @@ class Hosts(OnHosts, SpreadTrial):
         self.write_program("slow", SLOW.format(program=self.program, folder=self.folder))
 
     def on(self, hosts, *words):
-        """Returns the result of `cwtune-spread` on hosts, given as words of a line."""
         self.write("hosts", "\n".join(hosts.split()))
         return self.spread("--hosts=hosts", *words)
 

@@ -23,7 +23,6 @@ REFUSED_MARK = "CERT.parts is not a folder of this cwtune-spread, and is not tou
 
 
 def replaced(path, make):
-    """Puts something else where a file or a folder is."""
     removed(path)
     make(path)
 

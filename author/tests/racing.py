@@ -4,7 +4,7 @@ from unittest import mock
 
 from author.lib import grid, race, race_fights
 
-from .trial import SECONDS, Refusal, Trial, came_of, usage_error, wait_until
+from .trial import SECONDS, Refusal, Trial, came_of, usage_errors, wait_until
 
 LARGE = ";@tune A 0 9999 1 2\n;@tune B 0 9999 1 2\nDAT A, B\n"
 # A warrior that wins if A is 3 and B near 4, in a core of 80.
@@ -13,7 +13,11 @@ PLANE = (";@tune STEP 1 9 2 3\n;@tune aim -4 4 1 4\n        ADD  #STEP, 3\n     
          "        JMP  -2\n        DAT  #0, #aim\n")
 FILES = {"plane.red": PLANE, "large.red": LARGE, "dat.red": "DAT 0, 0\n", "imp.red": "MOV 0, 1\n",
          "s.csv": "opponent,position,first,weight\n0,40,c,1\n1,40,c,3\n",
-         "one.csv": "opponent,position,first\n1,40,c\n"}
+         "one.csv": "opponent,position,first\n1,40,c\n", "one.red": "MOV 0, 1\n",
+         "bad.red": ";@tune K 0 5 1 2\nMOV 1\n",
+         "none-assembles.red": ";@tune K 0 5 1 2\nDAT 1/0\n",
+         "two.csv": "opponent,position,first\n2,40,c\n", "empty": "# no host\n",
+         "one-host": "good\n"}
 # The files of a race, and what is refused.
 RACED = "plane.red s.csv dat.red imp.red"
 NOBODY = ("refused: no setting that was tried assembles; `cwtune asm --setting start` says why of "
@@ -22,10 +26,10 @@ REFUSALS = [
     Refusal("cwtune-seek none s.csv dat.red", 3, "failed: none: No such file or directory"),
     Refusal("cwtune-seek plane.red two.csv dat.red imp.red", 2,
             "error: two.csv has fights against more opponents than were given"),
-    *(usage_error(f"cwtune-seek {word} {RACED}", f"argument {fault}") for word, fault in [
-        ("--fights=999", "--fights: 999 is not 1000 or more"),
-        ("--minutes=0", "--minutes: 0 is not 0.01 to 100000"),
-        ("--minutes=x", "--minutes: x is not a number of minutes")]),
+    *usage_errors(f"cwtune-seek {RACED}", {
+        "--fights=999": "argument --fights: 999 is not 1000 or more",
+        "--minutes=0": "argument --minutes: 0 is not 0.01 to 100000",
+        "--minutes=x": "argument --minutes: x is not a number of minutes"}),
     Refusal(f"cwtune-seek --hosts=empty {RACED}", 2, "error: empty: no host in it"),
     Refusal(f"cwtune-seek --hosts=none {RACED}", 3, "failed: none: No such file or directory"),
     Refusal("cwtune-seek one.red s.csv dat.red imp.red", 1,
@@ -38,8 +42,7 @@ class MadeUpArena(race_fights.Arena):
     """An arena whose fights are made up: a setting wins the more, the nearer it is to `best`."""
 
     def __init__(self, values, fights, records=(), seed=1):
-        args = argparse.Namespace(seed=seed, jobs=1, hosts=None, hill="nano",
-                                  program="")
+        args = argparse.Namespace(seed=seed, jobs=1, hosts=None, hill="nano", program="")
         super().__init__(args, race_fights.Budget(fights), values, ["a", "b"], [1, 1],
                          list(records), ".")
         self.best, self.calls = (3, 4), []
@@ -166,11 +169,6 @@ class Racing(Trial):
         self.same("an opponent that SCHEDULE leaves out does not play", one.out, alone.out)
 
     def test_refusals(self):
-        for name, text in [("one.red", "MOV 0, 1\n"), ("bad.red", ";@tune K 0 5 1 2\nMOV 1\n"),
-                           ("none-assembles.red", ";@tune K 0 5 1 2\nDAT 1/0\n"),
-                           ("two.csv", "opponent,position,first\n2,40,c\n"),
-                           ("empty", "# no host\n"), ("one-host", "good\n")]:
-            self.write(name, text)
         self.refused(REFUSALS)
         for name in ["none-assembles.red", "bad.red"]:
             status, out, err = self.seek(files=f"{name} s.csv dat.red imp.red")

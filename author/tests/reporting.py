@@ -199,8 +199,7 @@ class Reporting(Trial):
         self.same("thinned", (2, [[3], [None]], [[1, 3], [4]]), (step, thin.totals, thin.ranges))
         self.same("places", [(1, 1), None],
                   [landscape.place({"A": 2, "B": 5}), landscape.place({"A": 9, "B": 5})])
-        self.same("shades", [0, 3, 6],
-                  [maps.shade_of(total, 10, 80) for total in (10, 45, 80)])
+        self.same("shades", [0, 3, 6], [maps.shade_of(total, 10, 80) for total in (10, 45, 80)])
 
     def test_numbers(self):
         self.same("escaped", "&lt;&amp;&quot;&#x27;\ufffd\n", pieces.escaped("<&\"'\udcff\r\n"))

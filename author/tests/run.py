@@ -138,8 +138,7 @@ class Commands(Trial):
         completed = subprocess.run(command("cwtune-scores", "step.cert", "schedule.csv"),
                                    cwd=TUNING, stdout=pipe, stderr=subprocess.PIPE, timeout=SECONDS)
         os.close(pipe)
-        self.same("a closed pipe", (-signal.SIGPIPE, b""),
-                  (completed.returncode, completed.stderr))
+        self.same("a closed pipe", (-signal.SIGPIPE, b""), (completed.returncode, completed.stderr))
         os.mkfifo(self.folder / "pipe")
         for words in ["cwtune-scores pipe schedule.csv", "cwtune-landscape pipe step.cert x.svg"]:
             with self.started(words, stderr=subprocess.PIPE) as job:
@@ -173,8 +172,7 @@ def chosen(parser, names):
         if not any(name in name_of(trial) for trial in trials):
             parser.error(f"argument -k: no trial {name}; there are "
                          f"{', '.join(map(name_of, trials))}")
-    return [trial for trial in trials
-            if not names or any(name in name_of(trial) for name in names)]
+    return [trial for trial in trials if not names or any(name in name_of(trial) for name in names)]
 
 
 def main():

@@ -1,5 +1,5 @@
 """The folder in which `cwtune-spread` is played: a template, a schedule and opponents."""
-import contextlib, os, random, re, signal, subprocess, time
+import os, random, re, signal, subprocess, time
 from typing import NamedTuple
 
 from gate.lib import inputs
@@ -54,7 +54,6 @@ class SpreadTrial(Trial):
         return self.verdict(words)[0]
 
     def verdict(self, words):
-        """Returns the status of a check of CERT, and its line."""
         end = self.cwtune(["check", *words])
         return end.status, end.out.decode()
 
@@ -68,20 +67,10 @@ class SpreadTrial(Trial):
         return found
 
     def done(self, kind="parts"):
-        """Returns how many parts are done, or how many shares."""
         return len(list(self.folder.glob(f"CERT.{kind}/*.done")))
 
     def wait_for(self, pieces, job, kind="parts"):
-        """Waits until `pieces` parts or shares are done, or the job has ended."""
         wait_until(lambda: self.done(kind) >= pieces, job)
-
-    @contextlib.contextmanager
-    def held(self, *words, kind="parts"):
-        """Starts `cwtune-spread`, and holds it by SIGSTOP once a part or a share is done."""
-        with self.started("cwtune-spread", *words) as job:
-            self.wait_for(1, job, kind)
-            job.send_signal(signal.SIGSTOP)
-            yield job
 
     def kill_at(self, pieces, signal_number, seconds, *words, kind="parts"):
         """Ends `cwtune-spread` by a signal, `seconds` after `pieces` parts or shares are done."""

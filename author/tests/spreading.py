@@ -9,18 +9,18 @@ from gate.lib.play import shown
 
 from .spread_trial import (DECOY, OPPONENTS, RANKED, SCHEDULE, SMALL, TWELVE, SpreadTrial,
                            left_over, without_fights)
-from .trial import SECONDS, running_in, usage_error
+from .trial import SECONDS, usage_errors
 
-WRONG_OPTIONS = [
-    *((f"{name}={number}", f"{name}: {number} is not 1 or more")
-      for name, number in [("--jobs", 0), ("--jobs", -1), ("--parts", 0), ("--parts", -3)]),
-    *((f"--keep={number}", f"--keep: {number} is not 1 to 1000") for number in [0, 1001, -2]),
-    ("--merge=2 --parts=2", "--merge: not allowed with argument --parts"),
-    ("--merge=2 --hosts=x", "--merge: not allowed with argument --hosts"),
-    ("--all --cache=5", "--cache: not allowed with argument --all"),
-    ("--shares=2", "--shares: needs --check or --check-only"),
-    ("--work=x", "--work: needs --check or --check-only"),
-]
+WRONG_OPTIONS = usage_errors(f"cwtune-spread {' '.join(SMALL)}", {
+    **{f"{name}={number}": f"argument {name}: {number} is not 1 or more"
+       for name, number in [("--jobs", 0), ("--jobs", -1), ("--parts", 0), ("--parts", -3)]},
+    **{f"--keep={number}": f"argument --keep: {number} is not 1 to 1000"
+       for number in [0, 1001, -2]},
+    **{f"{option} {other}=2": f"argument {option[:7]}: not allowed with argument {other}"
+       for option, other in [("--merge=2", "--parts"), ("--merge=2", "--hosts")]},
+    "--all --cache=5": "argument --cache: not allowed with argument --all",
+    **{f"{name}=2": f"argument {name}: needs --check or --check-only"
+       for name in ["--shares", "--work"]}})
 
 
 class Spreading(SpreadTrial):
@@ -45,15 +45,6 @@ class Spreading(SpreadTrial):
                 -signal.SIGINT, f"stopped: {left_over(2, 3, 'parts')}", 2), (
                 *self.stop_in("--part=2/3", signal_number, "--jobs=1", "--parts=3", *DECOY),
                 self.done()))
-            self.clear()
-
-    def test_killed(self):
-        for signal_number, ended_by in [(signal.SIGKILL, signal.SIGKILL),
-                                        (signal.SIGHUP, signal.SIGINT)]:
-            status, _ = self.stop_in("--part=2/3", signal_number, "--jobs=1", "--parts=3", *DECOY)
-            time.sleep(0.5)
-            self.same(f"signal {signal_number} leaves nothing running", (-ended_by, []),
-                      (status, running_in(self.folder)))
             self.clear()
 
     def test_other_inputs(self):
@@ -117,14 +108,6 @@ class Spreading(SpreadTrial):
             2, "", "error: CERT.parts is a file, and is not touched\n", b"mine\n"),
             (*self.spread(*DECOY), self.read("CERT.parts")))
 
-    def test_two_at_once(self):
-        with self.held("--jobs=1", *TWELVE) as job:
-            self.same("the second one is refused",
-                      (2, "", "error: another cwtune-spread is at work in CERT.parts\n"),
-                      self.spread(*DECOY))
-            job.send_signal(signal.SIGCONT)
-            self.same("the first one ends as it does alone", 0, job.wait(SECONDS))
-
     def test_templates(self):
         """Compares with `tune` on templates that another reader would take for others."""
         for name, text in [
@@ -169,8 +152,7 @@ class Spreading(SpreadTrial):
             left = sorted(path.name for path in self.folder.glob("*CERT*"))
             self.same(f"tune {words}", (*expected, []), (*result, left))
             self.clear()
-        self.refused(usage_error(f"cwtune-spread {words} {' '.join(SMALL)}", f"argument {fault}")
-                     for words, fault in WRONG_OPTIONS)
+        self.refused(WRONG_OPTIONS)
 
     def test_methods(self):
         """Plays every fight, tells a log how far it is, and explains."""

@@ -92,8 +92,7 @@ class Strangers(Trial):
             "cwtune-holdout --rounds=2 -- -t.red -cert --program=x.red",
             "cwtune-warrior -- -t.red -cert", "cwtune-files -- -t.red --program=x.red",
         ]:
-            self.same(words, (0, False), (
-                self.call(words).status, (self.folder / "ran").exists()))
+            self.same(words, (0, False), (self.call(words).status, (self.folder / "ran").exists()))
 
     def test_terminals(self):
         """Gives the commands names and texts that would steer a terminal."""

@@ -36,9 +36,15 @@ class Refusal(NamedTuple):
     line: str
 
 
-def usage_error(words, message):
-    """Returns the refusal of a command line that is wrong in itself, which has the status 2."""
-    return Refusal(words, 2, f"{words.split()[0]}: error: {message}")
+def refusals(command, status, lines):
+    """Returns the refusals of a command, given their lines by the words after it."""
+    return [Refusal(f"{command} {words}".rstrip(), status, line) for words, line in lines.items()]
+
+
+def usage_errors(command, messages):
+    """Returns the refusals of command lines that are wrong in themselves, given as `refusals`."""
+    return refusals(command, 2, {words: f"{command.split()[0]}: error: {message}"
+                                 for words, message in messages.items()})
 
 
 def command(name, *words, python=sys.executable):
@@ -143,8 +149,8 @@ class Trial(unittest.TestCase, Place):
     def same(self, name, expected, came):
         self.wrong(*compare(name, expected, came))
 
-    def refused(self, refusals, **options):
-        for words, status, line in refusals:
+    def refused(self, all_refused, **options):
+        for words, status, line in all_refused:
             self.same(words, (status, "", f"{line}\n"), self.call(words, **options))
 
     def write(self, name, text):
@@ -163,7 +169,6 @@ class Trial(unittest.TestCase, Place):
         return [name, *program, *self.OPTIONS, *first, *words]
 
     def call(self, line, *words, below="", **options):
-        """Runs a command in the folder, or in one below it. Returns its result."""
         return run(*self.words(line, *words), folder=self.folder / below, **options)
 
     def started(self, line, *words, **streams):

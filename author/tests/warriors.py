@@ -5,7 +5,7 @@ from author.lib import tuning_files, warrior
 from author.lib.program import assemble
 
 from .origins import GAIN, note
-from .trial import TUNING, Refusal, Trial, usage_error
+from .trial import TUNING, Trial, refusals, usage_errors
 
 FIGHT = "opponent,position,first\n0,4000,c\n"
 # Templates with range lines at unusual places, and how many settings they have.
@@ -23,15 +23,14 @@ CHAIN = b"".join([b";@tune K 3 4 1 3\n",
                   *(b"e%d EQU e%d\n" % (number, number + 1) for number in range(1, 16)),
                   b"e16 EQU K\nDAT e1\n"])
 WRONG_WORDS = [
-    usage_error("cwtune-warrior step.red", "CERT is missing: give it, or --setting W"),
-    usage_error("cwtune-warrior step.red step.cert --setting 0",
-                "give CERT or --setting, and not both"),
-    Refusal("cwtune-warrior stone.red step.cert", 2,
-            "error: the certificate is of 21 settings, and the template has 273"),
-    Refusal("cwtune-warrior step.red --setting 21", 2,
-            "error: the template has 21 settings, from 0"),
-    *(usage_error(f"cwtune-warrior step.red --setting {word}", f"argument --setting: {word} is "
-                  "neither an index from 0 nor `start`") for word in ["x", "-1"]),
+    *refusals("cwtune-warrior", 2, {
+        "stone.red step.cert": "error: the certificate is of 21 settings, and the template has 273",
+        "step.red --setting 21": "error: the template has 21 settings, from 0"}),
+    *usage_errors("cwtune-warrior step.red", {
+        "": "CERT is missing: give it, or --setting W",
+        "step.cert --setting 0": "give CERT or --setting, and not both",
+        **{f"--setting {word}": f"argument --setting: {word} is neither an index from 0 nor `start`"
+           for word in ["x", "-1"]}}),
 ]
 
 
@@ -209,9 +208,3 @@ class Warriors(Trial):
             self.same(f"ranks in a certificate of tune {options}", (0, names, last_line), (
                 status, [line.partition(":")[0] for line in lines if ": tuning " in line],
                 lines[-1]))
-        self.write("cert", "cwcert,1,3\nnone,-,9\n" + "".join(
-            f"cap,{setting},0:0\n" for setting in range(3)))
-        for words in [fresh, "cwtune-warrior t.red cert"]:
-            self.same(f"{words} of a certificate without a best setting", (
-                1, "", "refused: cert: it names no best setting, since none reaches the floor 9\n"),
-                self.call(words))

@@ -24,7 +24,7 @@ import contextlib, os, shutil, sys
 from .. import cert_inputs, tuning_files
 from ..endings import Fault, end_as, tell
 from ..program import EXPLAIN, reading_output, rules_of, run_program
-from ..regular import refuse_endless
+from ..regular import NotRegular
 from ..words import command_parser
 from ..writing import naming, whole_file
 from .folder import SpreadFolder
@@ -57,18 +57,15 @@ def refuse_faults(args):
 
 
 def explain_words(args):
-    """Returns the option --explain of `cwtune`, if somebody wants explanations."""
     return ["--explain"] if args.explain or EXPLAIN else []
 
 
 def run(args, command, cert, *options):
-    """Runs `tune` or `check` on the inputs as they are."""
     return run_program(args.program, command, *options, *explain_words(args), "--", args.template,
                        args.schedule, cert, *args.opponent)
 
 
 def tune_options(args):
-    """Returns the rules, the method and the ranking of the tuning as options of `tune`."""
     return [*rules_of(args).words(), "--all" if args.all else f"--cache={args.cache}",
             *keep_words(args.keep)]
 
@@ -271,7 +268,10 @@ def main():
     parser = make_parser()
     args = parser.parse_args()
     refuse_idle(parser, args)
-    refuse_endless([args.template, args.schedule, *args.opponent, *[args.cert] * args.check_only])
+    for path in [args.template, args.schedule, *args.opponent, *[args.cert] * args.check_only]:
+        # It could keep a reader waiting for ever.
+        if os.path.exists(path) and not (os.path.isfile(path) or os.path.isdir(path)):
+            raise NotRegular(path)
     if not args.check_only:
         refuse_faults(args)
         return tune(args, *count_settings(args))

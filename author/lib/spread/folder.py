@@ -74,7 +74,6 @@ class ClusterPieces(Pieces):
         self.setting_count = setting_count
 
     def read(self, number, kind):
-        """Returns what a job wrote to CERT.I.KIND."""
         return read_regular(MOST_REPORT_BYTES, f"{self.given_path}.{number}.{kind}").decode()
 
     def fault_in(self, kind, otherwise):
@@ -196,7 +195,6 @@ class SpreadFolder(Pieces, OwnFolder):
         return self.path / f"{number}.{self.pid}.{kind}"
 
     def fault(self, number, status):
-        """Returns the fault of a run of a piece that has no result."""
         stderr = self.file(number, "fault").read_bytes()
         return fault_of(subprocess.CompletedProcess(["cwtune"], status, b"", stderr))
 

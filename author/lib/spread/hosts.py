@@ -200,8 +200,7 @@ class HostJobs:
     def returned(self):
         """Returns the numbers of the jobs of which an archive came back."""
         names = set(os.listdir(self.folder.path))
-        return [number for number in self.waiting
-                if self.folder.file(number, "tar").name in names]
+        return [number for number in self.waiting if self.folder.file(number, "tar").name in names]
 
     def unpack(self, number):
         """Unpacks what came of a job. Returns its status, or None if the archive is damaged."""

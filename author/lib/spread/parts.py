@@ -102,8 +102,7 @@ class ClusterParts(ClusterPieces):
         return Part(self.settings(number), report)
 
     def fault(self, number):
-        return self.fault_in(f"{number}.fault",
-                             f"{self.cert(number)}.report is cut, or not there")
+        return self.fault_in(f"{number}.fault", f"{self.cert(number)}.report is cut, or not there")
 
     def whole(self):
         """Returns where the whole certificate is put together: a file that only this run has."""

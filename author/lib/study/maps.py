@@ -40,7 +40,6 @@ class Landscape(NamedTuple):
         return (0, *indices)[-2:]
 
     def known_totals(self):
-        """Returns the totals of the settings that assemble."""
         return [total for row in self.totals for total in row if total is not None]
 
     def least_and_greatest(self):
@@ -59,7 +58,6 @@ class Landscape(NamedTuple):
                 for name, values in zip(self.names, self.ranges)]
 
     def count(self):
-        """Returns the number of settings."""
         return sum(map(len, self.totals))
 
 
@@ -68,13 +66,11 @@ def read_landscape(landscape, lists):
     plain list, and a list for each value, are taken too."""
     names, ranges, totals = (landscape[key] for key in ("axes", "values", "totals"))
     if len(names) == 1:
-        totals = [[total for row in totals
-                   for total in (row if isinstance(row, list) else [row])]]
+        totals = [[total for row in totals for total in (row if isinstance(row, list) else [row])]]
     return Landscape(names, ranges, totals, lists)
 
 
 def greatest(totals):
-    """Returns the greatest of the totals that are not None, or None."""
     return max((total for total in totals if total is not None), default=None)
 
 

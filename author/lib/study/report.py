@@ -93,15 +93,6 @@ def raced_items(report):
                f"{decimal(race['rise'] - gain['percent'])} of these were luck.")
 
 
-def tuned_rows(sides, greatest):
-    """Returns the totals of both sides, and the same as a percent of the greatest total."""
-    totals = [side["tuned"] for side in sides]
-    percents = [DASH if total is None else f"{decimal(100 * total / greatest)}%"
-                for total in totals]
-    return [[f"tuned total, of {integer(greatest)}", *map(integer, totals)],
-            ["tuned percent", *percents]]
-
-
 def lists_of(report):
     """Returns the lists of constants that are indices of one, with `-` for what is not written."""
     return {constant["name"]: [text or "-" for text in constant["list"]]
@@ -111,8 +102,7 @@ def lists_of(report):
 def shown_values(report, values):
     """Returns the values of a setting by names, and of an index what is in its list."""
     lists = lists_of(report)
-    return {name: lists[name][value] if name in lists else value
-            for name, value in values.items()}
+    return {name: lists[name][value] if name in lists else value for name, value in values.items()}
 
 
 def value_cells(report, values):
@@ -125,7 +115,11 @@ def comparison(report):
                               *(value_cells(report, side["values"]) for side in sides))))
     notes = []
     if not report["race"]:
-        rows += tuned_rows(sides, report["schedule"]["greatest"])
+        greatest, totals = report["schedule"]["greatest"], [side["tuned"] for side in sides]
+        percents = [DASH if total is None else f"{decimal(100 * total / greatest)}%"
+                    for total in totals]
+        rows += [[f"tuned total, of {integer(greatest)}", *map(integer, totals)],
+                 ["tuned percent", *percents]]
         notes = [paragraph(f"The winner is setting {escaped(winner['setting'])}, of rank "
                            f"{escaped(winner['rank'])} in the tuning.", "soft")]
     if report["gain"]:
@@ -192,7 +186,6 @@ def landscape(report):
 
 
 def values_text(values):
-    """Returns names with their values, as constants or rules have them."""
     return ", ".join(f"{escaped(name)} {escaped(value)}" for name, value in values.items())
 
 

@@ -19,11 +19,11 @@ class Box:
         self.cert = Certificate(folder / "best.cert")
         self.fights = read_schedule(folder / "schedule.csv")
         self.ranking = self.cert.ranked(self.fights)
+        self.schedule = {"fights": len(self.fights), "greatest": self.fights.greatest}
         # By setting, NaN for one that does not assemble.
         self.totals = landscape.Totals(self.template, self.cert, self.fights).totals
 
     def refused(self):
-        """Returns how many of the settings do not assemble."""
         return sum(not self.cert.assembles(setting) for setting in range(self.cert.count))
 
     def landscape(self, winner):
@@ -116,10 +116,6 @@ def ranking_of(box, points, study):
             for rank, (total, setting) in enumerate(box.ranking.full[:len(points)], 1)]
 
 
-def schedule_numbers(box):
-    return {"fights": len(box.fights), "greatest": box.fights.greatest}
-
-
 def tuned_numbers(study, results):
     folder, winner = study.folder.path, int(results["winner"])
     grid, box, last_points = Grid(folder / "template.red"), Box(folder), results["last_points"]
@@ -132,8 +128,8 @@ def tuned_numbers(study, results):
     report["start"]["tuned"] = box.cert.total_of(start, box.fights)
     return report | {
         "race": None, "box": None, "refused": box.refused(), "ranking": ranking,
-        "schedule": schedule_numbers(box),
-        "landscape": box.landscape(winner), "effects": box.effects(), **results["tuning"]}
+        "schedule": box.schedule, "landscape": box.landscape(winner), "effects": box.effects(),
+        **results["tuning"]}
 
 
 def raced_numbers(study, results):
@@ -143,7 +139,7 @@ def raced_numbers(study, results):
     if box:
         found = Box(folder)
         box = {**box, "refused": found.refused(), "first": found.ranking.exact,
-               "replaces": bool(challenge["points"]), "schedule": schedule_numbers(found)}
+               "replaces": bool(challenge["points"]), "schedule": found.schedule}
     winner_values = dict(zip(grid.names, results["winner"]))
     report = common_numbers(study, grid, found, winner_values, results["points"])
     finalists = [{**one, "values": dict(zip(grid.names, one["values"]))}
