@@ -127,8 +127,7 @@ def refuse_other_rules(args, rules):
 
 
 def settled_file(inputs, kind, index, given_path):
-    """Returns the path of a file of the tuning: the one given, else where the file was, or None if
-    it is not there. Refuses another file than that of the tuning."""
+    """Returns the path of a file of the tuning: the one given, else where it was, or None."""
     digest, name = getattr(inputs, kind)[index]
     path = given_path if given_path is not None else os.path.join(inputs.folder, name)
     if given_path is None and not os.path.exists(path):

@@ -158,8 +158,7 @@ def ended_with(program, returncode):
 
 
 def end_as(program, returncode, stderr):
-    """Ends as a run of `cwtune` did: with what it wrote on standard error, and with its status. If
-    it wrote nothing, or was killed, the fault names its status."""
+    """Ends as a run of `cwtune` did: with what it wrote on standard error, and with its status."""
     sys.stderr.buffer.write(stderr)
     if returncode < 0 or not stderr:
         raise ended_with(program, returncode)

@@ -47,8 +47,7 @@ class Grid:
         return math.prod(map(len, self.ranges))
 
     def constants_of(self, values):
-        """Returns the values of a setting as the line `constants` of a report has them. Of an index
-        of a list in the author's text it has what is in the list there."""
+        """Returns the line `constants` of a setting. An index shows what is in its list."""
         pairs = zip(self.names, values)
         return " ".join(f"{name}={self.shown_value(name, value)}" for name, value in pairs) or "-"
 
@@ -65,8 +64,7 @@ class Grid:
         return b"\n".join(lines)
 
     def line_through(self, values, free):
-        """Returns the template in which the constants with the indices `free` keep their ranges,
-        and each other one has its value of `values` alone. START is `values`."""
+        """Returns the template with START `values`, which only the constants `free` may leave."""
         ranges = [whole if index in free else range(value, value + 1)
                   for index, (whole, value) in enumerate(zip(self.ranges, values))]
         return self.text(ranges, values)

@@ -90,8 +90,7 @@ def output_of(*words):
 
 
 def gain_of(points, weights):
-    """Returns the differences of the points of one player and of another, which are texts as
-    `FreshPoints` takes them, or None if they did not play."""
+    """Returns the differences of two players' points, given as texts, or None without fights."""
     first, second = (FreshPoints.of_texts(texts, weights) for texts in points)
     return first.minus(second) if first.by_opponent else None
 
@@ -143,8 +142,7 @@ class Holdout:
         return self.play(f"--setting={setting}", "--", self.args.template)
 
     def player(self, setting, rank=None):
-        """Returns the numbers of a setting: in the tuning, its total None if it was dropped, and in
-        the fresh fights. Its rank is None if it is not exact."""
+        """Returns the numbers of a setting. Its total is None if it was dropped."""
         return {"setting": setting, "rank": rank if rank and rank <= self.ranking.exact else None,
                 "values": self.template.values_by_name(setting),
                 "total": self.cert.total_of(setting, self.fights),

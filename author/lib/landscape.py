@@ -68,8 +68,7 @@ class Totals:
             self.caps.append(math.nan if has_total else cap)
 
     def cap_of(self, cert, setting):
-        """Returns the greatest total that a setting can have, and how many of the fights that count
-        it played; NaN and None if it does not assemble."""
+        """Returns the greatest total of a setting, and how many of the fights it played."""
         if not cert.assembles(setting):
             return math.nan, None
         counted = [(points, self.weights[fight]) for fight, points in cert.items(setting)
@@ -187,8 +186,7 @@ def draw_maps(plot, totals, x, y):
 
 
 def effect_of(template, totals, constant):
-    """Returns the values of a constant that assemble, their mean totals, and the standard errors
-    of these. `totals` is the list of all settings, and `constant` an index."""
+    """Returns the values of a constant that assemble, their mean totals, and standard errors."""
     groups = {value: [] for value in template.ranges[constant]}
     for total, values in zip(totals, template.values_of_settings):
         if not math.isnan(total):

@@ -162,8 +162,7 @@ class OwnFolder:
             yield file
 
     def open_to_append(self, name):
-        """Opens a file of the folder, or makes it, to read it and to write at its end. Refuses one
-        that has a name elsewhere, too, as it would change there."""
+        """Opens a file to append to. Refuses one that has a name elsewhere, too."""
         with self.room_of(name) as (room, file_name):
             descriptor = os.open(file_name, os.O_RDWR | os.O_APPEND | os.O_CREAT | os.O_NOFOLLOW,
                                  0o666, dir_fd=room.descriptor)

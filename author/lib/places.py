@@ -144,8 +144,7 @@ def assembled_lines(text):
 
 
 def lines_of(text, adapted=None):
-    """Returns the lines that have an opcode or a directive. One gets the labels before it, too.
-    `adapted` is the adapted text, if the author's own is another one."""
+    """Returns the lines with an opcode or a directive, each with the labels before it, too."""
     lines, waiting, depth, numbers = [], [], 0, set()
     for row, line in assembled_lines(text):
         code = code_of(line)

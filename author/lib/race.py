@@ -126,8 +126,7 @@ class Race:
         return entered
 
     def play(self, contenders, count, limit):
-        """Plays new blocks, until the part `limit` of the race's budget is used: the first of
-        `count` that are to come. Returns the contenders that played and assemble."""
+        """Plays new blocks, of `count` to come, within `limit`. Returns who plays and assembles."""
         blocks, played = self.arena.new_blocks(min(count, BLOCKS_AT_ONCE)), []
         for first in range(0, len(contenders), SETTINGS_AT_ONCE):
             some = contenders[first:first + SETTINGS_AT_ONCE]
@@ -225,8 +224,7 @@ class Race:
         return players + out
 
     def measure(self, first, second, limit):
-        """Plays two settings in fresh blocks, until the part `limit` of the race's budget is used.
-        Returns the points of both: a text for each opponent, with a digit for each fight."""
+        """Plays two settings in fresh blocks, within `limit`. Returns the points of both."""
         pair, points = [Contender(first), Contender(second)], ([], [])
         while self.arena.has_room(2 * BLOCKS_AT_ONCE, limit * self.share):
             blocks = self.arena.new_blocks(BLOCKS_AT_ONCE)

@@ -146,8 +146,7 @@ class Arena:
         return self.record_count < len(self.records)
 
     def play(self, contenders, blocks):
-        """Returns the points of contenders in blocks, or None for one that does not assemble. The
-        points of a block are a text with a digit for each opponent."""
+        """Returns the points of contenders in blocks: a digit for each opponent, or None."""
         settings = [list(contender.values) for contender in contenders]
         if not self.is_recorded():
             points = self.hosts.take(settings, blocks) or self.run(settings, blocks)

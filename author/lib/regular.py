@@ -36,8 +36,7 @@ def open_regular(path, flags=0, folder=None, shown=None):
 
 
 def read_regular(most, *place, **more):
-    """Returns what a regular file has, and raises a Malformed if that is more than `most` bytes.
-    `place` and `more` are arguments of `open_regular`."""
+    """Returns what a regular file has. Raises a Malformed if that is more than `most` bytes."""
     with open_regular(*place, **more) as file:
         if os.fstat(file.fileno()).st_size > most or len(text := file.read(most + 1)) > most:
             raise Malformed(f"more than {most} bytes")

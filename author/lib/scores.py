@@ -18,8 +18,7 @@ MOST_ASSEMBLED = 2000
 
 
 def scores_of(setting, cert, fights, template):
-    """Returns the numbers of a setting: its total, None if it was dropped or does not assemble, and
-    what it made against each opponent, None if it does not assemble."""
+    """Returns a setting's total, None if it was dropped, and scores, None if it is refused."""
     points = cert.points(setting)
     opponents = sorted({fight.opponent for fight in fights})
     return {"setting": setting, "values": template and template.values_by_name(setting),

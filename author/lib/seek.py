@@ -59,8 +59,7 @@ def outcome_numbers(grid, outcome, weights, text):
 
 
 def ranges_of(args, grid, values):
-    """Returns the ranges of the template that is printed: those of the box around a setting, unless
-    it has more settings than `cwtune tune` takes."""
+    """Returns the ranges to print: the box around a setting, unless it has too many settings."""
     if args.box is None:
         return grid.ranges
     ranges = grid.box(values, args.box)

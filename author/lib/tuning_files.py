@@ -258,8 +258,7 @@ class Certificate(AnyCertificate):
                         f"{self.total}")
 
     def fights(self, schedule):
-        """Returns the fights of the file `schedule`. Without it returns as many as the best setting
-        played, of weight 1, with opponent and position unknown (0)."""
+        """Returns the fights of `schedule`, or without it as many as the best setting played."""
         if schedule:
             fights = read_schedule(schedule)
         elif self.version == 2:
@@ -328,8 +327,7 @@ def read_fight(record):
 
 
 def cap(listed, fights):
-    """Returns the greatest total of a setting that made the points `listed`, pairs of a fight and
-    its points; its total if all fights are listed."""
+    """Returns the greatest total with the points `listed` by fight; the total if all are."""
     weights = fights.weights
     return fights.greatest - sum((3 - points) * weights[fight] for fight, points in listed)
 

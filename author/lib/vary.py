@@ -117,8 +117,7 @@ def heads_of_prose(lines):
 
 
 def lines_of_numbers(lines):
-    """Yields for each number that can have a range a line that says where it is and, of an EQU
-    line, how often it is used. The count of a block of prose is left out."""
+    """Yields where each number is that can have a range, and the uses of an EQU line."""
     prose = heads_of_prose(lines)
     for line, spots in spots_of(lines, ["equ", "a", "b"]):
         is_hidden = line.row in prose or line.word == "equ" and line.depth

@@ -72,8 +72,7 @@ def text_of(template, setting, totals=(None, None)):
 
 
 def finished(own, template, setting, totals):
-    """Returns the author's text of lines in which the places that are open have their values, with
-    EQU lines for range lines of one's own, and the line of this command."""
+    """Returns the text of the author's lines, with EQU lines for range lines, and STRATEGY."""
     end = "\r" if own[0].endswith("\r") else ""
     own = with_equs(own, template.values_by_name(setting), end)
     return "\n".join(with_strategy(own, strategy_line(template, setting, totals) + end)).encode(
@@ -160,8 +159,7 @@ def checked_text(args, template, setting, totals):
 
 
 def text_put_back(args, template, setting, totals, load_file):
-    """Returns the text of --original with the values of a setting. If it cannot have them all in
-    their places, a note says so, and nothing is returned."""
+    """Returns the text of --original with a setting's values; if it cannot, says why."""
     try:
         text = finished(original_lines(args, template, setting), template, setting, totals)
         if adapt(args.original, text, rules_of(args), args.program).load_file != load_file:

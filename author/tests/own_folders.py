@@ -50,8 +50,7 @@ class Fuzz:
         self.right = self.run_in_copy(lambda: None)
 
     def run_in_copy(self, damage):
-        """Damages a copy of the folder. Returns how the command ends: its status, the lines of its
-        output but `fights`, and its standard error."""
+        """Damages a copy of the folder. Returns status, output but `fights`, standard error."""
         removed(self.path)
         if self.name == "CERT.parts":
             removed(self.trial.folder / "CERT")
@@ -132,8 +131,7 @@ DAMAGES = [
 
 
 def in_process(module, words, folder):
-    """Runs a command in a copy of this process, which saves its start. Returns its status, what it
-    printed, and its standard error. It is ended after half a minute."""
+    """Runs a command in a copy of this process, which saves its start. Returns its result."""
     with tempfile.TemporaryFile() as out, tempfile.TemporaryFile() as err:
         sys.stdout.flush()
         if not (pid := os.fork()):

@@ -195,8 +195,7 @@ class Racing(Trial):
             status, out.startswith(b";@tune STEP "), b"\nstopped: the best so far is STEP=" in err))
 
     def stopped(self, words, signal_number, line=b""):
-        """Starts `cwtune-seek` and sends it a signal once the file `begun` is there, and it has
-        printed `line`. Returns its status and what it wrote."""
+        """Sends `cwtune-seek` a signal, once it has begun and printed `line`. Returns its end."""
         path = self.folder / "begun"
         with self.started(f"cwtune-seek {words} {RACED}", stdout=subprocess.PIPE,
                           stderr=subprocess.PIPE) as job:

@@ -27,8 +27,7 @@ class Kill(NamedTuple):
     after: int
 
     def met_job(self):
-        """Returns whether it met a run that had work done and was not at its end: such a run is
-        ended by the signal, and keeps more than was there before."""
+        """Returns whether it met a run that had work done and was not at its end."""
         return self.status < 0 and self.after > self.before
 
 
@@ -83,8 +82,7 @@ class SpreadTrial(Trial):
         return Kill(job.returncode, err.decode(), before, self.done(kind))
 
     def stop_in(self, piece, signal_number, *words):
-        """Ends `cwtune-spread` by a signal in a piece that a stand-in for `cwtune` does not end,
-        given as `--part=2/3`. Returns its status and its standard error."""
+        """Ends `cwtune-spread` by a signal in a piece that stays. Returns status and err."""
         begun = self.folder / "begun"
         self.write_program("stuck", f"""case "$*" in *{piece}*) touch {begun}; exec sleep 99;;
 *) exec {self.program} "$@";; esac""")
@@ -114,8 +112,7 @@ class SpreadTrial(Trial):
             removed(self.folder / name)
 
     def kill_by_chance(self, seed, moments, seconds, *words, kind="parts"):
-        """Kills `cwtune-spread` after each of the numbers of pieces `moments`, up to `seconds`
-        later, and compares what it says. Yields after each kill."""
+        """Kills `cwtune-spread` at some moments, and compares what it says. Yields after each."""
         dice, kills = random.Random(seed), []
         for pieces in moments:
             signal_number = dice.choice([signal.SIGKILL, signal.SIGINT, signal.SIGTERM])
@@ -148,7 +145,6 @@ def left_over(done, count, kind):
 
 
 def without_fights(result):
-    """Returns the result of a tuning in parts, with the lines of its report but `fights`: how many
-    fights are played depends on which part ends when."""
+    """Returns a result without the line `fights`, which depends on which part ends when."""
     lines = [line for line in result.out.splitlines() if not line.startswith("fights ")]
     return result.status, lines, result.err

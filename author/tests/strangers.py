@@ -54,7 +54,7 @@ sys.meta_path.insert(0, Finder())
 start.run("files")
 """
 READ = """from author.lib import files, watching; import sys
-watching.Watch.pause = 0; sys.argv = ['f', 'big.cert']; files.main()
+watching.PACE.pause = 0; sys.argv = ['f', 'big.cert']; files.main()
 """
 # Starts a command as a Python 3.10 does.
 OLD = """import runpy, sys; sys.version_info = (3, 10, 4, 'final', 0)

@@ -219,8 +219,7 @@ def name_of(test):
 
 
 def broke_off(fault):
-    """Returns that an exception ended a trial, and the last line of the trial that it came through.
-    A command that failed leaves less than a trial reads, so any exception may come of it."""
+    """Returns that an exception ended a trial, and the last line of the trial."""
     lines = [(pathlib.Path(frame.filename), frame.lineno)
              for frame in traceback.extract_tb(fault.__traceback__)]
     of_trials = [(path, number) for path, number in lines

@@ -250,8 +250,7 @@ class Varying(Trial):
         self.returned("all", 6)
 
     def returned(self, name, most):
-        """Compares the author's text of START, and those of the first and the last setting, with
-        the text that the template was made of. At most `most` lines differ."""
+        """Compares the texts of START, the first and the last setting with the original."""
         settings = int(self.cwtune(["settings", "t.red"]).out.split()[1])
         for setting in ["start", 0, settings - 1]:
             out = self.call(f"cwtune-warrior --setting={setting} t.red").out.split("\n")

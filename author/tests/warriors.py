@@ -71,8 +71,7 @@ class Warriors(Trial):
             0, True, note("step.cert.inputs is not there")), (status, line in out, err))
 
     def test_own_texts(self):
-        """Makes texts of templates with range lines of one's own, and with an older `;strategy`
-        line of this command; and the template with another START."""
+        """Makes texts of templates with own range lines, and an older `;strategy` line."""
         text = (";redcode\n;name N\n;strategy cwtune: old\n;strategy own\n;@tune K -2 2 1 0\n"
                 "MOV 0, K\n")
         large = (";strategy own\n;@text K EQU [K] ; own\n;@tune K 0 9999 1 7\n;@tune L 0 999 1 5\n"

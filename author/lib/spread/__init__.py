@@ -129,8 +129,7 @@ def explaining_stop(folder, progress):
 
 
 def run_jobs(args, folder, progress):
-    """Runs the pieces that are not done, if they are not those of a cluster. Returns for each its
-    fault or a text that says why it has no result, or None if it has one."""
+    """Runs the pieces that are not done, but those of a cluster. Returns the faults by number."""
     if not isinstance(folder, SpreadFolder):
         return {number: folder.fault(number) for number in progress.numbers_left()}
     faults = {}

@@ -51,8 +51,7 @@ class Part(NamedTuple):
         return int(self.report["total"].split()[0])
 
     def ranked(self):
-        """Returns a dict from settings, counted in the whole template, to total and constants: of
-        all that the report ranks, or of the best one if it ranks none."""
+        """Returns total and constants by setting of the whole: of what is ranked, or the best."""
         if not self.has_best():
             return {}
         best = self.report["best"], self.report["total"].split()[0], self.report["constants"]
@@ -140,8 +139,7 @@ class Parts(SpreadFolder):
                         "give --anew to throw them away and begin again", 2)
 
     def in_order(self, numbers):
-        """Returns the numbers of parts in the order in which these begin: that of START first.
-        Plays START alone, if other parts need its total as their floor."""
+        """Returns the numbers, that of START first. Plays START alone if others need its total."""
         with_start = next(number for number in range(1, self.piece_count + 1)
                           if self.template.start in self.settings(number))
         others = [number for number in numbers if number != with_start]

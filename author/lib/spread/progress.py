@@ -2,7 +2,7 @@
 import sys, time
 
 from ..endings import tell
-from ..watching import rewrite
+from ..watching import Pace, rewrite
 from .report import best_of, index_of, summed
 
 # Seconds from a line in a log to the next.
@@ -14,7 +14,8 @@ class Progress:
     of what is done: at a terminal, and with `in_log` every PAUSE seconds elsewhere."""
 
     def __init__(self, folder, in_log):
-        self.folder, self.in_log, self.shown, self.last_line_at = folder, in_log, "", -PAUSE
+        self.folder, self.in_log, self.shown, self.pace = folder, in_log, "", Pace(PAUSE)
+        self.pace.told_at = -PAUSE  # the first line comes at once
         numbers = range(1, folder.piece_count + 1)
         self.results = {number: folder.result(number) for number in numbers}
         self.began_at, self.settings_before = time.monotonic(), self.settings_done()
@@ -32,9 +33,8 @@ class Progress:
             if line != self.shown:
                 rewrite(line)
             self.shown = line
-        elif self.in_log and time.monotonic() - self.last_line_at >= PAUSE:
+        elif self.in_log and self.pace.is_due():
             tell(self.line())
-            self.last_line_at = time.monotonic()
 
     def clear(self):
         if self.shown:

@@ -218,8 +218,7 @@ def draw_effect(number, effect, y_scale, winner_value, texts):
 
 
 def draw_effects(effects, winner_values, lists):
-    """Draws the effects of all constants to one scale, so that they can be compared. Returns a
-    picture for each. `lists` has those of constants that are indices, by name."""
+    """Draws the effects of all constants to one scale. Returns a picture for each."""
     means = [pair for effect in effects for pair in zip(effect["means"], effect["errors"])]
     ends = [mean + sign * error for mean, error in means if mean is not None for sign in (-1, 1)]
     y_scale = y_scale_of(ends, 140)

@@ -167,8 +167,7 @@ class StudyFolder(OwnFolder):
             errors="surrogateescape"))
 
     def log_command(self, words, output_name, seconds, messages=()):
-        """Adds a command to the log. The default program is logged as `cwtune`, without --program.
-        `messages` are the lines that it wrote on standard error."""
+        """Adds a command to the log, with the default program as `cwtune`."""
         if self.program == DEFAULT:
             words = ["cwtune" if word == self.program else word for word in words
                      if word != f"--program={self.program}"]

@@ -78,8 +78,7 @@ def is_range(word):
 
 
 def opponents_named(parser, word):
-    """Returns the opponents that a word names: a file, or of a folder all *.red by their names;
-    with `=N` after it, their fights count N times."""
+    """Returns the opponents of a word: a file, or a folder's *.red; by `=N` they count N times."""
     path, _, weight = word.rpartition("=")
     if os.path.exists(word) or not os.path.exists(path):
         path, weight = word, "1"

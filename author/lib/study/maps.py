@@ -75,8 +75,7 @@ def greatest(totals):
 
 
 def thinned(landscape, most=MOST_SQUARES):
-    """Returns how many values of each constant become one, so that there are at most `most`
-    squares, and the landscape of the greatest totals."""
+    """Returns how many values become one, for at most `most` squares, and the greatest totals."""
     step, totals = 1, landscape.totals
     while -(-len(totals) // step) * -(-len(totals[0]) // step) > most:
         step += 1

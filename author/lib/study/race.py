@@ -87,8 +87,7 @@ class RaceOfStudy:
         return math.prod(min(2 * reach + 1, len(values)) for values in self.grid.ranges)
 
     def rounds(self, fights):
-        """Returns how many fights the box plays against each opponent after a race of `fights`; 0
-        if there is room for too few. None is no limit."""
+        """Returns the box's fights against each opponent after a race; 0 if they are too few."""
         if self.args.certify or fights is None:
             return self.args.rounds
         plays = self.most_settings(self.reach()) * len(self.study.opponents)
@@ -96,8 +95,7 @@ class RaceOfStudy:
         return min(self.args.rounds, rounds) if rounds >= LEAST_ROUNDS else 0
 
     def tune_box(self, race):
-        """Tunes the box around the race's winner, in fights that the race did not play. Returns
-        its settings, and what that used of the budget; `check` is what the check said, if any."""
+        """Tunes the box around the winner, in new fights. Returns what that used of the budget."""
         folder, began_at, winner = self.folder, time.monotonic(), race["winner"]
         ranges, rounds = self.grid.box(winner, self.reach()), self.rounds(race["fights"])
         settings = math.prod(map(len, ranges))

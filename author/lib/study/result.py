@@ -62,8 +62,7 @@ def fresh_fights(points, study):
 
 
 def gain(points, study):
-    """Returns the gain over START as the report has it, whole and by opponent. `points` are those
-    of the winner and of START; without them there is no gain."""
+    """Returns the gain over START, whole and by opponent, or None without points of both."""
     difference = points and gain_of(points, study.args.weights)
     if not difference:
         return None
