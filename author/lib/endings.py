@@ -126,10 +126,8 @@ def words_of(error):
 
 
 def say(word, message, status):
-    """Writes a line on standard error, whatever bytes a name in it has, and returns the status.
-
-    If the line cannot be written, the status alone reports the fault.
-    """
+    """Writes a line on standard error, whatever bytes a name in it has. Returns the status, which
+    alone reports the fault if the line cannot be written."""
     try:
         print(f"{word}: {escaped(message)}", file=sys.stderr, flush=True)
     except OSError:

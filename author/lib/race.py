@@ -40,11 +40,8 @@ SETTINGS_AT_ONCE, BLOCKS_AT_ONCE = 48, 16
 
 
 class Contender:
-    """A setting in the race: its values, and the blocks that it played.
-
-    A rate is the points as a part of the greatest total. `guess` is what the setting was thought to
-    make before it played.
-    """
+    """A setting in the race: its values, and the blocks that it played. A rate is the points as a
+    part of the greatest total. `guess` is what the setting was thought to make before it played."""
 
     def __init__(self, values, guess=0.0):
         self.values, self.guess, self.assembles = values, guess, True
@@ -210,9 +207,8 @@ class Race:
         return ranked
 
     def knock_out(self, settings, counts, kept, limit):
-        """Plays settings in heats of fresh blocks, which alone count. `counts` says how many play
-        in each heat, the best so far; the setting `kept` plays in all. Returns the settings as new
-        contenders, the best first."""
+        """Plays settings in heats of fresh blocks, which alone count, `counts` of them in each heat
+        and `kept` in all. Returns the settings as new contenders, the best first."""
         players, out = [Contender(values) for values in settings], []
         for heat, count in enumerate(counts if len(players) > 1 else ()):
             out = [player for player in players[count:] if player.values != kept] + out

@@ -78,11 +78,8 @@ class Settings(collections.abc.Sequence):
 
 
 class Template(Grid):
-    """A template as `cwtune` takes it.
-
-    `settings` are the values of its settings in their order, in which the first constant changes
-    slowest, and `start` is the index of START.
-    """
+    """A template as `cwtune` takes it. `values_of_settings` has the values of its settings, the
+    first constant changing slowest, and `start` is the index of START."""
 
     def __init__(self, path):
         super().__init__(path)
@@ -236,12 +233,9 @@ class Ranked(collections.abc.Sequence):
 
 
 class Ranking(NamedTuple):
-    """What a certificate shows of the ranking.
-
-    `full` has total and index of each setting that played all fights, the best first; `dropped` is
-    how many settings were dropped, and `exact` how many of the first are exact: no cap of a dropped
-    setting beats them.
-    """
+    """What a certificate shows of the ranking. `full` has total and index of each setting that
+    played all fights, the best first; the caps of `dropped` settings beat none of the first
+    `exact`."""
 
     full: Ranked
     dropped: int

@@ -172,9 +172,8 @@ def source_of(parser, args):
 
 
 def checked(args, source):
-    """Returns a text with what is open in it. Refuses openings whose START is not the warrior of
-    the text. For this each constant has its START alone, as `cwtune` takes at most a million
-    settings."""
+    """Returns a text with what is open in it. Refuses openings whose START is another warrior.
+    START is alone for that, as `cwtune` takes at most a million settings."""
     varied = Varied(args.warrior, source, args.ranges)
     load_file = load_file_of_source(args, source)
     refuse_other_warrior("with range lines", varied.template(True), load_file, args.program,

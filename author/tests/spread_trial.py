@@ -129,8 +129,7 @@ class SpreadTrial(Trial):
 
     def write_ranked(self):
         """Writes a template of 12 settings: three total 4, START among them, two do not assemble,
-        and the others total 3. Also writes a stand-in for `cwtune` that notes its words, and the
-        range line of a part's template."""
+        the others total 3. A stand-in for `cwtune` notes its words and the ranges of parts."""
         self.write("steps.red", ";@tune K 0 11 1 5\nJMP K % 5\nDAT 8/(K-3), 7/(K-9)\n")
         self.write_program("noting", f"""echo "$*" >> {self.folder}/words
 for word; do case $word in [0-9]*.red) grep '^;@tune' $word >> {self.folder}/ranges;; esac; done

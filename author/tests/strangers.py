@@ -298,9 +298,8 @@ class Endings(Trial):
         return list(map(int, (self.read("pids") or b"").split()))
 
     def ended_by(self, signal_number, words):
-        """Sends a command a signal once a stand-in for `cwtune` runs, which notes its process id
-        when it tunes, and does not end. Returns the status, and which stand-ins are left running
-        after a second."""
+        """Sends a command a signal once a stand-in for `cwtune`, which does not end, tunes. Returns
+        the status, and which stand-ins are left running after a second."""
         self.write_program("stuck", f"""case "$1 $*" in
 tune*4294967295*|asm*|settings*|--version*) exec {self.program} "$@";; esac
 echo $$ >> {self.folder}/pids; exec sleep 99""")

@@ -108,11 +108,8 @@ class SpreadFolder(Pieces, OwnFolder):
     SENT_KINDS = []
 
     def __init__(self, args, given_path, copies, options, piece_count, setting_count):
-        """Opens the folder, and makes it if it is new.
-
-        `copies` are the files of which its pieces are made, and `options` what else they depend on,
-        by kind. A folder that is not new keeps the counts of its mark.
-        """
+        """Opens or makes the folder, of the files `copies` and by kind of what else pieces depend
+        on. A folder that is not new keeps the counts of its mark."""
         super().__init__(given_path)
         self.copies, self.input_options, self.pid = copies, options, os.getpid()
         self.work = self.path  # what hosts keep of it is known by this name

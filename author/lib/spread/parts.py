@@ -61,9 +61,8 @@ class Part(NamedTuple):
 
 
 def read_report(text):
-    """Returns the lines of a report by their first words, and of the lines `rank` a list: nothing
-    for an empty text, as of a part without a candidate. Raises a ValueError if it is not a report,
-    or was cut."""
+    """Returns the lines of a report by their first words, of the lines `rank` a list; nothing for
+    an empty text. Raises a ValueError if it is not a report, or was cut."""
     if not text:
         return {}
     if not REPORT.fullmatch(text):

@@ -183,8 +183,7 @@ class StudyFolder(OwnFolder):
 
     def run(self, words, output_name, logs_messages=True):
         """Runs a command in the folder, with its output in a file there. Its fault is this
-        command's. With `logs_messages` the log gets what it says on standard error, too. Returns
-        these lines."""
+        command's. Returns the lines of standard error, for the log, if it `logs_messages`."""
         began_at = time.monotonic()
         argv = words
         if words[0].startswith("cwtune-"):

@@ -68,9 +68,8 @@ class Heat:
 
 
 def seed_of(args, number):
-    """Returns the first position of a heat: another one than that of the schedule and of the other
-    heats, if there are enough positions. A series that begins at the least position never leaves
-    it."""
+    """Returns the first position of a heat, one of its own if there are enough. A series that
+    begins at the least position never leaves it."""
     rules = rules_of(args)
     low, high = rules.distance + 1, rules.core - rules.distance
     return low + (args.seed + number - low) % (high - low + 1) if low <= high else rules.distance

@@ -144,10 +144,8 @@ def read_inputs(parser, args):
 
 
 def refuse_start(args, grid):
-    """Refuses a template whose START does not assemble.
-
-    For this each constant has its START alone, as `cwtune` takes at most a million settings.
-    """
+    """Refuses a template whose START does not assemble. START is alone in it here, as `cwtune`
+    takes at most a million settings."""
     with temporary_file(args.warrior, grid.line_through(grid.start_values, ())) as path:
         refuse_text(args, f"START of {args.warrior}", "--setting=start", "--",
                     os.path.basename(path), cwd=os.path.dirname(path))

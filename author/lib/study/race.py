@@ -115,9 +115,8 @@ class RaceOfStudy:
                 "check": tuned["check"] if self.args.certify else None}
 
     def challenge(self, race, box):
-        """Has the first of the box play against the race's winner. Returns the best of the box;
-        its points and the winner's in fights that did not pick it; and, if these show that it is
-        better, its points and START's in further fights."""
+        """Has the first of the box play against the winner. Returns the best; the points of both in
+        other fights; and, if it is better, its and START's in further ones."""
         winner, box_of = tuple(race["winner"]), Template(self.folder.path / "box.red")
         first = [box_of.values_of_settings[setting] for setting in self.study.first_settings()]
         others = [values for values in first if values != winner]

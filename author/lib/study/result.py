@@ -27,9 +27,8 @@ class Box:
         return sum(not self.cert.assembles(setting) for setting in range(self.cert.count))
 
     def landscape(self, winner):
-        """Returns the totals over the first two constants, with the others as the winner has them:
-        for each value of the first a list of those of the second. Of one constant they are a list
-        with one list."""
+        """Returns the totals over the first two constants, the others held as the winner's: a list
+        for each value of the first. Of one constant they are a list with one list."""
         template = self.template
         held = template.values_of_settings[winner][2:]
         totals = [None if math.isnan(total) else total
