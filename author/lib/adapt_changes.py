@@ -117,7 +117,6 @@ class Finder:
             self.cannot(text, word)
 
     def given_name(self, text, source, root, name):
-        """Looks at a name that pMARS has from the start."""
         if name == "ROUNDS":
             self.cannot(text, name)
         elif name == "PSPACESIZE" and source.root:
@@ -278,7 +277,6 @@ class Finder:
         return joined(parts, "\n        ")
 
     def write_out(self, at, root, known, new=None):
-        """Puts the text of an EQU in place of its name."""
         if not known.is_given:
             self.add(at, root, self.text_of(known) if new is None else new,
                      f"{self.word(at.index, root)} is written out")

@@ -12,7 +12,6 @@ MOST_COPIES = 4096
 
 
 def changed(line, changes):
-    """Returns the lines that come of a line."""
     if any(change.new is None for change in changes):
         return []
     for change in sorted(reversed(changes), key=Change.where, reverse=True):

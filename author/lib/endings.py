@@ -140,7 +140,6 @@ def note(text):
 
 
 def tell(line):
-    """Writes a line on standard error."""
     print(line, file=sys.stderr, flush=True)
 
 

@@ -44,19 +44,16 @@ class FreshPoints(NamedTuple):
         return 100 * sum(map(math.prod, zip(means, weights))) / sum(weights)
 
     def error(self):
-        """Returns the standard error of the mean, in percent."""
         weights = self.opponent_weights
         errors = map(math.prod, zip(map(error_of_mean, self.by_opponent), weights))
         return 100 / 3 * math.hypot(*errors) / sum(weights)
 
     def numbers(self):
-        """Returns points, fights, and the mean with its error."""
         return {"points": sum(map(sum, self.by_opponent)),
                 "fights": sum(map(len, self.by_opponent)), "percent": self.mean(),
                 "error": self.error()}
 
     def minus(self, other):
-        """Returns the differences of the points, fight by fight."""
         pairs = zip(self.by_opponent, other.by_opponent)
         return FreshPoints([[more - less for more, less in zip(*pair)] for pair in pairs],
                            self.opponent_weights)
@@ -149,7 +146,6 @@ class Holdout:
                 "fresh": self.fresh_points(setting).numbers()}
 
     def print_setting(self, name, player):
-        """Prints what a setting made in the tuning, and makes in the fresh fights."""
         total, greatest = player["total"], self.fights.greatest
         tuned = "dropped" if total is None else (
             f"{total} of {greatest} ({100 * total / greatest:.1f}%)")
@@ -174,7 +170,6 @@ class Holdout:
         return "START", self.fresh_points(start) if is_other else None
 
     def print_comparison(self):
-        """Compares the best setting with the warrior of --against, or with START."""
         start, (other, points) = self.template.start, self.other()
         if self.args.against:
             print(f"{other}: fresh {points}")
@@ -189,7 +184,6 @@ class Holdout:
             print(f"over {other}, setting {self.cert.best}: {gain_text(gain_numbers(gain))}")
 
     def print_dropped(self):
-        """Prints how far the ranking is exact, if settings were dropped."""
         _, dropped, exact = self.ranking
         if dropped:
             verb = "was" if dropped == 1 else "were"

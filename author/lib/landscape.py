@@ -29,7 +29,6 @@ BEST_MARK = {"marker": "*", "markersize": 16, "color": "red", "markeredgecolor":
 
 
 def load_pyplot():
-    """Returns matplotlib.pyplot, or ends and says which package has it."""
     # Settings of a file would change the picture, and one in the current folder may be anybody's.
     os.environ["MATPLOTLIBRC"] = os.devnull
     try:
@@ -88,7 +87,6 @@ class Totals:
 
 
 def draw_line(plot, totals):
-    """Draws the totals over one constant."""
     figure, axes = plot.subplots(figsize=(8, 4.5))
     template, best = totals.template, totals.best
     values = template.ranges[0]
@@ -151,7 +149,6 @@ def grid_of(plot, count, **sharing):
 
 
 def draw_maps(plot, totals, x, y):
-    """Draws a map over the constants x and y for each choice of the others."""
     names, ranges = totals.template.names, totals.template.ranges
     shown = [[totals.template.shown_value(name, value) for value in values]
              for name, values in zip(names, ranges)]
@@ -197,7 +194,6 @@ def effect_of(template, totals, constant):
 
 
 def draw_effects(plot, totals):
-    """Draws for each constant the mean total of each of its values, with its standard error."""
     if totals.greys():
         raise Fault("settings were dropped: the means need a certificate of `cwtune tune --all`")
     template = totals.template

@@ -107,7 +107,6 @@ class OwnFolder:
 
     @contextlib.contextmanager
     def room(self, name):
-        """Gives a block the room of this name, or None if there is none."""
         if not name:
             yield self.top
             return
@@ -156,7 +155,6 @@ class OwnFolder:
 
     @contextlib.contextmanager
     def whole_file(self, name, mode="w"):
-        """Opens a new file, which replaces the file `name` once all is written to it."""
         with (naming(f"{self.given_path}/{name}"), self.room_of(name) as (room, file_name),
               replacing(room.descriptor, file_name, mode) as file):
             yield file
@@ -177,7 +175,6 @@ class OwnFolder:
             file.write(text)
 
     def digest(self, name):
-        """Returns the size and the digest of a file, or None if it is not there."""
         try:
             with self.room_of(name) as (room, file_name):
                 return digest_of(**room.place(file_name))

@@ -75,7 +75,6 @@ class Line(NamedTuple):
         return span if span and self.is_own(span) else None
 
     def decimals(self, field):
-        """Returns the spans of all numbers of a field."""
         spans = [Span(*match.span()) for match in NUMBER.finditer(self.text, *self.fields[field])]
         return [span for span in spans if self.is_own(span)]
 
@@ -175,7 +174,6 @@ def number_of(adapted, row, column):
 
 
 def hide_fields(lines):
-    """Takes from lines the fields that are no places."""
     equs = {name: line for line in lines if line.word == "equ" and "equ" in line.fields
             for name in line.labels}
     for line in lines:

@@ -143,7 +143,6 @@ class Instruction:
                              else otherwise)
 
     def value(self, operand):
-        """Returns the value of an operand's expression, 0 if it is empty."""
         chars = operand.chars
         if not chars.text:
             return 0

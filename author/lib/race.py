@@ -48,7 +48,6 @@ class Contender:
         self.blocks, self.sum_of_rates = 0, 0.0
 
     def add(self, rates):
-        """Adds the rates of some blocks. They are None if the setting does not assemble."""
         if rates is None:
             self.assembles = False
         else:

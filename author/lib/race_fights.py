@@ -45,7 +45,6 @@ class Budget(NamedTuple):
     seconds: float | None = None
 
     def used(self, fights, seconds):
-        """Returns which part of the budget is used by some fights that took some seconds."""
         parts = [fights / self.fights] if self.fights else []
         if self.seconds:
             parts.append(seconds / max(0.001, self.seconds * (1 - END_PART) - END_SECONDS))
@@ -127,7 +126,6 @@ class Arena:
         return blocks
 
     def blocks_to_come(self, count):
-        """Returns the next `count` blocks, each a tuple of fights."""
         numbers = range(self.block_count, self.block_count + count)
         return [tuple(positions.fight(opponent, number)
                       for opponent, positions in enumerate(self.positions)) for number in numbers]
@@ -137,7 +135,6 @@ class Arena:
         return self.new_blocks(max(1, min(TRIAL_BLOCKS, TRIAL_FIGHTS // len(self.opponents))))
 
     def rates(self, contenders, blocks):
-        """Returns the rates of contenders in blocks, or None for one that does not assemble."""
         greatest = 3 * sum(self.weights)
         return [points and [sum(map(operator.mul, self.weights, map(int, block))) / greatest
                             for block in points] for points in self.play(contenders, blocks)]
@@ -164,7 +161,6 @@ class Arena:
         return record["points"]
 
     def run(self, settings, blocks):
-        """Plays settings in blocks, several processes side by side."""
         firsts = range(0, len(blocks), BLOCKS_OF_PROCESS)
         for piece in firsts:
             fights = (fight for block in blocks[piece:piece + BLOCKS_OF_PROCESS] for fight in block)
@@ -188,7 +184,6 @@ class Arena:
                 "/dev/stdout", *opponents]
 
     def run_process(self, number, piece):
-        """Plays a setting in a piece of the blocks. Returns its points, or None."""
         began_at = time.monotonic()
         words = self.words(self.args.program, self.folder / f"{number}.red",
                            self.folder / f"{piece}.csv", self.opponents)
@@ -209,7 +204,6 @@ class Arena:
             return points_of(stdout.split(b"\n", 3)[2], len(self.opponents))
 
     def tell_estimate(self, what):
-        """Prints about how long the budget lasts, by the fights so far."""
         if not self.seconds_of_jobs:
             tell(f"{what}: goes on where it was stopped")
             return
@@ -224,7 +218,6 @@ class Arena:
 
 
 def duration(seconds):
-    """Returns a time in words, in the unit that fits."""
     if seconds < 100:
         return counted(max(1, round(seconds)), "second")
     if seconds < 6000:
@@ -233,7 +226,6 @@ def duration(seconds):
 
 
 def add_budget(parser):
-    """Adds the options of a race to the words of a command."""
     group = parser.add_argument_group("race")
     group.add_argument("--fights", type=number_from(1000), metavar="N", help="end after N fights, "
                        f"1000 or more [default: {DEFAULT_FIGHTS}, unless --minutes is given]")

@@ -79,7 +79,6 @@ class PiecesFolder:
                 *self.arena.words("./cwtune", "setting.red", f"{name}.csv", self.opponents)]
 
     def result(self, number, status):
-        """Returns the points of a piece, by setting and block."""
         piece, fault = self.pieces[number], self.file(number, "fault").read_bytes()
         if status:
             raise fault_of(subprocess.CompletedProcess(["cwtune"], status, b"", fault))

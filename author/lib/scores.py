@@ -39,7 +39,6 @@ def score_of(opponent, points, fights):
 
 
 def print_scores(title, scores):
-    """Prints wins, ties and losses of a setting against each opponent."""
     print(title)
     if scores["opponents"] is None:
         print("    does not assemble")
@@ -50,7 +49,6 @@ def print_scores(title, scores):
 
 
 def print_first(numbers, template, wanted):
-    """Prints the first `wanted` settings of the ranking, as far as the certificate shows it."""
     played_all, dropped = counted(numbers["played_all"], "setting"), numbers["dropped"]
     print(f"{played_all} played all fights, {dropped} {'was' if dropped == 1 else 'were'} dropped"
           if dropped else f"best of {played_all}")
@@ -95,7 +93,6 @@ class Warriors:
 
 
 def idle_text(constant):
-    """Returns a text that says how often a constant changes nothing."""
     if constant["values"] == 1:
         return "only one value"
     text = f"{constant['same']} of {constant['choices']}"

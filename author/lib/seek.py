@@ -29,7 +29,6 @@ from .writing import temporary_folder
 
 
 def print_outcome(grid, outcome, weights):
-    """Prints what was found, and by how much it is better than START."""
     tell(f"found: {grid.constants_of(outcome.winner)}")
     if outcome.winner == grid.start_values:
         note("it is START: the race found nothing better")

@@ -46,7 +46,6 @@ class Slot(NamedTuple):
         return f"({terms})"
 
     def text_of(self, value):
-        """Returns what the author's line has for a value of the constant."""
         return self.texts[value] if self.texts else str(value)
 
 

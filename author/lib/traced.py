@@ -58,7 +58,6 @@ class Traced:
 
 
 def joined(parts, between):
-    """Returns texts as one, with `between` between them."""
     whole = parts[0]
     for part in parts[1:]:
         whole = whole + between + part

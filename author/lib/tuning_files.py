@@ -197,7 +197,6 @@ class AnyCertificate:
         return self.twins[setting] if self.assembles(setting) else setting
 
     def items(self, setting):
-        """Yields the fights that a setting played, with their points."""
         twin = self.twin(setting)
         place = slice(self.starts[twin], self.starts[twin + 1])
         return zip(self.listed[place], self.made[place])

@@ -135,7 +135,6 @@ def total_of_start(cert, template, schedule):
 
 
 def print_pmars_notes(text):
-    """Notes on standard error which lines pMARS refuses or cuts."""
     for number, line in enumerate(text.split(b"\n"), 1):
         code = line.partition(b";")[0]
         if len(line) > MOST_LINE_BYTES:

@@ -80,7 +80,6 @@ def counted(number, noun):
 
 
 def add_built(parser):
-    """Adds a program to the words of a module of a room."""
     parser.add_argument("program", nargs="?", default=BUILT, metavar="PROGRAM",
                         help="the program cwtune [default: the one built here]")
 
@@ -93,7 +92,6 @@ def program_word(module, docstring):
 
 
 def add_files(parser, *names):
-    """Adds the files of a tuning to the words of a command."""
     for name in names:
         parser.add_argument(name, metavar=name.upper(), help=FILE_HELP[name],
                             nargs="+" if name == "opponent" else None)

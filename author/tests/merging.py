@@ -64,7 +64,6 @@ class Merging(SpreadTrial):
                   (ended, jobs.waiting, jobs.fault))
 
     def test_idle_hosts(self):
-        """Runs a stand-in for GNU parallel that ends at once."""
         with self.parallel("exit 9\n"):
             self.same("parts without a result", (
                 3, "", "failed: no result for parts 1, 2, 3 of 3 (GNU parallel ended with status "
@@ -81,7 +80,6 @@ class Merging(SpreadTrial):
         self.same(name, (expected, None, None), (came, self.read("CERT"), self.read("CERT.whole")))
 
     def test_merged(self):
-        """Runs the parts as jobs of a cluster do, and puts them together."""
         unbroken = self.found(DECOY, self.spread("--parts=3", *DECOY))
         self.clear()
         self.run_jobs(3, *DECOY)
@@ -124,7 +122,6 @@ class Merging(SpreadTrial):
                   self.spread("--merge=4", *DECOY).status)
 
     def test_damaged(self):
-        """Damages what a job of a cluster left, with its CERT.I.inputs."""
         self.run_jobs(3, *DECOY)
         cert, report = self.read("CERT.2"), self.read("CERT.2.report")
         for name, text in {"changed": cert.replace(b":0", b":1", 1), "cut": cert[:-9],
@@ -143,7 +140,6 @@ class Merging(SpreadTrial):
             2, "", "error: CERT.2.inputs is malformed\n"))
 
     def test_damaged_without_inputs(self):
-        """Damages a certificate that a job of a cluster left, without its CERT.I.inputs."""
         self.run_jobs(3, *DECOY)
         (self.folder / "CERT.2.inputs").unlink()
         cert = self.read("CERT.2")

@@ -89,7 +89,6 @@ class Origins(Trial):
                 self.refused(usage_errors(words, {"": f"give {missing}: {why_unused}"}))
 
     def test_writers(self):
-        """Has `cwtune-spread` write what `tune` writes."""
         version_line = run_program(self.program, "--version").stdout.decode()
         version = version_line.removeprefix("cwtune ").strip()
         for words in [["--all", *TUNE], TUNE]:

@@ -168,7 +168,6 @@ class OwnFolders(SpreadTrial, StudyTrial):
         self.same(name, (expected, files), (came, self.texts_of("victim")))
 
     def test_links_of_studies(self):
-        """Puts links to files and folders of the user in a study."""
         self.same("a study", 0, self.study(*STUDY).status)
         shutil.copytree(self.folder / "t.study", self.folder / "kept")
         secret = {"opponents": [["secret", ""]]}
@@ -199,7 +198,6 @@ class OwnFolders(SpreadTrial, StudyTrial):
         self.same("a path through a link", 0, self.study("--out=below/kept", *STUDY).status)
 
     def test_links_of_spreads(self):
-        """Puts links to files and folders of the user in a folder of parts."""
         for name, target in [("whole.cert", "../victim/secret"), ("4.done", "../victim/none"),
                              ("spread.json", "../victim/secret"), ("1.2.red", "../victim/secret")]:
             self.unfinished(*PARTS)

@@ -79,7 +79,6 @@ class Racing(Trial):
         return self.call(f"cwtune-seek {files}", *words, **options)
 
     def raced(self, records=()):
-        """Returns a made-up arena, and the outcome of a race in it."""
         self.write("hidden.red", HIDDEN)
         values = grid.Grid(self.folder / "hidden.red")
         arena = MadeUpArena(values, 20000, records)
@@ -104,7 +103,6 @@ class Racing(Trial):
                   len(outcome.points[0][0]))
 
     def test_goes_on(self):
-        """Begins a race again with the first of its records."""
         arena, outcome = self.raced()
         for count in [0, 1, 7, len(arena.records) // 2, len(arena.records)]:
             again, outcome_again = self.raced(arena.records[:count])

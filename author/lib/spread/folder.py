@@ -61,7 +61,6 @@ class Pieces:
     """The pieces of a tuning or a check: `piece_count` of them, with `setting_count` settings."""
 
     def settings(self, number):
-        """Returns the settings of a piece, a range."""
         return range((number - 1) * self.setting_count // self.piece_count,
                      number * self.setting_count // self.piece_count)
 
@@ -163,7 +162,6 @@ class SpreadFolder(Pieces, OwnFolder):
         return mark
 
     def put_back_copies(self):
-        """Copies the inputs of which no copy is there."""
         for copy in self.copies:
             if not os.access(copy.name, os.F_OK, dir_fd=self.top.descriptor):
                 with open_regular(copy.source) as source, self.whole_file(copy.name, "wb") as file:
@@ -188,7 +186,6 @@ class SpreadFolder(Pieces, OwnFolder):
         """Writes what only this piece reads, the files of the kinds `SENT_KINDS`."""
 
     def file(self, number, kind):
-        """Returns where this run writes something of a piece."""
         return self.path / f"{number}.{self.pid}.{kind}"
 
     def fault(self, number, status):

@@ -98,7 +98,6 @@ class HostJobs:
             raise
 
     def begin(self):
-        """Starts GNU parallel for the jobs that wait."""
         host_count = self.ready_hosts()
         self.started, self.statuses, self.is_over = list(self.waiting), {}, False
         self.pack_inputs()
@@ -139,7 +138,6 @@ class HostJobs:
         return len(ready)
 
     def pack_inputs(self):
-        """Packs all that a host has to have."""
         folder = self.folder
         with tarfile.open(self.inputs, "w") as archive:
             archive.add(SCRIPT, "job")
@@ -198,7 +196,6 @@ class HostJobs:
                     f"GNU parallel ended with status {self.parallel.returncode}")
 
     def returned(self):
-        """Returns the numbers of the jobs of which an archive came back."""
         names = set(os.listdir(self.folder.path))
         return [number for number in self.waiting if self.folder.file(number, "tar").name in names]
 

@@ -47,7 +47,6 @@ class Part(NamedTuple):
         return bool(self.report) and not self.is_below()
 
     def total(self):
-        """Returns the total of its best setting."""
         return int(self.report["total"].split()[0])
 
     def ranked(self):
@@ -90,7 +89,6 @@ class ClusterParts(ClusterPieces):
         return pathlib.Path(f"{self.given_path}.{number}")
 
     def result(self, number):
-        """Returns what came of a part, or None if it has no result."""
         try:
             fault, report = self.read(number, "fault"), read_report(self.read(number, "report"))
         except (FileNotFoundError, ValueError):
@@ -225,7 +223,6 @@ class Parts(SpreadFolder):
         return part
 
     def whole(self):
-        """Returns where the certificate of the whole template is put together."""
         return self.path / "whole.cert"
 
     def writing_whole(self):

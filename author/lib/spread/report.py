@@ -18,7 +18,6 @@ def best_of(parts):
 
 
 def index_of(part):
-    """Returns the index of the part's best setting within the whole template."""
     return part.settings.start + int(part.report["best"])
 
 
@@ -82,7 +81,6 @@ def rows_of(folder, number, part):
 
 
 def write_whole(folder, parts):
-    """Writes the certificate of the whole template, given the parts by number."""
     best = best_of(parts.values())
     number = next(number for number, part in parts.items() if part is best)
     with reading(folder, number) as path, open_regular(path) as file:

@@ -64,7 +64,6 @@ def first_rejection(rejections, cert):
 
 
 def keep_words(keep):
-    """Returns how many of the ranking are asked for as words of `tune` and `check`."""
     return [f"--keep={keep}"] if keep > 1 else []
 
 
@@ -126,7 +125,6 @@ class Shares(SpreadFolder):
         return self.fault(number, status)
 
     def result(self, number):
-        """Returns what a share printed, or None if it is not done."""
         text = self.read_done(number)
         return text and verdict_in(text, number, self.piece_count, self.keep)
 

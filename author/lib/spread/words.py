@@ -26,7 +26,6 @@ def add_options(parser):
 
 
 def add_jobs(parser):
-    """Adds the options of where the jobs run, and of how they are split."""
     group = parser.add_argument_group("jobs")
     group.add_argument("--jobs", type=number_from(1), default=os.cpu_count(), metavar="N",
                        help="jobs that run side by side, on each host "
@@ -45,7 +44,6 @@ def add_jobs(parser):
 
 
 def add_search(parser):
-    """Adds the options of how a part is tuned."""
     group = parser.add_argument_group("search")
     group.add_argument("--keep", type=number_from(1, MOST_KEPT), default=1,
                        metavar="K", help="find and check the first K of the ranking, as "

@@ -132,7 +132,6 @@ class Study:
         return {"tuning": tuning, "winner": winner, "points": points, "last_points": last_points}
 
     def tell_estimate(self, grid):
-        """Prints about how long the tuning and its check take, by some fights of START."""
         fights = 2 * grid.count() * self.args.rounds * len(self.names)
         paths = [str(self.folder.path / path) for path in self.opponents]
         with (temporary_folder() as folder,
@@ -186,7 +185,6 @@ def print_raced(report):
 
 
 def print_end(folder, report):
-    """Prints what the study found, and where its files are."""
     gain = report["gain"]
     print_raced(report) if report["race"] else print_tuned(report)
     if gain and report["winner"]["values"] != report["start"]["values"]:

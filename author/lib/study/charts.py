@@ -173,7 +173,6 @@ def dots(points):
 
 
 def marks(points, start_index, winner_index):
-    """Yields the marks of START and of the winner. Their indices may be None."""
     for index, radius, style in [(start_index, 5.5, "mark-start"), (winner_index, 5, "own")]:
         if index is not None and points[index][1] is not None:
             yield circle(*points[index], radius, style)
@@ -188,7 +187,6 @@ def y_scale_of(heights, bottom):
 
 
 def draw_line(axis, totals, start_index, winner_index):
-    """Draws totals over the values of one constant. START and the winner may be None."""
     y_scale = y_scale_of(totals, 210)
     points = points_of(axis, y_scale, totals)
     elements = [*draw_axes(axis, y_scale), curve(points), *dots(points),

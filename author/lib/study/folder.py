@@ -177,7 +177,6 @@ class StudyFolder(OwnFolder):
                                     "said": list(messages)})
 
     def log_note(self, text, seconds):
-        """Adds to the log what no command does."""
         self.stage_commands.append({"command": f"# {text}", "seconds": round(seconds, 2),
                                     "said": []})
 

@@ -33,7 +33,6 @@ class Heat:
         return f"fresh/{player}-{self.number}"
 
     def prepare(self, player):
-        """Notes when the run of a player begins."""
         self.began_at[player] = time.monotonic()
 
     def words(self, player):

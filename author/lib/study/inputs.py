@@ -100,7 +100,6 @@ def weights_of(parser, opponents, by_kind):
 
 
 def paths_of(word):
-    """Returns the files that a word names: itself, or of a folder all *.red by their names."""
     if not os.path.isdir(word):
         return [word]
     names = sorted(name for name in os.listdir(word) if name.endswith(".red"))
@@ -122,7 +121,6 @@ def settle_options(parser, args):
 
 
 def read_inputs(parser, args):
-    """Reads the files that the words name, and refuses those that make no study."""
     sort_words(parser, args)
     settle_options(parser, args)
     args.program = os.path.abspath(args.program)

@@ -47,7 +47,6 @@ class Landscape(NamedTuple):
         return min(totals), max(totals)
 
     def title(self, row, column):
-        """Returns the values and the total of a square in words."""
         upwards, across = self.shown_ranges()
         return (f"{self.names[0]} {upwards[row]}, {self.names[1]} {across[column]}: "
                 f"{self.totals[row][column]}")
@@ -95,7 +94,6 @@ def is_outside(values, winner_values, landscape):
 
 
 def shade_of(total, least, most):
-    """Returns the shade of a total, from 0 for the least total to 6 for the greatest."""
     if most == least:
         return SHADES // 2
     return min(SHADES - 1, int(SHADES * (total - least) / (most - least)))
@@ -173,7 +171,6 @@ def draw_ticks(squares, landscape):
 
 
 def legend(landscape, top, with_start):
-    """Yields what the shades and the marks mean."""
     least, most = map(integer, landscape.least_and_greatest())
     yield charts.label(0, top + 11, f"tuned total {least}")
     left = 76 + 7 * len(least)
@@ -190,7 +187,6 @@ def legend(landscape, top, with_start):
 
 
 def draw_map(landscape, start_place, winner_place, titled):
-    """Draws a map of two constants. A place may be None."""
     rows, columns = len(landscape.totals), len(landscape.totals[0])
     width = min(60, (charts.RIGHT - charts.LEFT) / columns)
     squares = Squares(rows, columns, width, min(width, 306 / rows))

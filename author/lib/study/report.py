@@ -62,7 +62,6 @@ def opening(report):
 
 
 def tuned_items(report):
-    """Yields what is proved of a template that was tuned whole, and what is not."""
     left_out = f"{integer(report['refused'])} of them do not assemble; each other one"
     yield (f"<strong>Proved:</strong> the ranking of all {integer(report['settings'])} settings: "
            f"{left_out if report['refused'] else 'each'} played all "
@@ -74,7 +73,6 @@ def tuned_items(report):
 
 
 def raced_items(report):
-    """Yields what is proved after a race, and what is measured."""
     race, box, gain = report["race"], report["box"], report["gain"]
     yield (f"<strong>Measured:</strong> the winner. {integer(race['settings'])} of the template's "
            f"{integer(report['settings'])} settings raced, in {integer(race['fights'])} fights. A "
@@ -131,7 +129,6 @@ def comparison(report):
 
 
 def opponent_row(gain, sides):
-    """Returns the gain against an opponent, and the fresh fights of both, as cells."""
     lost = " (lost)" if gain["words"] == "a loss" else ""
     signed = ("+" if gain["percent"] >= 0 else "") + with_error(gain["percent"], gain["error"])
     percents = (f"{decimal(side['percent'])}%" for side in sides)
@@ -140,7 +137,6 @@ def opponent_row(gain, sides):
 
 
 def opponents(report):
-    """Returns the fresh fights against each opponent, the greatest gain first."""
     if not report["gain"]:
         return []
     start, winner = (report[side]["fresh"]["opponents"] for side in ("start", "winner"))
@@ -159,7 +155,6 @@ def opponents(report):
 
 
 def landscape(report):
-    """Returns the totals of the box, and what each constant does to them."""
     box = maps.read_landscape(report["landscape"], lists_of(report))
     start_values, winner_values = (report[side]["values"] for side in ("start", "winner"))
     is_small = box.count() <= MOST_CELLS
@@ -190,7 +185,6 @@ def values_text(values):
 
 
 def totals_table(box, is_small):
-    """Returns the totals of a box as a table, if it can be read."""
     if not is_small:
         return paragraph("The totals are in <code>report.json</code>.", "soft")
     names, ranges, totals = box.names, box.shown_ranges(), box.totals
@@ -316,7 +310,6 @@ def commands(lines):
 
 
 def making(report):
-    """Returns how the study was made, so that it can be made again."""
     heads = ["constant", "lowest", "highest", "step", "START", "winner", "values in the box"]
     rows = [constant_row(constant, lists_of(report).get(constant["name"]))
             for constant in report["constants"]]

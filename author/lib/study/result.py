@@ -40,7 +40,6 @@ class Box:
                 "totals": [totals[first:first + width] for first in range(0, len(totals), width)]}
 
     def effects(self):
-        """Returns the mean total of each value of each constant, with its standard error."""
         effects = []
         for constant, name in enumerate(self.template.names):
             values, means, errors = landscape.effect_of(self.template, self.totals, constant)
