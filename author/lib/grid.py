@@ -71,11 +71,9 @@ class Grid:
 
     def box(self, values, reach):
         """Returns the ranges of the values at most `reach` steps from those of a setting."""
-        ranges = []
-        for whole, value in zip(self.ranges, values):
-            index = whole.index(value)
-            ranges.append(whole[max(index - reach, 0):index + reach + 1])
-        return ranges
+        indices = (whole.index(value) for whole, value in zip(self.ranges, values))
+        return [whole[max(index - reach, 0):index + reach + 1]
+                for whole, index in zip(self.ranges, indices)]
 
 
 def is_range_line(line):

@@ -55,25 +55,18 @@ class Totals:
     """
 
     def __init__(self, template, cert, fights, opponent=None):
-        self.template, self.best, self.weights = template, cert.best, fights.weights
-        self.counted = {index for index, fight in enumerate(fights)
-                        if opponent in (None, fight.opponent)}
-        self.greatest = 3 * sum(fights[index].weight for index in self.counted)
-        self.totals, self.caps = [], []
+        self.template, self.best, self.totals, self.caps = template, cert.best, [], []
+        counted = {index for index, fight in enumerate(fights)
+                   if opponent in (None, fight.opponent)}
+        # The other fights weigh nothing.
+        fights = tuning_files.Fights(fight._replace(weight=fight.weight * (index in counted))
+                                     for index, fight in enumerate(fights))
         for setting in watched(range(cert.count), cert.count, "totals"):
-            cap, played = self.cap_of(cert, setting)
-            has_total = played == len(self.counted)
+            points = cert.points(setting)
+            cap = math.nan if points is None else tuning_files.cap(points.items(), fights)
+            has_total = points is not None and counted <= points.keys()
             self.totals.append(cap if has_total else math.nan)
             self.caps.append(math.nan if has_total else cap)
-
-    def cap_of(self, cert, setting):
-        """Returns the greatest total of a setting, and how many of the fights it played."""
-        if not cert.assembles(setting):
-            return math.nan, None
-        counted = [(points, self.weights[fight]) for fight, points in cert.items(setting)
-                   if fight in self.counted]
-        lost = sum((3 - points) * weight for points, weight in counted)
-        return self.greatest - lost, len(counted)
 
     def greys(self):
         """Returns the scale of the greys of dropped settings, or nothing if there are none."""

@@ -181,14 +181,13 @@ class Load:
     def set_start(self, instruction):
         value = instruction.value(instruction.b)
         if instruction.opcode == "ORG":
-            self.start = value % self.text.rules.core
-            self.start_code = instruction
             self.org_codes.append(instruction)
             self.text.finder.org(instruction)
         elif instruction.opcode == "END" and value and not self.start:
-            self.start = value % self.text.rules.core
-            self.start_code = instruction
             self.text.finder.end_over_org(self.org_codes)
+        else:
+            return
+        self.start, self.start_code = value % self.text.rules.core, instruction
 
     def add(self, instruction):
         core = self.text.rules.core

@@ -74,7 +74,6 @@ class Hosts(OnHosts, SpreadTrial):
             status, used.is_dir(), left.is_dir()))
 
     def test_failing(self):
-        """Tunes on a host that cannot run the program, alone and beside another one."""
         tuned = self.tuned()
         words = ["--program=./slow", "--jobs=1", *DECOY]
         line = "failed: no result for part 1 of 1 (./cwtune: Permission denied)\n"
@@ -144,7 +143,6 @@ class Hosts(OnHosts, SpreadTrial):
             self.clear()
 
     def test_kills(self):
-        """Kills a spread while hosts are at work, and repeats it."""
         tuned = self.tuned()
         self.write("hosts", "good\nshared\n:\n")
         for number, signal_number in enumerate([signal.SIGKILL, signal.SIGHUP, signal.SIGTERM], 1):

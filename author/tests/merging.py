@@ -57,7 +57,6 @@ class Merging(SpreadTrial):
         return jobs, ended
 
     def test_archives(self):
-        """Runs a stand-in for GNU parallel that brings archives back, damaged ones among them."""
         with self.parallel(ARCHIVES):
             jobs, ended = self.host_jobs(range(1, 6))
         self.same("archives", ([(3, 126), (4, 0)], [1, 2, 5], "GNU parallel ended with status 0"),
@@ -102,7 +101,6 @@ class Merging(SpreadTrial):
             "sbatch was called)\n"))
 
     def test_merged_others(self):
-        """Puts parts together that are of another tuning, or of another number of parts."""
         self.run_jobs(3, *DECOY)
         self.write("other.csv", b"opponent,position,first\n0,4000,c\n")
         with_other_schedule = ["other.csv" if word == "schedule.csv" else word for word in DECOY]

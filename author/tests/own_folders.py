@@ -251,7 +251,6 @@ class OwnFolders(SpreadTrial, StudyTrial):
                 status, out, err.startswith("error: ") and name in err))
 
     def test_forged_reports(self):
-        """Writes into the report and the results of a study what no study writes."""
         self.study(*STUDY)
         stages = self.mark("t")["stages"]
         for text in ["1", "{}", "[" * 100000, json.dumps({"ranking": [1]})]:

@@ -53,7 +53,6 @@ class MadeUpArena(race_fights.Arena):
         return [[self.points(values, block) for block in blocks] for values in settings]
 
     def points(self, values, block):
-        """Returns the points of a block, which depend on its position alone."""
         distance = sum(abs(value - best) for value, best in zip(values, self.best))
         return "".join("3" if random.Random(f"{values}{fight}").random() < 1 / (1 + distance / 3)
                        else "0" for fight in block)
@@ -85,7 +84,6 @@ class Racing(Trial):
         return arena, race.Race(values, arena, 1).run()
 
     def test_rounds(self):
-        """Looks who plays what in a race with made-up fights."""
         arena, outcome = self.raced()
         self.same("the best setting wins", (3, 4), outcome.winner)
         plays = [(values, block) for settings, blocks in arena.calls for values in settings

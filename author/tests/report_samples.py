@@ -112,7 +112,6 @@ def gain_of(start, winner):
 
 
 def raced(sizes, box=None, has_totals=False):
-    """Returns a report of a race. `box` is what it says of the box."""
     report = sample(sizes)
     winner, start = report["winner"], report["start"]
     for name in ["ranking", "fights", "check", "schedule", "refused"]:

@@ -36,10 +36,6 @@ class Reader(html.parser.HTMLParser):
         if tag not in UNCLOSED_TAGS:
             self.open_tags.append(tag)
 
-    def handle_startendtag(self, tag, attrs):
-        self.handle_starttag(tag, attrs)
-        self.handle_endtag(tag)
-
     def handle_endtag(self, tag):
         if not self.open_tags or self.open_tags.pop() != tag:
             self.wrong.append(f"</{tag}>")

@@ -60,7 +60,6 @@ class Sharing(SpreadTrial):
                       (self.spread("--check-only", *words), self.left()))
 
     def test_after_kills(self):
-        """Kills a check at six moments, and compares its line with that of an unbroken one."""
         _, line = self.tune_decoy()
         list(self.kill_by_chance(66, range(0, 12, 2), 0.03, "--shares=16", *CHECK_ONLY,
                                  kind="shares"))
@@ -142,7 +141,6 @@ class Sharing(SpreadTrial):
                 "--program=./liar", "--anew", "--shares=3", "--check-only", *SMALL))
 
     def test_merged(self):
-        """Puts shares together that were checked as jobs of a cluster do."""
         cert, line = self.tune_decoy()
         self.run_jobs(3, "--check", *DECOY)
         self.same("--check-only --merge", (0, line, ""), self.spread("--merge=3", *CHECK_ONLY))

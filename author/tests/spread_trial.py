@@ -81,19 +81,6 @@ class SpreadTrial(Trial):
             _, err = job.communicate(timeout=SECONDS)
         return Kill(job.returncode, err.decode(), before, self.done(kind))
 
-    def stop_in(self, piece, signal_number, *words):
-        """Ends `cwtune-spread` by a signal in a piece that stays. Returns status and err."""
-        begun = self.folder / "begun"
-        self.write_program("stuck", f"""case "$*" in *{piece}*) touch {begun}; exec sleep 99;;
-*) exec {self.program} "$@";; esac""")
-        with self.started("cwtune-spread --program=./stuck", *words,
-                          stderr=subprocess.PIPE) as job:
-            wait_until(begun.exists, job)
-            job.send_signal(signal_number)
-            _, err = job.communicate(timeout=SECONDS)
-        begun.unlink(missing_ok=True)
-        return job.returncode, err.decode()
-
     def unfinished(self, *words, kind="parts"):
         """Leaves CERT.parts or CERT.shares as a kill leaves it, with some pieces done."""
         for _ in range(10):
@@ -138,7 +125,6 @@ exec {self.program} "$@"
 
 
 def left_over(done, count, kind):
-    """Returns what is said of pieces that are left."""
     return (f"{done} of {count} {kind} are done, and kept in CERT.{kind}: repeat the command to "
             "run the others\n")
 

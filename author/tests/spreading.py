@@ -1,5 +1,5 @@
 """Plays `cwtune-spread`: kills it and starts it again, and gives it what it has to refuse."""
-import os, pathlib, pty, re, signal, threading, time
+import os, pathlib, pty, re, signal, subprocess, threading, time
 from unittest import mock
 
 from author.lib import tuning_files
@@ -9,7 +9,7 @@ from gate.lib.play import shown
 
 from .spread_trial import (DECOY, OPPONENTS, RANKED, SCHEDULE, SMALL, TWELVE, SpreadTrial,
                            left_over, without_fights)
-from .trial import SECONDS, usage_errors
+from .trial import SECONDS, usage_errors, wait_until
 
 WRONG_OPTIONS = usage_errors(f"cwtune-spread {' '.join(SMALL)}", {
     **{f"{name}={number}": f"argument {name}: {number} is not 1 or more"
@@ -39,16 +39,22 @@ class Spreading(SpreadTrial):
         self.same("the parts are gone at the end", False, (self.folder / "CERT.parts").exists())
 
     def test_stops(self):
-        """Stops a tuning in the part that begins last."""
+        begun = self.folder / "begun"
+        self.write_program("stuck", f"""case "$*" in *--part=2/3*) touch {begun}; exec sleep 99;;
+*) exec {self.program} "$@";; esac""")
         for signal_number in [signal.SIGINT, signal.SIGTERM]:
+            with self.started("cwtune-spread --program=./stuck --jobs=1 --parts=3", *DECOY,
+                              stderr=subprocess.PIPE) as job:
+                wait_until(begun.exists, job)
+                job.send_signal(signal_number)
+                _, err = job.communicate(timeout=SECONDS)
             self.same(f"signal {signal_number} says how to go on", (
-                -signal.SIGINT, f"stopped: {left_over(2, 3, 'parts')}", 2), (
-                *self.stop_in("--part=2/3", signal_number, "--jobs=1", "--parts=3", *DECOY),
-                self.done()))
+                -signal.SIGINT, f"stopped: {left_over(2, 3, 'parts')}", 2),
+                (job.returncode, err.decode(), self.done()))
+            begun.unlink()
             self.clear()
 
     def test_other_inputs(self):
-        """Gives a folder of parts other inputs than those that it was made of."""
         reversed_opponents = [*DECOY[:3], *reversed(OPPONENTS)]
         self.unfinished()
         self.write("other.red", self.read("decoy.red").replace(b"PLACE 2000", b"PLACE 2500"))
@@ -272,7 +278,6 @@ case $1 in tune) {self.program} "$@" | head -c -5;; *) {self.program} "$@";; esa
         self.same("the explanation is that of tune", explanation, self.screen_of(words))
 
     def test_notes(self):
-        """Looks at the notes of what is ignored in a template."""
         self.write("x.red", ";@tune K 0 3 1 2\n ;@tune X 1 2 1 1\nMOV 0, 1\n")
         expected = self.tune("--explain", *SMALL).err
         for options in [[], ["--check"], ["--check-only"]]:
@@ -284,16 +289,12 @@ case $1 in tune) {self.program} "$@" | head -c -5;; *) {self.program} "$@";; esa
         self.same("the notes and the fault", self.tune("--explain", *SMALL).err,
                   self.spread("--explain", *SMALL).err)
 
-    def total_of_start(self):
-        cert = tuning_files.Certificate(self.folder / "CERT")
-        fights = tuning_files.read_schedule(self.folder / "schedule.csv")
-        return cert.total_of(94, fights)
-
     def test_progress(self):
         lines = self.screen_of(["--jobs=1", *TWELVE]).split("\r")
         half = re.compile(r"6 of 12 parts, 63 of 126 settings, \d+ fights, \d+:\d\d left, best \d+ "
                           r"total \d+ DECOY.*\x1b\[K")
         self.same("a line of progress", True, any(half.fullmatch(line) for line in lines))
-        last_line = (f"\x1b[K  START, setting 94, total {self.total_of_start()} DECOY=1 PLACE=4000 "
-                     "STEP=3045\n")
-        self.same("the line is cleared, and START is told", last_line, lines[-1])
+        fights = tuning_files.read_schedule(self.folder / "schedule.csv")
+        total = tuning_files.Certificate(self.folder / "CERT").total_of(94, fights)
+        self.same("the line is cleared, and START is told", f"\x1b[K  START, setting 94, total "
+                  f"{total} DECOY=1 PLACE=4000 STEP=3045\n", lines[-1])

@@ -1,5 +1,6 @@
 """Gives the commands names, texts and files that a stranger chose, and looks what they leave."""
-import ast, contextlib, fcntl, os, pathlib, pty, re, signal, struct, subprocess, termios, time
+import ast, contextlib, fcntl, itertools, os, pathlib, pty, re, signal, struct, subprocess, termios
+import time
 from unittest import mock
 
 from author.lib import regular, tuning_files, writing
@@ -80,7 +81,6 @@ class Strangers(Trial):
     FILES = FILES
 
     def test_dashes(self):
-        """Gives each command files whose names begin with a dash, after `--`."""
         (self.folder / "x.red").chmod(0o755)
         self.tune("--", "-t.red", "-s.csv", "-cert", "--program=x.red")
         for words in [
@@ -328,18 +328,20 @@ echo $$ >> {self.folder}/pids; exec sleep 99""")
                 self.same(f"{signal_number.name} of {words}", (status, True, []),
                           self.ended_by(signal_number, words))
 
-    def test_hang_ups(self):
+    def test_waiting(self):
         os.mkfifo(self.folder / "pipe")
-        for words in ["cwtune-files pipe", "cwtune-vary pipe", "cwtune-warrior --setting=0 pipe",
-                      "cwtune-landscape pipe step.cert x.svg"]:
+        for signal_number, words in itertools.product([signal.SIGINT, signal.SIGHUP], [
+                "cwtune-files pipe", "cwtune-vary pipe", "cwtune-scores pipe s.csv",
+                "cwtune-warrior --setting=0 pipe", "cwtune-landscape pipe step.cert x.svg"]):
             with self.started(words, stderr=subprocess.PIPE) as job:
                 # It is waiting in the open of the pipe.
                 wait_until(lambda: re.search(b"wait_for_partner|fifo_open", wchan(job.pid)), job)
-                job.send_signal(signal.SIGHUP)
+                job.send_signal(signal_number)
                 with contextlib.suppress(subprocess.TimeoutExpired):
                     job.wait(5)
                 _, err = job.communicate()
-            self.same(f"SIGHUP in {words}", (-signal.SIGINT, b""), (job.returncode, err))
+            self.same(f"signal {signal_number} in {words}", (-signal.SIGINT, b""),
+                      (job.returncode, err))
 
     def test_left_files(self):
         """Finds what killed runs have left, and what only looks so."""

@@ -216,7 +216,6 @@ class Studying(StudyTrial):
             name for name in names if self.read(f"typed/{name}") != self.read(f"w.study/{name}")])
 
     def test_races(self):
-        """Makes a study of more settings than are tuned."""
         self.write("p.red", PLANE.replace("2 5", "2 3").replace("1 0", "1 4"))
         words = ["--exact=9", "--fights=4000", "--certify", "p.red", "all"]
         status, out, _ = self.study(*words)

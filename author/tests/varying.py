@@ -236,7 +236,6 @@ class Varying(Trial):
             status, err, out.count("AIM EQU 7-([AIM_2_choice:5,3,-9])")))
 
     def test_places(self):
-        """Opens places of each kind, alone and together, and takes the text out again."""
         self.write("places.red", PLACES)
         lines = PLACES.split("\n")
         for number, word, new, notes in OPENED:

@@ -4,7 +4,7 @@ import json
 from author.lib import tuning_files, warrior
 from author.lib.program import assemble
 
-from .origins import GAIN, note
+from .origins import note
 from .trial import TUNING, Trial, refusals, usage_errors
 
 FIGHT = "opponent,position,first\n0,4000,c\n"
@@ -36,7 +36,6 @@ WRONG_WORDS = [
 
 class Warriors(Trial):
     FILES = {"dat.red": "DAT 0\n", "imp.red": "MOV 0, 1\n", "s.csv": FIGHT,
-             "two.csv": "opponent,position,first,weight\n0,4000,c,5\n1,4000,c,1\n",
              **{name: (TUNING / name).read_bytes() for name in ["step.red", "step.cert",
                                                                "stone.red"]}}
 
@@ -154,18 +153,13 @@ class Warriors(Trial):
 
     def test_gains(self):
         """Plays fresh fights of a setting that lives, and of START, which dies against an imp."""
-        for schedule, opponents, expected in [
-            ("s.csv", ["imp.red"],
-             "setting 1, rank 1: tuning 1 of 3 (33.3%), fresh 20 of 60 (33.3% +- 0.0) K=1\n"
-             "setting 0, rank 2: tuning 0 of 3 (0.0%), fresh 0 of 60 (0.0% +- 0.0) K=0\n"
-             "START, setting 0: tuning 0 of 3 (0.0%), fresh 0 of 60 (0.0% +- 0.0) K=0\n"
-             "over START, setting 1: +33.3% +- 0.0, a gain\n"),
-            ("two.csv", ["dat.red", "imp.red"], GAIN),
-        ]:
-            words = ["--all", "t.red", schedule, "cert", *opponents]
-            self.tuned(";@tune K 0 1 1 0\nJMP 1-K\n", *words)
-            self.same(f"a gain by {schedule}", (0, expected, ""), self.call(
-                f"cwtune-holdout --schedule {schedule} --rounds 20 t.red cert", *opponents))
+        self.tuned(";@tune K 0 1 1 0\nJMP 1-K\n")
+        self.same("a gain", (
+            0, "setting 1, rank 1: tuning 1 of 3 (33.3%), fresh 20 of 60 (33.3% +- 0.0) K=1\n"
+            "setting 0, rank 2: tuning 0 of 3 (0.0%), fresh 0 of 60 (0.0% +- 0.0) K=0\n"
+            "START, setting 0: tuning 0 of 3 (0.0%), fresh 0 of 60 (0.0% +- 0.0) K=0\n"
+            "over START, setting 1: +33.3% +- 0.0, a gain\n", ""),
+            self.call("cwtune-holdout --schedule s.csv --rounds 20 t.red cert imp.red"))
 
     def test_objects(self):
         self.tuned(";@tune K 0 2 1 0\nJMP 1-1/(K!=2)\n")
