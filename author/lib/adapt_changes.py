@@ -54,8 +54,7 @@ class At(NamedTuple):
 
 
 class FoundBlock(NamedTuple):
-    """A FOR block of the text: the index of its head, its counter, the labels before that, and the
-    numbers of copies that it was found to have."""
+    """A FOR block of the text, and the numbers of copies that it was found to have."""
 
     head: int
     counter: str

@@ -48,7 +48,6 @@ def comments_of_equs(finder, chosen):
 
 
 def blanks(finder):
-    """Returns changes that make a blank of each form feed in code."""
     places = [(index, match.span()) for index, line in enumerate(finder.lines)
               for match in re.finditer("[\f\v]", code_of(line.text))]
     return [Change(index, *span, Traced.new(" "), "a form feed is a blank now")
@@ -56,8 +55,7 @@ def blanks(finder):
 
 
 def changes_of_joins(finder):
-    """Yields changes that join outer counters first. If a name is written with its digits
-    somewhere, the inner block has to be unrolled."""
+    """Yields changes that join outer counters first, unless a name is spelled with its digits."""
     words = {token.text for line in finder.lines for token in tokens_of(code_of(line.text))}
     bases = {new.partition("&")[0] for found in finder.inverted.values() for _, _, new in found}
     spelled = {word for word in words for base in bases
@@ -140,7 +138,6 @@ def prepared(lines):
 
 
 def cut(lines):
-    """Returns the lines without what comes after a carriage return, and notes."""
     whole, notes = [], []
     for line in lines:
         end = line.text.partition("\r")[0]
@@ -151,7 +148,6 @@ def cut(lines):
 
 
 def continued(lines):
-    """Returns the lines with those that end with a backslash joined to the next, and notes."""
     whole, notes, goes_on = [], [], False
     for line in lines:
         if goes_on:

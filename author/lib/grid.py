@@ -55,7 +55,6 @@ class Grid:
         return self.lists[name][value] or "-" if name in self.lists else value
 
     def text(self, ranges, start_values):
-        """Returns the template with other ranges of its constants, and another START."""
         lines = list(self.lines)
         for index, name, values, start in zip(self.line_indices, self.names, ranges, start_values):
             end = "\r" if lines[index].endswith(b"\r") else ""

@@ -192,7 +192,6 @@ class Holdout:
                   f"{tuning_files.exactness_text(exact, self.args.top)}")
 
     def numbers(self):
-        """Returns all that the command prints: the object of --json."""
         players, (other, points) = list(self.first()), self.other()
         best, start = self.cert.best, self.template.start
         gain = points and self.fresh_points(best).minus(points)

@@ -24,8 +24,7 @@ class Opening(NamedTuple):
 
 
 class Constant(NamedTuple):
-    """A constant of the template: its name, its values, START, and the texts that these are indices
-    of, none if they are numbers of the text."""
+    """A constant, its START, and the texts of which its values are indices, if they are."""
 
     name: str
     values: range

@@ -26,8 +26,7 @@ def untouched(shown, what):
 
 
 class Room:
-    """A real folder of the user, held open until `close`. `shown` is its path for faults, and
-    `parent` the descriptor that its path begins at."""
+    """A real folder of the user, held open until `close`. Faults name it `shown`."""
 
     def __init__(self, path, shown, parent=None):
         self.shown = shown
@@ -73,7 +72,8 @@ class OwnFolder:
     `MARK` is the name of its mark, and `SCHEMA` its dataclass, with the entry `by`. `THROWN` and
     `INSTEAD` are words of the fault for other inputs: what --anew throws away, and which word of
     the command names another folder. `given_path` is its path as the user or the command gives it,
-    and `path` the whole one.
+    and `path` the whole one. `rooms()` returns for each room the pattern of the names that the
+    command gives in it; that of the empty name is the folder itself, without the mark.
     """
 
     COMMAND = MARK = THROWN = INSTEAD = ""
@@ -90,11 +90,6 @@ class OwnFolder:
                 fcntl.flock(self.top.descriptor, fcntl.LOCK_EX | fcntl.LOCK_NB)
             except BlockingIOError:
                 raise Fault(f"another {self.COMMAND} is at work in {given_path}", 2) from None
-
-    def rooms(self):
-        """Returns for each room the pattern of the names that the command gives in it. The room of
-        the empty name is the folder itself; its mark is not among them."""
-        raise NotImplementedError
 
     def patterns(self):
         """Yields the rooms, each with the pattern of its names, also while they are written."""

@@ -89,8 +89,7 @@ class Line(NamedTuple):
 
 
 class Spot(NamedTuple):
-    """A place that was found: its name as `cwtune-vary` lists it, its line and field, what kind of
-    thing is there, and its characters."""
+    """A place that was found: its name as `cwtune-vary` lists it, and where it is."""
 
     name: str
     line: Line

@@ -31,8 +31,7 @@ class TooMuch(Exception):
 
 
 class State(enum.IntEnum):
-    """What was read of a line: nothing, labels, a value begun, code, the value of a pseudo-opcode,
-    the head of a block, its end, or something wrong."""
+    """What was read of a line. VALUE is a value begun, and START that of a pseudo-opcode."""
 
     WRONG = -1
     NOTHING = 0
@@ -45,8 +44,7 @@ class State(enum.IntEnum):
 
 
 class Line(NamedTuple):
-    """A line as pMARS keeps it: its index in the text, the column of its first character, and its
-    text without the comment."""
+    """A line as pMARS keeps it: its index in the text, its first column, and no comment."""
 
     index: int
     column: int
@@ -107,8 +105,7 @@ class Chars:
 
 
 class Block(NamedTuple):
-    """A FOR block that is copied: the index of its head, the label that is its counter or None, the
-    labels before that, and how many copies there are."""
+    """A FOR block that is copied: where its head is, its counter or None, and other labels."""
 
     head: int
     counter: Label | None
@@ -249,7 +246,6 @@ class PmarsText:
         return token.end, State.NOTHING
 
     def curline_step(self, source, token, made, state):
-        """Puts in how many instructions there are before the line."""
         if state <= State.LABELS:
             raise PmarsFault(self.index, "CURLINE is no label")
         root = source.root_of(token.start, token.end)

@@ -138,7 +138,6 @@ class Race:
         return self.arena.plays_until(limit * self.share)
 
     def explore(self):
-        """Races settings from everywhere, as many as their part of the budget has room for."""
         count = int(self.plays_until(EXPLORED) / plays_of_exploring())
         new = self.enter(spread_evenly(self.grid.ranges, count, self.dice))
         self.tell("exploring")
@@ -171,7 +170,6 @@ class Race:
         self.survivors = runners
 
     def best(self, contenders):
-        """Returns the better part of some contenders, the best first, and START."""
         count = max(SURVIVORS, math.ceil(GOES_ON * len(contenders)))
         ranked = sorted(contenders, key=Contender.estimate, reverse=True)
         return self.with_start(ranked[:count])

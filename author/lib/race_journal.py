@@ -19,8 +19,7 @@ class Record(TypedDict):
 
 
 class Journal(list):
-    """The records of a race, in an open file of a line of JSON for each. A line that a kill has cut
-    is removed. `shown` is the file's name for faults."""
+    """The records of a race, in an open file: a line of JSON for each, but for one that was cut."""
 
     def __init__(self, file, shown):
         super().__init__()

@@ -21,7 +21,6 @@ class NotJson(Malformed):
 
 
 def from_json(schema, text):
-    """Returns what a text of JSON says, as the schema has it."""
     try:
         value = json.loads(text)
     except RecursionError:

@@ -45,8 +45,7 @@ class Fights(list):
 
 
 class Settings(collections.abc.Sequence):
-    """The values of all settings in their order, in which the first constant changes slowest. Each
-    is made when it is asked for: a million would take much memory."""
+    """The values of all settings in order, each made when it is asked for: there may be many."""
 
     def __init__(self, ranges):
         self.ranges, self.count = ranges, math.prod(map(len, ranges))

@@ -59,7 +59,6 @@ class Clusters(SpreadTrial):
             sorted(printed.splitlines(True)), self.times()))
 
     def faults(self):
-        """Lets a part fail, and gives a template whose name begins with a dash."""
         self.jobs("1-2", "2", *DECOY)
         self.jobs("2", "2", *DECOY, program="./none")
         status, _, err = self.spread("--merge=2", *DECOY)

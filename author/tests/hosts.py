@@ -100,10 +100,6 @@ class Hosts(OnHosts, SpreadTrial):
             self.remains()[2]))
 
     def test_refused(self):
-        for name, text in [("empty", ""), ("of comments", "# good\n\n  # :\n")]:
-            self.write("hosts", text)
-            self.same(f"a file that is {name}", (2, "", "error: hosts: no host in it\n"),
-                      self.spread("--hosts=hosts", *DECOY))
         status, out, err = self.on("dead dead dead", *DECOY)
         first, last, *more = err.splitlines()
         self.same("dead hosts", (3, "", DEAD, "failed: no host of hosts is ready", []), (

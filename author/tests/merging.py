@@ -155,7 +155,6 @@ class Merging(SpreadTrial):
         self.merged("a certificate that is missing", NO_CERT)
 
     def test_merged_rankings(self):
-        """Puts parts together that have floors, and a ranking."""
         self.write_ranked()
         tuned = self.tuned(RANKED)
         words = [*RANKED[len(RULES):], *RULES]

@@ -16,7 +16,7 @@ FILES = {"plane.red": PLANE, "large.red": LARGE, "dat.red": "DAT 0, 0\n", "imp.r
          "one.csv": "opponent,position,first\n1,40,c\n", "one.red": "MOV 0, 1\n",
          "bad.red": ";@tune K 0 5 1 2\nMOV 1\n",
          "none-assembles.red": ";@tune K 0 5 1 2\nDAT 1/0\n",
-         "two.csv": "opponent,position,first\n2,40,c\n", "empty": "# no host\n",
+         "two.csv": "opponent,position,first\n2,40,c\n", "empty": "# good\n\n  # :\n",
          "one-host": "good\n"}
 # The files of a race, and what is refused.
 RACED = "plane.red s.csv dat.red imp.red"

@@ -18,8 +18,7 @@ SCHEDULE = b"opponent,position,first\n0,3670,c\n1,2085,o\n2,4621,c\n"
 
 
 class Kill(NamedTuple):
-    """What a signal did to `cwtune-spread`: its status, its standard error, and how many parts or
-    shares were done before this run and after it."""
+    """What a signal did to `cwtune-spread`, and the pieces done before this run and after it."""
 
     status: int
     err: str

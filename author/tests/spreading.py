@@ -96,7 +96,6 @@ class Spreading(SpreadTrial):
             "the parts away and begin again, or another CERT\n"), self.spread(*DECOY))
 
     def test_folders(self):
-        """Puts files that `cwtune-spread` did not make at CERT.parts."""
         self.unfinished()
         self.write("CERT.parts/notes.txt", b"mine\n")
         self.same("a folder is kept for a file of somebody else", (0, b"mine\n"),

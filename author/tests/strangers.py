@@ -150,7 +150,6 @@ class Strangers(Trial):
                   self.call("cwtune-scores cert s.csv").err)
 
     def test_endless(self):
-        """Gives the commands FIFOs and devices among files of others."""
         (self.folder / "all").mkdir()
         os.mkfifo(self.folder / "all/a.red")
         os.symlink("/dev/zero", self.folder / "zero.red")

@@ -185,8 +185,7 @@ class Trial(unittest.TestCase, Place):
 
 
 class Outcome(unittest.TestResult):
-    """What came of a trial. `tried` has for each part its name, and what was wrong with it, or why
-    it was left out, as `tally` takes them."""
+    """What came of a trial. `tried` has what was wrong, or left out, as `tally` takes it."""
 
     def __init__(self):
         super().__init__()

@@ -39,8 +39,7 @@ class Copy(NamedTuple):
 
 @dataclasses.dataclass
 class Mark:
-    """What `spread.json` says: of what the pieces are, how many pieces and settings there are, and
-    by kind the fingerprint `of` the inputs."""
+    """What `spread.json` says: of what pieces, how many, and the fingerprint `of` the inputs."""
 
     by: str
     piece: str

@@ -44,7 +44,6 @@ class LocalJobs:
                                     stdout=report, stderr=fault, preexec_fn=end_with_parent)
 
     def take_ended(self):
-        """Returns number and status of the jobs that have ended since the last call."""
         ended = [(number, job.returncode) for number, job in self.running.items()
                  if job.poll() is not None]
         for number, _ in ended:

@@ -33,8 +33,7 @@ REPORT = re.compile(
 
 
 class Part(NamedTuple):
-    """What came of a part: its settings, a range, and its report by the first words of the lines,
-    which is empty without a candidate."""
+    """What came of a part, its report by the lines' first words: empty without a candidate."""
 
     settings: range
     report: dict

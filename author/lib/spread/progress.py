@@ -49,9 +49,8 @@ class Progress:
         settings = self.settings_done()
         if settings <= self.settings_before:
             return ""
-        seconds = time.monotonic() - self.began_at
-        seconds_left = int(seconds * (self.folder.setting_count - settings)
-                           / (settings - self.settings_before))
+        seconds_of_setting = (time.monotonic() - self.began_at) / (settings - self.settings_before)
+        seconds_left = int(seconds_of_setting * (self.folder.setting_count - settings))
         return f", {seconds_left // 60}:{seconds_left % 60:02} left"
 
 

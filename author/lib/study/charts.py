@@ -156,7 +156,6 @@ def points_of(axis, y_scale, heights):
 
 
 def curve(points):
-    """Returns a line through the points, broken where one has no height."""
     pen_moves, pen = [], "M"
     for x, y in points:
         if y is not None:
@@ -166,7 +165,6 @@ def curve(points):
 
 
 def dots(points):
-    """Yields a dot for each point, unless they are too many to be told apart."""
     known = [point for point in points if point[1] is not None]
     if len(known) <= MOST_DOTS:
         yield from (circle(x, y, 2.5, "dot") for x, y in known)

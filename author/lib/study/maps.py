@@ -23,8 +23,7 @@ FIRST_DARK = 4
 
 
 class Landscape(NamedTuple):
-    """Totals over one or two constants: their names, their ranges, the totals, and the lists of
-    constants that are indices, by name."""
+    """Totals over one or two constants, and the lists of those that are indices, by name."""
 
     names: list
     ranges: list
@@ -61,8 +60,7 @@ class Landscape(NamedTuple):
 
 
 def read_landscape(landscape, lists):
-    """Reads the landscape of a report. Of one constant the totals are a list with one list there; a
-    plain list, and a list for each value, are taken too."""
+    """Reads the landscape of a report, whose totals of one constant may be lists or numbers."""
     names, ranges, totals = (landscape[key] for key in ("axes", "values", "totals"))
     if len(names) == 1:
         totals = [[total for row in totals for total in (row if isinstance(row, list) else [row])]]
@@ -156,7 +154,6 @@ def draw_mark(squares, place, style):
 
 
 def draw_ticks(squares, landscape):
-    """Yields the values along both sides: as many as can be read."""
     upwards, across = landscape.shown_ranges()
     every = -(-squares.columns * 40 // max(1, round(squares.columns * squares.width)))
     for column in range(0, squares.columns, every):

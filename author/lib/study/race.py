@@ -33,7 +33,6 @@ class RaceOfStudy:
         self.study, self.grid, self.args, self.folder = study, grid, study.args, study.folder
 
     def go(self):
-        """Goes through the stages. Returns what they found, by their names."""
         stage = self.folder.stage
         race = stage("race", self.race)
         results = {"race": race, "box": None, "challenge": None, "winner": race["winner"],

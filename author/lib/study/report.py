@@ -21,7 +21,6 @@ ERROR_NOTE = "± is one standard error."
 
 
 def html_of(report):
-    """Returns the page of a report, a string that UTF-8 can hold."""
     return page(f"{report['title']}: a study by cwtune", [
         *opening(report),
         *section("What is proved, and what is measured", "<ul>", *(
@@ -296,7 +295,6 @@ def facts(report):
 
 
 def digests(caption, files):
-    """Returns a table of files. Their digests are a size and a SHA-256."""
     rows = []
     for file in files:
         size, _, sha256 = str(file["digest"]).rpartition(" ")
