@@ -21,8 +21,8 @@ from .endings import Fault, escaped, fault_of
 from .mean_error import error_of_mean
 from .program import EXPLAIN, rules_of, run_program
 from .series import refuse_distance, refuse_fights
-from .words import (FILE_HELP, add_cwtune, add_files, add_json, command_parser, counted,
-                    number_from, print_json)
+from .words import (FILE_HELP, add_cwtune, add_files, add_json, add_number, command_parser, counted,
+                    print_json)
 from .writing import temporary_folder
 
 
@@ -204,12 +204,9 @@ class Holdout:
 
 def make_parser():
     parser = command_parser(__doc__)
-    parser.add_argument("--top", type=number_from(1), default=5, metavar="K",
-                        help="how many settings play, beside START [default: 5]")
-    parser.add_argument("--rounds", type=number_from(1), default=100, metavar="R",
-                        help="fights against each opponent [default: 100]")
-    parser.add_argument("--seed", type=number_from(0), default=1, metavar="S",
-                        help="another number gives other positions [default: 1]")
+    add_number(parser, "--top", "K", 5, "how many settings play, beside START")
+    add_number(parser, "--rounds", "R", 100, "fights against each opponent")
+    add_number(parser, "--seed", "S", 1, "another number gives other positions", low=0)
     parser.add_argument("--schedule", metavar="FILE",
                         help="the schedule [default: that of the tuning]")
     parser.add_argument("--against", metavar="FILE",

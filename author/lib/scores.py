@@ -11,7 +11,7 @@ from . import cert_inputs, tuning_files
 from .endings import Fault, note
 from .program import assemble, rules_of
 from .watching import watched
-from .words import add_files, add_json, add_cwtune, command_parser, counted, number_from, print_json
+from .words import add_files, add_json, add_cwtune, add_number, command_parser, counted, print_json
 
 # With more settings than this none is assembled, to save time.
 MOST_ASSEMBLED = 2000
@@ -165,8 +165,7 @@ def make_parser():
                         help="the schedule [default: that of the tuning]")
     parser.add_argument("--template", metavar="FILE", help="the template, for the constants' names "
                         "and for START [default: that of the tuning]")
-    parser.add_argument("--top", type=number_from(1), default=10, metavar="K",
-                        help="how many of the best settings [default: 10]")
+    add_number(parser, "--top", "K", 10, "how many of the best settings")
     output = parser.add_mutually_exclusive_group()
     add_json(output)
     output.add_argument("--csv", action="store_true",

@@ -24,7 +24,8 @@ from .program import run_program
 from .race import Race
 from .race_fights import Arena, add_budget, budget_of
 from .tuning_files import MOST_SETTINGS
-from .words import add_files, add_json, add_cwtune, command_parser, number_from, print_json
+from .words import (add_files, add_json, add_cwtune, add_number, command_parser, number_from,
+                    print_json)
 from .writing import temporary_folder
 
 
@@ -74,8 +75,7 @@ def make_parser():
     parser = command_parser(__doc__)
     add_budget(parser)
     add_json(parser)
-    parser.add_argument("--seed", type=number_from(0), default=1, metavar="N",
-                        help="another number gives other settings and positions [default: 1]")
+    add_number(parser, "--seed", "N", 1, "another number gives other settings and positions", low=0)
     parser.add_argument("--box", type=number_from(0), metavar="N",
                         help="cut each range to N values on both sides of the winner's")
     add_cwtune(parser)

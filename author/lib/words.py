@@ -74,6 +74,12 @@ def number_from(low, high=None):
     return read
 
 
+def add_number(parser, name, metavar, default, about, low=1, high=None):
+    """Adds an option that is a number, and says its default."""
+    parser.add_argument(name, type=number_from(low, high), default=default, metavar=metavar,
+                        help=f"{about} [default: {default}]")
+
+
 def counted(number, noun):
     """Returns a number with its noun, as `1 setting` and `2 settings`."""
     return f"{number} {noun}{'s' * (number != 1)}"

@@ -9,7 +9,7 @@ import json, os, random, shutil, signal, subprocess, sys, tempfile
 from author.lib import endings, spread, study
 from author.lib.endings import STATUS_WORDS, run_tool
 from author.lib.regular import digest_of
-from author.lib.words import add_built, module_parser, number_from
+from author.lib.words import add_built, add_number, module_parser
 
 from .spread_trial import DECOY, SpreadTrial
 from .study_trial import FEW, StudyTrial
@@ -372,8 +372,7 @@ class OwnFolders(SpreadTrial, StudyTrial):
 
 def main():
     parser = module_parser("author.tests.own_folders", __doc__)
-    parser.add_argument("--count", type=number_from(1), default=300, metavar="N",
-                        help="how many damaged folders [default: 300]")
+    add_number(parser, "--count", "N", 300, "how many damaged folders")
     parser.add_argument("--kills", action="store_true",
                         help="kill a study at each file that it removes, too")
     add_built(parser)

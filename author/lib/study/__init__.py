@@ -30,7 +30,7 @@ from ..race import Contender
 from ..race_fights import Arena, Budget, add_budget
 from ..series import series_fights
 from ..tuning_files import MOST_FIGHTS, MOST_SETTINGS, Certificate, read_schedule, schedule_text
-from ..words import add_cwtune, add_json, command_parser, number_from, print_json
+from ..words import add_cwtune, add_json, add_number, command_parser, number_from, print_json
 from ..writing import temporary_folder
 from .folder import StudyFolder
 from .fresh import FIRST_HEAT_PLAYERS, find_winner
@@ -38,8 +38,6 @@ from .inputs import read_inputs
 from .race import RaceOfStudy
 from .report import html_of, shown_values
 from .result import raced_numbers, tuned_numbers
-
-fight_count = number_from(1, MOST_FIGHTS)
 
 
 class Study:
@@ -201,20 +199,17 @@ def make_parser():
     parser = command_parser(__doc__)
     parser.add_argument("--out", metavar="FOLDER", help="where all files go [default: NAME.study, "
                         "for a warrior NAME.red]")
-    parser.add_argument("--rounds", type=fight_count, default=20, metavar="R",
-                        help="fights of the tuning against each opponent [default: 20]")
+    add_number(parser, "--rounds", "R", 20, "fights of the tuning against each opponent",
+               high=MOST_FIGHTS)
     parser.add_argument("--seed", type=number_from(1, 65535), metavar="S",
                         help="the seed of a race, and the first position of a tuning, as SEED of "
                         "cwtune-series [default: 4321, or less in a small core]")
-    parser.add_argument("--exact", type=number_from(1, MOST_SETTINGS), default=1000, metavar="N",
-                        help="tune a template of at most N settings whole, and race in a larger "
-                        "one [default: 1000]")
-    parser.add_argument("--fresh", type=fight_count, default=100, metavar="F",
-                        help="fresh fights against each opponent in a heat, if the template is "
-                        "tuned whole [default: 100]")
-    parser.add_argument("--box", type=number_from(1), default=2, metavar="N",
-                        help="tune the settings up to N steps from a race's winner; 1 step if "
-                        "N steps hold more than --exact [default: 2]")
+    add_number(parser, "--exact", "N", 1000, "tune a template of at most N settings whole, and "
+               "race in a larger one", high=MOST_SETTINGS)
+    add_number(parser, "--fresh", "F", 100, "fresh fights against each opponent in a heat, if the "
+               "template is tuned whole", high=MOST_FIGHTS)
+    add_number(parser, "--box", "N", 2, "tune the settings up to N steps from a race's winner; "
+               "1 step if N steps hold more than --exact")
     parser.add_argument("--certify", action="store_true", help="tune the box around a race's "
                         "winner with all fights, check the certificate, and draw its totals")
     parser.add_argument("--by-kind", action="store_true",
