@@ -93,7 +93,7 @@ def gain_of(points, weights):
 
 
 def gain_numbers(difference):
-    """Returns a gain in percent, its error, and its words: above two standard errors it is one."""
+    """Returns a gain in percent, its error, and in words: none within two standard errors."""
     percent, error = difference.mean(), difference.error()
     words = ("no difference that these fights show" if abs(percent) <= 2 * error
              else "a gain" if percent > 0 else "a loss")
