@@ -105,11 +105,6 @@ def author_lines(path, lines, names):
     return own, with_slot
 
 
-def texts_of(slots, value_of):
-    """Returns for each slot what it has in a setting, whose values are given by names."""
-    return {slot: slot.text_of(value_of[slot.name]) for slot in slots or ()}
-
-
 def is_range_of(line, names):
     return is_range_line(line.encode("latin-1")) and line.split()[1:2] and line.split()[1] in names
 

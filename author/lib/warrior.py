@@ -42,7 +42,8 @@ def own_lines(template, setting):
     value_of = template.values_by_name(setting)
     lines = [line.decode("latin-1") for line in template.lines]
     lines, _ = slots.author_lines(template.path, lines, value_of)
-    return [(slots.filled(line, slots.texts_of(of_line, value_of)), of_line or [])
+    return [(slots.filled(line, {slot: slot.text_of(value_of[slot.name])
+                                 for slot in of_line or ()}), of_line or [])
             for line, of_line in lines]
 
 
