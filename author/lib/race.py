@@ -122,7 +122,7 @@ class Race:
         return entered
 
     def play(self, contenders, count, limit):
-        """Plays new blocks, of `count` to come, within `limit`. Returns who plays and assembles."""
+        """Plays new blocks, of `count` to come, in the part `limit` of the budget. Returns who can."""
         blocks, played = self.arena.new_blocks(min(count, BLOCKS_AT_ONCE)), []
         for first in range(0, len(contenders), SETTINGS_AT_ONCE):
             some = contenders[first:first + SETTINGS_AT_ONCE]
@@ -217,7 +217,7 @@ class Race:
         return players + out
 
     def measure(self, first, second, limit):
-        """Plays two settings in fresh blocks, within `limit`. Returns the points of both."""
+        """Plays two settings in fresh blocks, in the part `limit`. Returns the points of both."""
         pair, points = [Contender(first), Contender(second)], ([], [])
         while self.arena.has_room(2 * BLOCKS_AT_ONCE, limit * self.share):
             blocks = self.arena.new_blocks(BLOCKS_AT_ONCE)
