@@ -122,7 +122,7 @@ class Race:
         return entered
 
     def play(self, contenders, count, limit):
-        """Plays new blocks, of `count` to come, in the part `limit` of the budget. Returns who can."""
+        """Plays new blocks, of `count` to come, in the part `limit`. Returns who assembles."""
         blocks, played = self.arena.new_blocks(min(count, BLOCKS_AT_ONCE)), []
         for first in range(0, len(contenders), SETTINGS_AT_ONCE):
             some = contenders[first:first + SETTINGS_AT_ONCE]
