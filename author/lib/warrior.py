@@ -204,9 +204,8 @@ def main():
                 raise
             with temporary_file(path, start_of(read_text(path), path)) as alone:
                 print_text(args, alone)
-        is_adapted = path != args.template or ADAPTED.encode() in map(
-            bytes.rstrip, read_text(path).split(b"\n"))
-        if is_adapted and not (args.original or args.as_template):
+        if not (args.original or args.as_template) and (path != args.template or (
+                ADAPTED.encode() in map(bytes.rstrip, read_text(path).split(b"\n")))):
             note("this is the adapted text: --original FILE puts the values into yours")
 
 
