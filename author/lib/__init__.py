@@ -3,36 +3,26 @@
 The modules of commands are adapt, files, holdout, landscape, scores, seek, series, spread, study,
 vary and warrior. Several commands use
 
-- start: what each command begins with, which any Python 3 can read;
-- endings: how a command ends after a fault or a signal, and what it prints of a stranger's text;
-- words: parsers, and the files, options and numbers that several commands have;
-- writing: files that are written whole or not at all, and temporary folders;
-- regular, schema: how files are read that may be anything, and JSON by a schema;
-- watching: how far a long loop is;
-- program: how `cwtune` is found and run, and its rules;
+- start, endings: how a command begins, as any Python 3 can read, and how it ends;
+- words, program: parsers with what several commands have, and how `cwtune` is found and run;
+- writing, own_folder: files that are written whole or not at all, and the folder of a long work;
+- regular, schema, cert_inputs: files that may be anything, JSON by a schema, and CERT.inputs;
+- watching, mean_error: how far a long loop is, and the standard error of a mean;
 - tuning_files, grid: schedules, certificates, templates and their settings;
 - places, slots, put_back: what can be opened in a text, how a template keeps the author's lines,
-  and how a text that was adapted gets the values;
-- cert_inputs: which inputs a certificate is for, by CERT.inputs;
-- own_folder: the folder in which a spread or a study keeps its work;
-- mean_error: the standard error of a mean;
-- series, holdout, landscape and vary: commands of which `cwtune-study` imports functions;
-- adapt: texts of pMARS as `cwtune` reads them.
+  and how a text that was adapted gets the values.
 
 To adapt a text, pmars_tokens, pmars_values, pmars_text and pmars_code read it as pMARS does and
 make its load file. Meanwhile adapt_changes collects what has to be written otherwise, CURLINE by
 adapt_counts. adapt_passes writes it, in lines that know where they come from (traced), and
-pmars_program runs pMARS itself.
-
-The words of `cwtune-vary` are read in openings.
+pmars_program runs pMARS itself. The words of `cwtune-vary` are read in openings.
 
 A spread has its options in spread/words. spread/parts and shares say what its jobs are, in a folder
 as spread/folder makes it. spread/jobs runs them here, and spread/hosts, with job.sh, on other
 hosts; progress shows how far they are, and report puts parts together.
 
-A race is in race. race_settings makes its new settings, race_model guesses what they make,
-race_fights plays its fights and keeps its budget, race_hosts, with race_job.sh, has hosts play what
-it is about to play, and race_journal keeps what was played in a file.
+A race is in race, with race_settings, race_model, race_fights, race_hosts (with race_job.sh) and
+race_journal: its new settings, what they may make, its fights, hosts that play ahead, and a file.
 
 A study reads its inputs in study/inputs, and keeps its stages in study/folder. study/race has the
 stages of a template that is too large to be tuned whole; of others study/fresh plays the heats.

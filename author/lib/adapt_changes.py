@@ -45,9 +45,16 @@ class Change:
         return is_same or self.start < other.end and other.start < self.end
 
 
+class At(NamedTuple):
+    """Where a change is: the index of a line, and the reading that asks for it, if only one does.
+    A `PmarsText`, a `Label` and a `Code` have both, too."""
+
+    index: int
+    reading: int | None = None
+
+
 class FoundBlock(NamedTuple):
-    """A FOR block of the text: the index of its head, its counter, the labels before that, and the
-    numbers of copies that it was found to have."""
+    """A FOR block of the text, and the numbers of copies that it was found to have."""
 
     head: int
     counter: str
@@ -65,33 +72,29 @@ class Finder:
         self.blocks, self.tails, self.numbers = {}, {}, []
         self.equs, self.uses, self.inverted = {}, collections.defaultdict(set), {}
 
-    def add(self, where, new, note, reading=None):
-        """Adds a change. `where` is an index and two columns."""
+    def add(self, at, root, new, note):
+        """Adds a change of the columns `root`. `at` is an `At`, or what has the same."""
         new = Traced.new(new) if isinstance(new, str) else new
-        change = self.changes.setdefault((*where, new and new.text), Change(*where, new, note))
-        if reading is not None:
-            change.readings.add(reading)
+        change = self.changes.setdefault((at.index, *root, new and new.text),
+                                         Change(at.index, *root, new, note))
+        if at.reading is not None:
+            change.readings.add(at.reading)
 
     def word(self, index, root):
-        """Returns what stands at a root."""
         return self.lines[index].text[slice(*root)]
 
-    def take_out(self, where, note, reading):
+    def take_out(self, at, root, note):
         """Takes out a label, and the line if nothing else is on it."""
-        index, start, end = where
-        line = self.lines[index]
+        line, (start, end) = self.lines[at.index], root
         end += line.text[end:end + 1] == ":"
-        is_alone = not (line.text[:start] + line.text[end:]).strip()
-        self.add((index, 0, len(line)) if is_alone else (index, start, end),
-                 None if is_alone else "", note, reading)
+        if (line.text[:start] + line.text[end:]).strip():
+            self.add(at, (start, end), "", note)
+        else:
+            self.add(at, (0, len(line)), None, note)
 
-    def comment_out(self, index, note, reading=None):
-        self.comment_from((index, 0), note, reading)
-
-    def comment_from(self, where, note, reading):
+    def comment_from(self, at, start, note):
         """Makes a comment of a line from a column on."""
-        index, start = where
-        self.add((index, start, start), comment_sign(self.lines[index].text[start:]), note, reading)
+        self.add(at, (start, start), comment_sign(self.lines[at.index].text[start:]), note)
 
     def begins_line(self, text, line, is_dropped):
         if not is_dropped:
@@ -108,20 +111,18 @@ class Finder:
     def opcode(self, text, word, root):
         """Looks at an opcode: those of P-space are not known here. PIN alone does nothing."""
         if word == "PIN":
-            self.comment_from((text.index, root[0]),
-                              "PIN is a comment now, as there is no P-space", text.reading)
+            self.comment_from(text, root[0], "PIN is a comment now, as there is no P-space")
         elif word in P_SPACE_OPCODES:
             self.cannot(text, word)
 
     def given_name(self, text, source, root, name):
-        """Looks at a name that pMARS has from the start."""
         if name == "ROUNDS":
             self.cannot(text, name)
         elif name == "PSPACESIZE" and source.root:
-            self.write_out((text.index, *root), text.reading, source.equ)
+            self.write_out(text, root, source.equ)
         elif name == "PSPACESIZE":
             value = text.names[name].lines[0].text
-            self.add((text.index, *root), value, f"{name} is {value} here", text.reading)
+            self.add(text, root, value, f"{name} is {value} here")
 
     def dropped(self, line, depth):
         """Looks at a line of a dropped block. `depth` is 1 if a block begins, -1 if one ends."""
@@ -131,26 +132,23 @@ class Finder:
         note = "prose in a block without copies is a comment now"
         if depth == 0:
             if is_bad or word_here(line.text) in ("FOR", "ROF", "END"):
-                self.comment_out(line.index, note, DROPPED)
+                self.comment_from(At(line.index, DROPPED), 0, note)
         elif depth > 0 and is_bad:
             end = line.column + word.end
-            self.add((line.index, end, end), " ;", note, DROPPED)
+            self.add(At(line.index, DROPPED), (end, end), " ;", note)
         elif depth < 0:
             self.only_rof(line, word, line.text[:word.start].strip())
 
     def only_rof(self, line, rof, before):
         """Leaves ROF alone on a line of a dropped block, with all other words in a comment."""
-        start, end = line.column + rof.start, line.column + rof.end
+        at, start, end = At(line.index, DROPPED), line.column + rof.start, line.column + rof.end
         if before:
-            self.add((line.index, line.column, start), "", "what is before ROF is a comment now",
-                     DROPPED)
+            self.add(at, (line.column, start), "", "what is before ROF is a comment now")
         if before or line.text[rof.end:].strip():
-            self.add((line.index, end, end), f" ; {before}".rstrip(),
-                     "what is after ROF is a comment now", DROPPED)
+            self.add(at, (end, end), f" ; {before}".rstrip(), "what is after ROF is a comment now")
 
     def begins_value(self, text):
-        """Forgets the numbers of labels and of CURLINE that were read before a count or an
-        assertion."""
+        """Forgets the numbers that were read before a count or an assertion."""
         self.numbers = []
 
     def number(self, text, source, root, what, value):
@@ -162,34 +160,32 @@ class Finder:
             word = self.word(text.index, root)
             new, note = str(value) if value >= 0 else f"({value})", f"{word} is {value} here"
             if source.root:
-                new, note = chars.of_root(root).strip(), f"{word} is written out"
+                spelled = (char for char, its in zip(chars.text, chars.roots) if its == root)
+                new, note = "".join(spelled).strip(), f"{word} is written out"
             elif what == "CURLINE" and not text.blocks:
                 new = self.curline.written((text.index, *root), value)
-            self.add((text.index, *root), new, note, text.reading)
+            self.add(text, root, new, note)
 
     def count(self, text, chars, node, registers):
         """Looks at the count of a block, in which no name of an instruction has a value here."""
         if not text.inside:
             self.write_numbers(text, chars, self.numbers)
-            self.expression((text.index, text.reading), chars, node, registers)
+            self.expression(text, chars, node, registers)
 
     def assertion(self, text, chars, node, registers):
         """Looks at an assertion that holds. CURLINE has the same value here."""
         labels = [number for number in self.numbers if number[2] == "label"]
         self.write_numbers(text, chars, labels)
-        self.expression((text.index, text.reading), chars, node, registers)
+        self.expression(text, chars, node, registers)
 
     def assertion_without_value(self, text):
-        self.comment_out(text.index, "the assertion has no value, and is a comment now",
-                         text.reading)
+        self.comment_from(text, 0, "the assertion has no value, and is a comment now")
 
     def block(self, text, block):
-        """Keeps a block that is copied."""
         if text.inside:
             return
         head = self.head_of(text, block)
-        counter = block.counter
-        found = FoundBlock(head, counter.name if counter else "",
+        found = FoundBlock(head, block.counter.name if block.counter else "",
                            [label for label in block.labels if label.index == head], set())
         self.blocks.setdefault(head, found).counts.add(block.count)
         self.curline.begins(text)
@@ -208,8 +204,8 @@ class Finder:
     def beside(self, text, label, column, note):
         """Writes a label of a line before at a column of the line that is read."""
         if label.index != text.index:
-            self.take_out((label.index, *label.root), note, label.reading)
-            self.add((text.index, column, column), f"{label.name} ", note, text.reading)
+            self.take_out(label, label.root, note)
+            self.add(text, (column, column), f"{label.name} ", note)
 
     def head_of(self, text, block):
         return text.lines[block.head].index
@@ -223,14 +219,12 @@ class Finder:
         start, end = source.root_of(token.start, token.end)
         labels = [label for label in text.labels if label.reading == text.reading]
         if source.text[token.end:].strip():
-            self.add((text.index, end, end), " ;", "what is after ROF is a comment now",
-                     text.reading)
+            self.add(text, (end, end), " ;", "what is after ROF is a comment now")
         if labels:
             column, line = labels[0].root[0], self.lines[text.index]
             note = f"the label {labels[0].name} comes after ROF now"
-            self.add((text.index, column, start), "", note, text.reading)
-            self.add((text.index, len(line), len(line)), "\n" + line[column:start].strip(), note,
-                     text.reading)
+            self.add(text, (column, start), "", note)
+            self.add(text, (len(line), len(line)), "\n" + line[column:start].strip(), note)
 
     def missing_rof(self, text):
         """Ends at the end of the text the blocks that have no ROF."""
@@ -250,46 +244,41 @@ class Finder:
                 line = self.lines[head]
                 code = line.text.partition(";")[0]
                 word = next(token for token in tokens_of(code) if token.text.upper() == "FOR")
-                self.add((head, word.end, len(code)), " 1 ", ONE_COPY)
+                self.add(At(head), (word.end, len(code)), " 1 ", ONE_COPY)
             self.tails[head] = index
         rofs = "        ROF\n" * len(blocks)
         line = self.lines[index]
-        at, new = (0, rofs) if where or not line.text else (len(line), "\n" + rofs.rstrip("\n"))
-        self.add((index, at, at), new, f"ROF is written {where}".rstrip())
+        end, new = (0, rofs) if where or not line.text else (len(line), "\n" + rofs.rstrip("\n"))
+        self.add(At(index), (end, end), new, f"ROF is written {where}".rstrip())
 
     def ends(self, text):
         """Looks at what is open at the end of the text."""
         if text.dropping:
-            last = len(self.lines) - 1
-            self.add((last, len(self.lines[last]), len(self.lines[last])),
-                     "\n        ROF" * text.dropping, "ROF is written")
+            end = len(self.lines[-1])
+            self.add(At(len(self.lines) - 1), (end, end), "\n        ROF" * text.dropping,
+                     "ROF is written")
 
     # Names.
 
     def repeated_label(self, text, source, root):
-        """Makes a comment of a line with a label that is there already, or takes it out if it is
-        the copy of a line."""
+        """Makes a comment of a line with a known label, or takes out that of a copied line."""
         line = self.lines[text.index]
         is_copy = any(other.number() == line.number() for other in self.lines[:text.index])
         note = f"{self.word(text.index, root)} is a label already, so pMARS leaves this out"
         if is_copy:
-            self.add((text.index, 0, len(line)), None, note, text.reading)
+            self.add(text, (0, len(line)), None, note)
         else:
-            self.comment_from((text.index, root[0]), note, text.reading)
+            self.comment_from(text, root[0], note)
 
     def text_of(self, known):
-        """Returns what an EQU name stands for."""
         parts = [self.lines[line.index][line.column:line.column + len(line.text)].strip()
                  for line in known.lines]
         return joined(parts, "\n        ")
 
-    def write_out(self, where, reading, known, new=None):
-        """Puts the text of an EQU in place of its name."""
-        if known.is_given:
-            return
-        index, *root = where
-        self.add(where, self.text_of(known) if new is None else new,
-                 f"{self.word(index, root)} is written out", reading)
+    def write_out(self, at, root, known, new=None):
+        if not known.is_given:
+            self.add(at, root, self.text_of(known) if new is None else new,
+                     f"{self.word(at.index, root)} is written out")
 
     def equ_use(self, text, source, known, use):
         """Looks at the use of an EQU, which is a label for `cwtune` if it begins an instruction."""
@@ -297,19 +286,19 @@ class Finder:
         outer = source.equ or known
         self.uses[known].add((text.index, *root) if outer is known else None)
         if is_first or len(known.lines) > 1:
-            self.write_out((text.index, *root), text.reading, outer)
+            self.write_out(text, root, outer)
 
     def late_use(self, code, root, name, known):
         """Looks at the use of an EQU that comes later. Of several lines pMARS takes the first."""
-        where = (code.index, *root)
-        self.uses[known].add(where if self.word(code.index, root) == name else None)
+        is_alone = self.word(code.index, root) == name
+        self.uses[known].add((code.index, *root) if is_alone else None)
         if len(known.lines) > 1:
             first = known.lines[0]
             new = self.lines[first.index][first.column:first.column + len(first.text)].strip()
-            self.write_out(where, code.reading, known, new)
+            self.write_out(code, root, known, new)
 
     def counter_in_equ(self, text, source):
-        self.write_out((text.index, *source.root), text.reading, source.equ)
+        self.write_out(text, source.root, source.equ)
 
     def equ(self, text, known, labels):
         """Looks at an EQU, whose name may be on a line before. Each further name gets its own."""
@@ -325,27 +314,24 @@ class Finder:
                     f"the name {last.name} is on the line of its EQU now")
 
     def own_equ(self, text, known, label):
-        """Gives one of the names of an EQU a line of its own."""
         note = f"{label.name} has an EQU of its own"
-        self.take_out((label.index, *label.root), note, label.reading)
+        self.take_out(label, label.root, note)
         if len(known.lines) == 1:
-            line = self.lines[text.index]
-            self.add((text.index, len(line), len(line)),
-                     f"\n{label.name} EQU " + self.text_of(known), note, text.reading)
+            end = len(self.lines[text.index])
+            self.add(text, (end, end), f"\n{label.name} EQU " + self.text_of(known), note)
 
     def label_again(self, text, source, root):
         """Takes out a label that is pending already."""
         if not source.root:
-            self.take_out((text.index, *root),
-                          f"{self.word(text.index, root)} is a label of this already", text.reading)
+            self.take_out(text, root, f"{self.word(text.index, root)} is a label of this already")
 
     def stray_equ(self, text):
-        self.comment_out(text.index, "an EQU without a name is a comment now", text.reading)
+        self.comment_from(text, 0, "an EQU without a name is a comment now")
 
     def join(self, text, source, root, name, counters):
         """Looks at a name with counters, of which the outer ones have to come first here."""
         if source.root:
-            self.write_out((text.index, *source.root), text.reading, source.equ)
+            self.write_out(text, source.root, source.equ)
             return
         order = [block.counter.name for block in text.blocks if block.counter]
         sorted_counters = sorted(counters, key=order.index)
@@ -356,31 +342,26 @@ class Finder:
 
     # While instructions are made.
 
-    def expression(self, where, chars, node, registers, others=frozenset()):
-        """Writes an expression otherwise if `cwtune` would give it another value. `others` are the
-        roots of what is beside it."""
-        index, reading = where
+    def expression(self, at, chars, node, registers, others=frozenset()):
+        """Writes an expression otherwise if it has to be. `others` are the roots beside it."""
         extents = extents_of(chars)
         if not is_other_here(chars.text, node, extents):
             return
         shared = [root for root in extents if root in others]
         if shared:
-            self.write_out_root(index, reading, shared[0])
+            self.write_out_root(at, shared[0])
             return
         registers = Registers(registers)
-        text = written(node, lambda part: self.leaf_text(index, chars, part, extents, registers))
-        start, end = min(root[0] for root in extents), max(root[1] for root in extents)
-        self.add((index, start, end), text,
-                 f"{self.word(index, (start, end)).strip()} is written as {text}", reading)
+        text = written(node, lambda part: self.leaf_text(at.index, chars, part, extents, registers))
+        root = whole_root(extents)
+        self.add(at, root, text, f"{self.word(at.index, root).strip()} is written as {text}")
 
-    def write_out_root(self, index, reading, root):
-        """Writes out the EQU that stands at a root."""
-        name = self.word(index, root)
+    def write_out_root(self, at, root):
         for known in self.equs:
-            if (index, *root) in self.uses[known]:
-                self.write_out((index, *root), reading, known)
+            if (at.index, *root) in self.uses[known]:
+                self.write_out(at, root, known)
                 return
-        self.unknown.append((index, name))
+        self.unknown.append((at.index, self.word(at.index, root)))
 
     def leaf_text(self, index, chars, node, extents, registers):
         """Returns the text of a part of an expression that has a name or is a number, or None."""
@@ -400,17 +381,15 @@ class Finder:
     def operand(self, instruction, operand, node, registers):
         other = instruction.a if operand is instruction.b else instruction.b
         others = instruction.head_roots | other.roots() | {operand.mode_root}
-        code = instruction.code
-        self.expression((code.index, code.reading), operand.chars, node, registers, others)
+        self.expression(instruction.code, operand.chars, node, registers, others)
 
     def lone_operand(self, instruction):
-        """Writes the A-operand of a DAT with one operand."""
         code, start = instruction.code, min(instruction.a.roots())
         if start in instruction.head_roots:
-            self.write_out_root(code.index, code.reading, start)
+            self.write_out_root(code, start)
         else:
-            self.add((code.index, start[0], start[0]), "#0, ",
-                     "the A-operand of this DAT is #0 for pMARS", code.reading)
+            self.add(code, (start[0], start[0]), "#0, ",
+                     "the A-operand of this DAT is #0 for pMARS")
 
     def instruction(self, instruction):
         """Writes 0 after a mode without a number."""
@@ -423,29 +402,30 @@ class Finder:
         """Writes 0 after the mode of an operand. `others` are the roots of what is beside it."""
         code, end = instruction.code, operand.mode_root[1]
         if operand.mode_root in others:
-            self.write_out_root(code.index, code.reading, operand.mode_root)
+            self.write_out_root(code, operand.mode_root)
             return
         is_sign = self.word(code.index, operand.mode_root) == operand.mode
-        self.add((code.index, end, end), "0" if is_sign else " 0",
-                 f"{operand.mode} without a number is {operand.mode}0", code.reading)
+        self.add(code, (end, end), "0" if is_sign else " 0",
+                 f"{operand.mode} without a number is {operand.mode}0")
 
     def org(self, instruction):
         if not instruction.b.chars.text.strip():
             end = instruction.root[1]
-            self.add((instruction.code.index, end, end), " 0", "ORG without an operand is ORG 0",
-                     instruction.code.reading)
+            self.add(instruction.code, (end, end), " 0", "ORG without an operand is ORG 0")
 
     def end_over_org(self, instructions):
         for instruction in instructions:
-            self.comment_from((instruction.code.index, instruction.root[0]),
-                              "for pMARS the start is that of END", instruction.code.reading)
+            self.comment_from(instruction.code, instruction.root[0],
+                              "for pMARS the start is that of END")
 
     def start_outside(self, instruction):
-        roots = extents_of(instruction.b.chars)
-        start, end = min(root[0] for root in roots), max(root[1] for root in roots)
-        self.add((instruction.code.index, start, end), "0",
-                 "the start is outside of the code, which pMARS reads as 0",
-                 instruction.code.reading)
+        self.add(instruction.code, whole_root(extents_of(instruction.b.chars)), "0",
+                 "the start is outside of the code, which pMARS reads as 0")
+
+
+def whole_root(roots):
+    """Returns the columns from the first of some roots to the last."""
+    return min(root[0] for root in roots), max(root[1] for root in roots)
 
 
 def word_here(text):

@@ -12,8 +12,7 @@ LONGEST_SUM = 200
 
 
 class CountedBlock(NamedTuple):
-    """A block that is in no other: its count as it is written, a `Traced`, how many copies there
-    are, and how many instructions a copy has."""
+    """A block that is in no other: its count as it is written, its copies, and their size."""
 
     count: Traced
     copies: int
@@ -50,8 +49,7 @@ class Curline:
         return count[start:].strip()
 
     def may_change(self, text, count):
-        """Returns whether a count is a number, or is made of EQU names and constants, and not of
-        the names alone that pMARS has from the start."""
+        """Returns whether a count is a number, or made of constants and EQU names of the text."""
         names = [token.text for token in tokens_of(count) if token.kind == "name"]
         return count.isdecimal() or (any(name not in self.given for name in names)
                                      and all(self.is_text(text, name) for name in names))
@@ -64,8 +62,7 @@ class Curline:
             if token.kind == "name"))
 
     def written(self, where, value):
-        """Returns the text of CURLINE, whose value is given, as a `Traced`. `where` is its line and
-        its columns there."""
+        """Returns the `Traced` text of CURLINE. `where` is its line and its columns there."""
         rest = value - sum(block.copies * block.size for block in self.blocks)
         terms = [f"{block.size}*(" + block.count + ")" for block in self.blocks]
         new = "(" + joined([Traced.new(str(rest)), *terms], "+") + ")" if terms else None

@@ -12,7 +12,6 @@ MOST_COPIES = 4096
 
 
 def changed(line, changes):
-    """Returns the lines that come of a line."""
     if any(change.new is None for change in changes):
         return []
     for change in sorted(reversed(changes), key=Change.where, reverse=True):
@@ -49,7 +48,6 @@ def comments_of_equs(finder, chosen):
 
 
 def blanks(finder):
-    """Returns changes that make a blank of each form feed in code."""
     places = [(index, match.span()) for index, line in enumerate(finder.lines)
               for match in re.finditer("[\f\v]", code_of(line.text))]
     return [Change(index, *span, Traced.new(" "), "a form feed is a blank now")
@@ -57,8 +55,7 @@ def blanks(finder):
 
 
 def changes_of_joins(finder):
-    """Yields changes that join outer counters first. If a name is written with its digits
-    somewhere, the inner block has to be unrolled."""
+    """Yields changes that join outer counters first, unless a name is spelled with its digits."""
     words = {token.text for line in finder.lines for token in tokens_of(code_of(line.text))}
     bases = {new.partition("&")[0] for found in finder.inverted.values() for _, _, new in found}
     spelled = {word for word in words for base in bases
@@ -72,8 +69,7 @@ def changes_of_joins(finder):
 
 
 def passed(finder):
-    """Returns the lines of a text with the changes that were found, and the notes, each with the
-    line that it is of."""
+    """Returns the lines with the changes that were found, and the notes, each with its line."""
     asked = sorted((change for change in finder.changes.values() if is_asked_for(finder, change)),
                    key=lambda change: change.note != ONE_COPY)
     left = [change.index for change in finder.changes.values() if not is_asked_for(finder, change)]
@@ -115,8 +111,7 @@ def copy_of(line, counter, value, has_comment):
 
 
 def unrolled(lines, block, tail):
-    """Returns the lines of a text with the copies of a block in its place. The comments stay in
-    the first copy."""
+    """Returns lines with the copies of a block in its place. The first copy keeps comments."""
     copies, body = [], lines[block.head + 1:tail]
     for value in range(1, next(iter(block.counts)) + 1):
         copies += [copy_of(line, block.counter, value, value == 1) for line in body
@@ -127,16 +122,14 @@ def unrolled(lines, block, tail):
 
 
 def innermost(blocks, tails, index):
-    """Returns the innermost block around a line that has the same number of copies whenever it is
-    read, or None."""
+    """Returns the innermost block around a line whose number of copies never differs, or None."""
     around = [block for head, block in blocks.items()
               if head <= index <= tails.get(head, -1) and len(block.counts) == 1]
     return max(around, key=lambda block: block.head, default=None)
 
 
 def prepared(lines):
-    """Returns the lines as pMARS divides them, with its first and its second `;redcode` line where
-    `cwtune` sees them, and notes."""
+    """Returns the lines as pMARS divides them, `;redcode` where `cwtune` sees it, and notes."""
     notes = []
     for step in (cut, continued, with_heads):
         lines, more_notes = step(lines)
@@ -145,7 +138,6 @@ def prepared(lines):
 
 
 def cut(lines):
-    """Returns the lines without what comes after a carriage return, and notes."""
     whole, notes = [], []
     for line in lines:
         end = line.text.partition("\r")[0]
@@ -156,7 +148,6 @@ def cut(lines):
 
 
 def continued(lines):
-    """Returns the lines with those that end with a backslash joined to the next, and notes."""
     whole, notes, goes_on = [], [], False
     for line in lines:
         if goes_on:
@@ -172,8 +163,7 @@ def continued(lines):
 
 
 def with_heads(lines):
-    """Returns the lines with the first `;redcode` line where both programs see it, and END before a
-    second one, and notes."""
+    """Returns the lines with `;redcode` where both see it, END before a second, and notes."""
     lines, notes = list(lines), []
     heads = [index for index, line in enumerate(lines) if is_head(line.text)]
     before = heads[0] if heads else len(lines)

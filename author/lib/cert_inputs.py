@@ -25,8 +25,6 @@ File = tuple[Digest, Annotated[str, range(1, 1 << 16)]]
 
 @dataclasses.dataclass
 class CertInputs:
-    """Which inputs a certificate is for."""
-
     rules: tuple[(Annotated[int, range(1 << 32)],) * len(Rules._fields)]
     part: Annotated[str, re.compile(r"\d{1,10}/\d{1,10}")]
     method: Annotated[str, re.compile(r"all|cache \d{1,10}")]
@@ -36,18 +34,11 @@ class CertInputs:
     schedule: Annotated[list[File], range(1, 2)]
     opponent: Annotated[list[File], range(1, MOST_OPPONENTS + 1)]
 
-    def files(self, kind):
-        """Returns size with digest, and name, of each file of a kind."""
-        return getattr(self, kind)
-
-    def path(self, name):
-        """Returns where a file was at the tuning."""
-        return os.path.join(self.folder, name)
-
 
 def inputs_of(text):
     """Returns what the text of such a file says. Raises a ValueError if it is malformed."""
-    lines = [line.split(" ", 1) for line in lines_of(text)]
+    # A name goes to the line feed, and may have other bytes at which `splitlines` would split.
+    lines = [line.split(" ", 1) for line in os.fsdecode(text).removesuffix("\n").split("\n")]
     fields = dict(lines)
     fields["rules"] = [int(number) if re.fullmatch("[0-9]{1,10}", number) else None
                        for number in fields.get("rules", "").split()]
@@ -57,19 +48,9 @@ def inputs_of(text):
     return checked(CertInputs, fields)
 
 
-def lines_of(text):
-    """Returns the lines of the file. A name goes to the line feed, so it may have a CR or any other
-    byte at which `splitlines` would split."""
-    return os.fsdecode(text).removesuffix("\n").split("\n")
-
-
-def inputs_path(cert):
-    return f"{cert}.inputs"
-
-
 def read(cert):
     """Returns which inputs a certificate is for, or a text that says why that is not known."""
-    name = inputs_path(cert)
+    name = f"{cert}.inputs"
     try:
         inputs = inputs_of(read_regular(MOST_BYTES, name))
     except FileNotFoundError:
@@ -84,18 +65,16 @@ def read(cert):
 def is_file(path, digest):
     """Returns whether a file is regular, and of this size and digest. It is read only then."""
     try:
-        return (os.path.getsize(path) == int(digest.split()[0]) and digest_of(path) == digest)
+        return os.path.getsize(path) == int(digest.split()[0]) and digest_of(path) == digest
     except NotRegular:
         return False
 
 
 def settle(args):
     """Fills in the rules and the files that were not given, from CERT.inputs, and refuses those
-    given that differ from it. Returns why CERT.inputs could not be used, or an empty text.
-
-    Words that a command does not have, or for which no file is found, are left alone. A certificate
-    that is not there ends the command.
-    """
+    given that differ from it. Returns why CERT.inputs could not be used, or an empty text. Words
+    that a command does not have, or for which no file is found, are left alone. A certificate that
+    is not there ends the command."""
     os.stat(args.cert)
     inputs = read(args.cert)
     if getattr(args, "hill", None):
@@ -120,9 +99,8 @@ def print_note(why_unused):
 
 
 def refuse_other_tuning(args, cert, part, method):
-    """Refuses `cert` if its CERT.inputs names another part, tuning or certificate, or is malformed.
-    Without a CERT.inputs `cert` passes."""
-    if not os.path.exists(inputs_path(cert)):
+    """Refuses `cert` if its CERT.inputs, if it is there, is malformed or of another tuning."""
+    if not os.path.exists(f"{cert}.inputs"):
         return
     inputs = read(cert)
     if isinstance(inputs, str):
@@ -147,10 +125,9 @@ def refuse_other_rules(args, rules):
 
 
 def settled_file(inputs, kind, index, given_path):
-    """Returns the path of a file of the tuning: the one given, else where the file was, or None if
-    it is not there. Refuses another file than that of the tuning."""
-    digest, name = inputs.files(kind)[index]
-    path = given_path if given_path is not None else inputs.path(name)
+    """Returns the path of a file of the tuning: the one given, else where it was, or None."""
+    digest, name = getattr(inputs, kind)[index]
+    path = given_path if given_path is not None else os.path.join(inputs.folder, name)
     if given_path is None and not os.path.exists(path):
         return None
     if not is_file(path, digest):
@@ -161,7 +138,7 @@ def settled_file(inputs, kind, index, given_path):
 
 def settled_opponents(inputs, given_paths):
     """Returns the paths of the opponents, or none if one of them is not where it was."""
-    count = len(inputs.files("opponent"))
+    count = len(inputs.opponent)
     if given_paths and len(given_paths) != count:
         raise Fault(f"opponents given: {len(given_paths)}; of the tuning: {count}", 2)
     paths = [settled_file(inputs, "opponent", index, given_paths[index] if given_paths else None)
@@ -170,8 +147,7 @@ def settled_opponents(inputs, given_paths):
 
 
 def text_of(version, rules, method, cert, files):
-    """Returns the text of the file of a certificate of a whole template. `files` are the template,
-    the schedule and the opponents."""
+    """Returns the text of CERT.inputs. `files`: the template, the schedule, the opponents."""
     if any("\n" in name for name in [*files, os.getcwd()]):
         raise ValueError
     kinds = KINDS[:2] + ["opponent"] * (len(files) - 2)

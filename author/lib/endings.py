@@ -45,8 +45,7 @@ def open_streams():
 
 
 def encoded(error):
-    """Encodes the first character that a stream cannot: a byte of a name as it is, and another one
-    as a backslash and its number."""
+    """Encodes a byte of a name as it is, and another character as a backslash and its number."""
     first = UnicodeEncodeError(error.encoding, error.object, error.start, error.start + 1,
                                error.reason)
     try:
@@ -127,10 +126,8 @@ def words_of(error):
 
 
 def say(word, message, status):
-    """Writes a line on standard error, whatever bytes a name in it has, and returns the status.
-
-    If the line cannot be written, the status alone reports the fault.
-    """
+    """Writes a line on standard error, whatever bytes a name in it has. Returns the status, which
+    alone reports the fault if the line cannot be written."""
     try:
         print(f"{word}: {escaped(message)}", file=sys.stderr, flush=True)
     except OSError:
@@ -139,12 +136,10 @@ def say(word, message, status):
 
 
 def note(text):
-    """Writes a note on standard error."""
     say("note", text, 0)
 
 
 def tell(line):
-    """Writes a line on standard error."""
     print(line, file=sys.stderr, flush=True)
 
 
@@ -160,8 +155,7 @@ def ended_with(program, returncode):
 
 
 def end_as(program, returncode, stderr):
-    """Ends as a run of `cwtune` did: with what it wrote on standard error, and with its status. If
-    it wrote nothing, or was killed, the fault names its status."""
+    """Ends as a run of `cwtune` did: with what it wrote on standard error, and with its status."""
     sys.stderr.buffer.write(stderr)
     if returncode < 0 or not stderr:
         raise ended_with(program, returncode)

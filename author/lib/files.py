@@ -8,7 +8,6 @@ from .words import command_parser, counted
 
 
 def describe(path):
-    """Returns a line that says what a file is."""
     with open(path, encoding="latin-1") as file:
         first_field = file.read(4096).split(",", 1)[0].lstrip("\xef\xbb\xbf\"\r\n")
     if first_field == "opponent":

@@ -41,16 +41,13 @@ class Grid:
                             "from 0")
 
     def read(self, path):
-        """Returns the text of the template."""
         return pathlib.Path(path).read_bytes()
 
     def count(self):
-        """Returns the number of settings."""
         return math.prod(map(len, self.ranges))
 
     def constants_of(self, values):
-        """Returns the values of a setting as the line `constants` of a report has them. Of an index
-        of a list in the author's text it has what is in the list there."""
+        """Returns the line `constants` of a setting. An index shows what is in its list."""
         pairs = zip(self.names, values)
         return " ".join(f"{name}={self.shown_value(name, value)}" for name, value in pairs) or "-"
 
@@ -58,7 +55,6 @@ class Grid:
         return self.lists[name][value] or "-" if name in self.lists else value
 
     def text(self, ranges, start_values):
-        """Returns the template with other ranges of its constants, and another START."""
         lines = list(self.lines)
         for index, name, values, start in zip(self.line_indices, self.names, ranges, start_values):
             end = "\r" if lines[index].endswith(b"\r") else ""
@@ -67,19 +63,16 @@ class Grid:
         return b"\n".join(lines)
 
     def line_through(self, values, free):
-        """Returns the template in which the constants with the indices `free` keep their ranges,
-        and each other one has its value of `values` alone. START is `values`."""
+        """Returns the template with START `values`, which only the constants `free` may leave."""
         ranges = [whole if index in free else range(value, value + 1)
                   for index, (whole, value) in enumerate(zip(self.ranges, values))]
         return self.text(ranges, values)
 
     def box(self, values, reach):
         """Returns the ranges of the values at most `reach` steps from those of a setting."""
-        ranges = []
-        for whole, value in zip(self.ranges, values):
-            index = whole.index(value)
-            ranges.append(whole[max(index - reach, 0):index + reach + 1])
-        return ranges
+        indices = (whole.index(value) for whole, value in zip(self.ranges, values))
+        return [whole[max(index - reach, 0):index + reach + 1]
+                for whole, index in zip(self.ranges, indices)]
 
 
 def is_range_line(line):
@@ -88,8 +81,7 @@ def is_range_line(line):
 
 
 def read_range(path, number, line):
-    """Returns the name of a constant, its range, and its value in START. `number` is that of the
-    line, for the fault."""
+    """Returns name, range and START of a constant. The fault has the `number` of the line."""
     words = re.split(rb"[ \t\r]+", line[6:].strip(BLANKS))
     if (len(words) == 5 and re.fullmatch(NAME.encode(), words[0])
             and all(re.fullmatch(rb"-?[0-9]{1,5}", word) for word in words[1:])):

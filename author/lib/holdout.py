@@ -13,7 +13,7 @@ them.
 
 Example: cwtune-holdout my.red my.cert
 """
-import math, pathlib, random
+import functools, math, pathlib, random
 from typing import NamedTuple
 
 from . import cert_inputs, tuning_files
@@ -21,8 +21,8 @@ from .endings import Fault, escaped, fault_of
 from .mean_error import error_of_mean
 from .program import EXPLAIN, rules_of, run_program
 from .series import refuse_distance, refuse_fights
-from .words import (FILE_HELP, add_cwtune, add_files, add_json, command_parser, counted,
-                    number_from, print_json)
+from .words import (FILE_HELP, add_cwtune, add_files, add_json, add_number, command_parser, counted,
+                    print_json)
 from .writing import temporary_folder
 
 
@@ -44,69 +44,31 @@ class FreshPoints(NamedTuple):
         return 100 * sum(map(math.prod, zip(means, weights))) / sum(weights)
 
     def error(self):
-        """Returns the standard error of the mean, in percent."""
         weights = self.opponent_weights
         errors = map(math.prod, zip(map(error_of_mean, self.by_opponent), weights))
         return 100 / 3 * math.hypot(*errors) / sum(weights)
 
     def numbers(self):
-        """Returns points, fights, and the mean with its error."""
         return {"points": sum(map(sum, self.by_opponent)),
                 "fights": sum(map(len, self.by_opponent)), "percent": self.mean(),
                 "error": self.error()}
 
     def minus(self, other):
-        """Returns the differences of the points, fight by fight."""
         pairs = zip(self.by_opponent, other.by_opponent)
         return FreshPoints([[more - less for more, less in zip(*pair)] for pair in pairs],
                            self.opponent_weights)
 
     def __str__(self):
         """Returns the points and their percentage, or the percentage alone if weights differ."""
-        percentage = f"{self.mean():.1f}% +- {self.error():.1f}"
+        numbers = self.numbers()
+        percentage = f"{numbers['percent']:.1f}% +- {numbers['error']:.1f}"
         if len(set(self.opponent_weights)) != 1:
             return percentage
-        fights = sum(map(len, self.by_opponent))
-        return f"{sum(map(sum, self.by_opponent))} of {3 * fights} ({percentage})"
-
-
-class FreshFights:
-    """The fresh fights that this command plays, at the same positions for each warrior."""
-
-    def __init__(self, args, opponent_weights):
-        self.args, self.opponent_weights = args, opponent_weights
-
-    def schedule(self):
-        """Returns the text of their schedule."""
-        args, dice = self.args, random.Random(self.args.seed)
-        low, high = args.distance, args.core - args.distance
-        return tuning_files.schedule_text(
-            tuning_files.Fight(opponent, dice.randint(low, high), "co"[index % 2])
-            for opponent in range(len(args.opponents)) for index in range(args.rounds))
-
-    def play(self, *asm_words):
-        """Returns what a warrior makes in them. `asm_words` are the words of `cwtune asm` for it.
-
-        The warrior plays as the only setting of a template.
-        """
-        args, rules = self.args, rules_of(self.args).words()
-        load_file = output_of(args.program, "asm", *EXPLAIN, *rules, *asm_words)
-        with temporary_folder() as folder:
-            files = [pathlib.Path(folder, name) for name in ("t.red", "s.csv", "cert")]
-            template, schedule, cert = files
-            template.write_bytes(b";@tune ONE 0 0 1 0\n" + load_file)
-            schedule.write_text(self.schedule())
-            output_of(args.program, "tune", *EXPLAIN, *rules, "--", *files,
-                      *args.opponents)
-            points = tuning_files.Certificate(cert).points(0)
-        rounds = args.rounds
-        return FreshPoints([[points[opponent * rounds + index] for index in range(rounds)]
-                            for opponent in range(len(args.opponents))], self.opponent_weights)
+        return f"{numbers['points']} of {3 * numbers['fights']} ({percentage})"
 
 
 def weights_by_opponent(schedule, opponents):
-    """Returns for each of `opponents` opponents the sum of its fights' weights in a schedule, or 1
-    without one."""
+    """Returns the sum of the weights of each opponent's fights in a schedule, 1 without one."""
     if not schedule:
         return [1] * opponents
     fights = tuning_files.read_schedule(schedule)
@@ -125,15 +87,13 @@ def output_of(*words):
 
 
 def gain_of(points, weights):
-    """Returns the differences of the points of one player and of another, which are texts as
-    `FreshPoints` takes them, or None if they did not play."""
+    """Returns the differences of two players' points, given as texts, or None without fights."""
     first, second = (FreshPoints.of_texts(texts, weights) for texts in points)
     return first.minus(second) if first.by_opponent else None
 
 
 def gain_numbers(difference):
-    """Returns a gain in percentage points with its error, and what it is in words: a gain or a loss
-    is more than two standard errors."""
+    """Returns a gain in percent, its error, and in words: none within two standard errors."""
     percent, error = difference.mean(), difference.error()
     words = ("no difference that these fights show" if abs(percent) <= 2 * error
              else "a gain" if percent > 0 else "a loss")
@@ -141,7 +101,6 @@ def gain_numbers(difference):
 
 
 def gain_text(gain):
-    """Returns the text of a gain, given its numbers."""
     return f"{gain['percent']:+.1f}% +- {gain['error']:.1f}, {gain['words']}"
 
 
@@ -153,28 +112,40 @@ class Holdout:
         self.cert = tuning_files.Certificate(args.cert)
         self.template = tuning_files.Template(args.template).checked_for(self.cert)
         self.fights = self.cert.fights(args.schedule)
-        weights = weights_by_opponent(args.schedule, len(args.opponents))
-        self.fresh_fights = FreshFights(args, weights)
+        self.weights = weights_by_opponent(args.schedule, len(args.opponents))
         self.ranking = self.cert.ranked(self.fights)
-        self.points = {}
 
+    def play(self, *asm_words):
+        """Returns what a warrior makes in the fresh fights, which it plays as the only setting of a
+        template. `asm_words` are the words of `cwtune asm` for it."""
+        args, rules, rounds = self.args, rules_of(self.args).words(), self.args.rounds
+        load_file = output_of(args.program, "asm", *EXPLAIN, *rules, *asm_words)
+        dice, low, high = random.Random(args.seed), args.distance, args.core - args.distance
+        fights = [tuning_files.Fight(opponent, dice.randint(low, high), "co"[index % 2])
+                  for opponent in range(len(args.opponents)) for index in range(rounds)]
+        with temporary_folder() as folder:
+            files = [pathlib.Path(folder, name) for name in ("t.red", "s.csv", "cert")]
+            template, schedule, cert = files
+            template.write_bytes(b";@tune ONE 0 0 1 0\n" + load_file)
+            schedule.write_text(tuning_files.schedule_text(fights))
+            output_of(args.program, "tune", *EXPLAIN, *rules, "--", *files, *args.opponents)
+            points = tuning_files.Certificate(cert).points(0)
+        return FreshPoints([[points[index] for index in range(first, first + rounds)]
+                            for first in range(0, len(fights), rounds)], self.weights)
+
+    @functools.cache
     def fresh_points(self, setting):
         """Returns what a setting makes in the fresh fights, which it plays once."""
-        if setting not in self.points:
-            self.points[setting] = self.fresh_fights.play(f"--setting={setting}", "--",
-                                                          self.args.template)
-        return self.points[setting]
+        return self.play(f"--setting={setting}", "--", self.args.template)
 
     def player(self, setting, rank=None):
-        """Returns the numbers of a setting: in the tuning, its total None if it was dropped, and in
-        the fresh fights. Its rank is None if it is not exact."""
+        """Returns the numbers of a setting. Its total is None if it was dropped."""
         return {"setting": setting, "rank": rank if rank and rank <= self.ranking.exact else None,
                 "values": self.template.values_by_name(setting),
                 "total": self.cert.total_of(setting, self.fights),
                 "fresh": self.fresh_points(setting).numbers()}
 
     def print_setting(self, name, player):
-        """Prints what a setting made in the tuning, and makes in the fresh fights."""
         total, greatest = player["total"], self.fights.greatest
         tuned = "dropped" if total is None else (
             f"{total} of {greatest} ({100 * total / greatest:.1f}%)")
@@ -182,27 +153,23 @@ class Holdout:
               f"{self.template.constants(player['setting'])}", flush=True)
 
     def first(self):
-        """Yields the numbers of the first of the ranking."""
         for rank, (_, setting) in enumerate(self.ranking.full[:self.args.top], 1):
             yield self.player(setting, rank)
 
     def print_first(self):
-        """Prints what the first of the ranking make."""
         for player in self.first():
             shown_rank = f", rank {player['rank']}" if player["rank"] else ""
             self.print_setting(f"setting {player['setting']}{shown_rank}", player)
 
     def other(self):
-        """Returns with whom the best setting is compared: its name, and its fresh points, None if
-        there is nothing to compare."""
+        """Returns the name of whom the best is compared with, and its fresh points or None."""
         args, start = self.args, self.template.start
         if args.against:
-            return escaped(args.against), self.fresh_fights.play("--", args.against)
+            return escaped(args.against), self.play("--", args.against)
         is_other = self.cert.assembles(start) and start != self.cert.best
         return "START", self.fresh_points(start) if is_other else None
 
     def print_comparison(self):
-        """Compares the best setting with the warrior of --against, or with START."""
         start, (other, points) = self.template.start, self.other()
         if self.args.against:
             print(f"{other}: fresh {points}")
@@ -217,7 +184,6 @@ class Holdout:
             print(f"over {other}, setting {self.cert.best}: {gain_text(gain_numbers(gain))}")
 
     def print_dropped(self):
-        """Prints how far the ranking is exact, if settings were dropped."""
         _, dropped, exact = self.ranking
         if dropped:
             verb = "was" if dropped == 1 else "were"
@@ -226,7 +192,6 @@ class Holdout:
                   f"{tuning_files.exactness_text(exact, self.args.top)}")
 
     def numbers(self):
-        """Returns all that the command prints: the object of --json."""
         players, (other, points) = list(self.first()), self.other()
         best, start = self.cert.best, self.template.start
         gain = points and self.fresh_points(best).minus(points)
@@ -239,12 +204,9 @@ class Holdout:
 
 def make_parser():
     parser = command_parser(__doc__)
-    parser.add_argument("--top", type=number_from(1), default=5, metavar="K",
-                        help="how many settings play, beside START [default: 5]")
-    parser.add_argument("--rounds", type=number_from(1), default=100, metavar="R",
-                        help="fights against each opponent [default: 100]")
-    parser.add_argument("--seed", type=number_from(0), default=1, metavar="S",
-                        help="another number gives other positions [default: 1]")
+    add_number(parser, "--top", "K", 5, "how many settings play, beside START")
+    add_number(parser, "--rounds", "R", 100, "fights against each opponent")
+    add_number(parser, "--seed", "S", 1, "another number gives other positions", low=0)
     parser.add_argument("--schedule", metavar="FILE",
                         help="the schedule [default: that of the tuning]")
     parser.add_argument("--against", metavar="FILE",

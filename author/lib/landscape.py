@@ -29,7 +29,6 @@ BEST_MARK = {"marker": "*", "markersize": 16, "color": "red", "markeredgecolor":
 
 
 def load_pyplot():
-    """Returns matplotlib.pyplot, or ends and says which package has it."""
     # Settings of a file would change the picture, and one in the current folder may be anybody's.
     os.environ["MATPLOTLIBRC"] = os.devnull
     try:
@@ -56,26 +55,18 @@ class Totals:
     """
 
     def __init__(self, template, cert, fights, opponent=None):
-        self.template, self.best, self.weights = template, cert.best, fights.weights
-        self.counted = {index for index, fight in enumerate(fights)
-                        if opponent in (None, fight.opponent)}
-        self.greatest = 3 * sum(fights[index].weight for index in self.counted)
-        self.totals, self.caps = [], []
+        self.template, self.best, self.totals, self.caps = template, cert.best, [], []
+        counted = {index for index, fight in enumerate(fights)
+                   if opponent in (None, fight.opponent)}
+        # The other fights weigh nothing.
+        fights = tuning_files.Fights(fight._replace(weight=fight.weight * (index in counted))
+                                     for index, fight in enumerate(fights))
         for setting in watched(range(cert.count), cert.count, "totals"):
-            cap, played = self.cap_of(cert, setting)
-            has_total = played == len(self.counted)
+            points = cert.points(setting)
+            cap = math.nan if points is None else tuning_files.cap(points.items(), fights)
+            has_total = points is not None and counted <= points.keys()
             self.totals.append(cap if has_total else math.nan)
             self.caps.append(math.nan if has_total else cap)
-
-    def cap_of(self, cert, setting):
-        """Returns the greatest total that a setting can have, and how many of the fights that count
-        it played; NaN and None if it does not assemble."""
-        if not cert.assembles(setting):
-            return math.nan, None
-        counted = [(points, self.weights[fight]) for fight, points in cert.items(setting)
-                   if fight in self.counted]
-        lost = sum((3 - points) * weight for points, weight in counted)
-        return self.greatest - lost, len(counted)
 
     def greys(self):
         """Returns the scale of the greys of dropped settings, or nothing if there are none."""
@@ -89,7 +80,6 @@ class Totals:
 
 
 def draw_line(plot, totals):
-    """Draws the totals over one constant."""
     figure, axes = plot.subplots(figsize=(8, 4.5))
     template, best = totals.template, totals.best
     values = template.ranges[0]
@@ -112,8 +102,7 @@ def draw_line(plot, totals):
 
 
 def label_values(axes, template, constant):
-    """Labels the axis from left to right: a constant that is an index of a list has what is in the
-    list there."""
+    """Labels the axis from left to right, of an index of a list with what is in the list."""
     name, values = template.names[constant], template.ranges[constant]
     axes.set_xlabel(name)
     if name in template.lists:
@@ -121,8 +110,7 @@ def label_values(axes, template, constant):
 
 
 def maps_of(totals, x, y, others):
-    """Returns the totals and the caps as arrays: for each choice of the constants `others` a map
-    over the constants y and x."""
+    """Returns totals and caps as arrays: maps over y and x, for each choice of the `others`."""
     import numpy
     sizes = [len(values) for values in totals.template.ranges]
     arrays = (numpy.array(heights).reshape(sizes).transpose([*others, y, x])
@@ -131,13 +119,11 @@ def maps_of(totals, x, y, others):
 
 
 def label_ticks(set_ticks, values, most):
-    """Labels an axis with at most `most` of its values."""
     indices = range(0, len(values), -(-len(values) // most))
     set_ticks(list(indices), [str(values[index]) for index in indices])
 
 
 def inches_across(columns):
-    """Returns how wide each of `columns` maps side by side is."""
     return max(8 / columns, 3.6)
 
 
@@ -156,7 +142,6 @@ def grid_of(plot, count, **sharing):
 
 
 def draw_maps(plot, totals, x, y):
-    """Draws a map over the constants x and y for each choice of the others."""
     names, ranges = totals.template.names, totals.template.ranges
     shown = [[totals.template.shown_value(name, value) for value in values]
              for name, values in zip(names, ranges)]
@@ -191,8 +176,7 @@ def draw_maps(plot, totals, x, y):
 
 
 def effect_of(template, totals, constant):
-    """Returns the values of a constant that assemble, their mean totals, and the standard errors
-    of these. `totals` is the list of all settings, and `constant` an index."""
+    """Returns the values of a constant that assemble, their mean totals, and standard errors."""
     groups = {value: [] for value in template.ranges[constant]}
     for total, values in zip(totals, template.values_of_settings):
         if not math.isnan(total):
@@ -203,7 +187,6 @@ def effect_of(template, totals, constant):
 
 
 def draw_effects(plot, totals):
-    """Draws for each constant the mean total of each of its values, with its standard error."""
     if totals.greys():
         raise Fault("settings were dropped: the means need a certificate of `cwtune tune --all`")
     template = totals.template
@@ -255,7 +238,6 @@ def make_parser():
 
 
 def save(figure, title, path):
-    """Writes a picture under its title."""
     figure.suptitle(title, fontsize=11)
     kind = path[-3:]
     date = {"Date": None} if kind == "svg" else None

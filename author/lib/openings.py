@@ -24,8 +24,7 @@ class Opening(NamedTuple):
 
 
 class Constant(NamedTuple):
-    """A constant of the template: its name, its values, START, and the texts that these are indices
-    of, none if they are numbers of the text."""
+    """A constant, its START, and the texts of which its values are indices, if they are."""
 
     name: str
     values: range
@@ -57,7 +56,7 @@ def opening_from(word):
     if strange := [text for text in texts if text not in known]:
         raise argparse.ArgumentTypeError(f"{word}: {strange[0] or 'nothing'} is no {kind}; there "
                                          f"are {' '.join(known)}")
-    return Opening(word, place, once(texts))
+    return Opening(word, place, list(dict.fromkeys(texts)))
 
 
 def malformed(word):
@@ -67,7 +66,6 @@ def malformed(word):
 
 
 def numbers_from(word, text):
-    """Returns the range or the list of numbers of a word."""
     match = NUMBERS.fullmatch(text)
     numbers = [int(number or 1) for number in (match.groups() if match else text.split(","))
                if match or LIST.fullmatch(text)]
@@ -76,7 +74,7 @@ def numbers_from(word, text):
     if max(map(abs, numbers)) > MOST_VALUE:
         raise argparse.ArgumentTypeError(f"{word}: values are -{MOST_VALUE} to {MOST_VALUE}")
     if not match:
-        return once(list(map(str, numbers)))
+        return list(dict.fromkeys(map(str, numbers)))
     low, high, step = numbers
     if step == 0:
         raise argparse.ArgumentTypeError(f"{word}: the step is 0")
@@ -85,14 +83,8 @@ def numbers_from(word, text):
     return range(low, high + 1, step)
 
 
-def once(texts):
-    """Returns texts without those that came before."""
-    return list(dict.fromkeys(texts))
-
-
 def constant_of(spot, opening, text):
-    """Returns the constant for a place, and a note if it has other values than were asked for, or
-    an empty text. `text` is the warrior's."""
+    """Returns the constant for a place, and a note if its values are not those asked for, or ''."""
     if spot.kind != "number":
         return constant_of_list(spot, spot.name, list(opening.values), text)
     start, values = int(spot.spelled()), opening.values
@@ -113,8 +105,7 @@ def constant_of(spot, opening, text):
 
 
 def constant_of_list(spot, name, texts, text):
-    """Returns the constant for a place with a list of values, and a note if the text's own value
-    is not in it, or an empty text."""
+    """Returns the constant for a place with a list, and a note as `constant_of` does."""
     spelled, note = spot.spelled(), tried_too(spot, Opening("", "", texts))
     own = own_value(spot)
     if note:
@@ -144,8 +135,7 @@ def tried_too(spot, opening):
 
 
 def number_name(spot, text):
-    """Returns the name of the constant that is the number at a place: the name of an EQU line that
-    is no more than a number, else a free one."""
+    """Returns the name of an EQU line that is no more than a number, else a free one."""
     return spot.name if spot.field == "equ" and "." not in spot.name else free_name(spot.name, text)
 
 
@@ -164,8 +154,7 @@ def place_named(name, place):
 
 
 def free_name(place, text):
-    """Returns a name for the constant of a place, which is no name of the text. The line of an
-    earlier tuning does not count."""
+    """Returns a constant's name that the text has not, but for the line of an earlier tuning."""
     name = name_of(place)
     lines = [line for line in text.split("\n") if not line.startswith(STRATEGY)]
     taken = set(re.findall(NAME, "\n".join(lines)))

@@ -14,7 +14,7 @@ import contextlib, dataclasses, errno, fcntl, json, os, pathlib, re, stat
 from .endings import Fault
 from .regular import digest_of, kind_of, read_regular, sha256_of
 from .schema import Malformed, from_json
-from .writing import naming, open_new, replacing
+from .writing import naming, replacing
 
 # More than any file of JSON that a command makes has.
 MOST_BYTES = 1 << 26
@@ -26,8 +26,7 @@ def untouched(shown, what):
 
 
 class Room:
-    """A real folder of the user, held open until `close`. `shown` is its path for faults, and
-    `parent` the descriptor that its path begins at."""
+    """A real folder of the user, held open until `close`. Faults name it `shown`."""
 
     def __init__(self, path, shown, parent=None):
         self.shown = shown
@@ -46,7 +45,6 @@ class Room:
         os.close(self.descriptor)
 
     def names(self, pattern):
-        """Returns the names in the folder that match a pattern whole."""
         return [name for name in os.listdir(self.descriptor) if re.fullmatch(pattern, name)]
 
     def refuse_strange(self, pattern):
@@ -64,7 +62,6 @@ class Room:
                 "shown": f"{self.shown}/{name}"}
 
     def remove(self, pattern):
-        """Removes the files whose whole names match a pattern."""
         for name in self.names(pattern):
             os.unlink(name, dir_fd=self.descriptor)
 
@@ -75,7 +72,8 @@ class OwnFolder:
     `MARK` is the name of its mark, and `SCHEMA` its dataclass, with the entry `by`. `THROWN` and
     `INSTEAD` are words of the fault for other inputs: what --anew throws away, and which word of
     the command names another folder. `given_path` is its path as the user or the command gives it,
-    and `path` the whole one.
+    and `path` the whole one. `rooms()` returns for each room the pattern of the names that the
+    command gives in it; that of the empty name is the folder itself, without the mark.
     """
 
     COMMAND = MARK = THROWN = INSTEAD = ""
@@ -93,11 +91,6 @@ class OwnFolder:
             except BlockingIOError:
                 raise Fault(f"another {self.COMMAND} is at work in {given_path}", 2) from None
 
-    def rooms(self):
-        """Returns for each room the pattern of the names that the command gives in it. The room of
-        the empty name is the folder itself; its mark is not among them."""
-        raise NotImplementedError
-
     def patterns(self):
         """Yields the rooms, each with the pattern of its names, also while they are written."""
         for room, names in self.rooms().items():
@@ -105,12 +98,10 @@ class OwnFolder:
             yield room, rf"({names})(\.\d+\.new)?{more}"
 
     def maker(self):
-        """Returns the command with the version of its folders."""
         return f"{self.COMMAND} {self.VERSION}"
 
     @contextlib.contextmanager
     def room(self, name):
-        """Gives a block the room of this name, or None if there is none."""
         if not name:
             yield self.top
             return
@@ -159,18 +150,12 @@ class OwnFolder:
 
     @contextlib.contextmanager
     def whole_file(self, name, mode="w"):
-        """Opens a new file, which replaces the file `name` once all is written to it."""
         with (naming(f"{self.given_path}/{name}"), self.room_of(name) as (room, file_name),
               replacing(room.descriptor, file_name, mode) as file):
             yield file
 
-    def create(self, name):
-        """Opens a file that is not there yet."""
-        return open_new(self.top.descriptor, name, "wb")
-
     def open_to_append(self, name):
-        """Opens a file of the folder, or makes it, to read it and to write at its end. Refuses one
-        that has a name elsewhere, too, as it would change there."""
+        """Opens a file to append to. Refuses one that has a name elsewhere, too."""
         with self.room_of(name) as (room, file_name):
             descriptor = os.open(file_name, os.O_RDWR | os.O_APPEND | os.O_CREAT | os.O_NOFOLLOW,
                                  0o666, dir_fd=room.descriptor)
@@ -181,12 +166,10 @@ class OwnFolder:
         return file
 
     def write(self, name, text):
-        """Writes a file of the folder, whole."""
         with self.whole_file(name, "wb") as file:
             file.write(text)
 
     def digest(self, name):
-        """Returns the size and the digest of a file, or None if it is not there."""
         try:
             with self.room_of(name) as (room, file_name):
                 return digest_of(**room.place(file_name))
@@ -204,8 +187,7 @@ class OwnFolder:
                     room.refuse_strange(pattern)
 
     def remove_all(self):
-        """Removes the rooms and all files of the command but the mark. The mark has to say so
-        before, since a kill may come in between."""
+        """Removes all but the mark, which has to say so before, since a kill may come."""
         for name, pattern in self.patterns():
             with self.room(name) as room:
                 if room:
@@ -215,8 +197,7 @@ class OwnFolder:
                     os.rmdir(name, dir_fd=self.top.descriptor)
 
     def refuse_other_inputs(self, recorded, inputs, complaint):
-        """Refuses a folder if what it recorded of its inputs differs from `inputs`. `complaint` is
-        the text that says so."""
+        """Refuses, with `complaint`, a folder that recorded other inputs than these."""
         others = [f"{kind} was {recorded.get(kind)}" if kind.startswith("--") else kind
                   for kind, value in inputs.items() if recorded.get(kind) != value]
         if others:

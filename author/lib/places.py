@@ -75,7 +75,6 @@ class Line(NamedTuple):
         return span if span and self.is_own(span) else None
 
     def decimals(self, field):
-        """Returns the spans of all numbers of a field."""
         spans = [Span(*match.span()) for match in NUMBER.finditer(self.text, *self.fields[field])]
         return [span for span in spans if self.is_own(span)]
 
@@ -90,8 +89,7 @@ class Line(NamedTuple):
 
 
 class Spot(NamedTuple):
-    """A place that was found: its name as `cwtune-vary` lists it, its line and field, what kind of
-    thing is there, and its characters."""
+    """A place that was found: its name as `cwtune-vary` lists it, and where it is."""
 
     name: str
     line: Line
@@ -121,7 +119,6 @@ class Spot(NamedTuple):
 
 
 def kind_of(field):
-    """Returns what kind of thing a field has."""
     return "number" if field in ("a", "b", "equ") else field.rpartition("-")[2]
 
 
@@ -135,8 +132,7 @@ def place_of(adapted, row, start, end):
 
 
 def assembled_lines(text):
-    """Returns the numbers and the texts of the lines that are assembled: from `;redcode`, if there
-    is such a line, to END."""
+    """Returns numbers and texts of the lines from `;redcode`, if there is one, to END."""
     lines = list(enumerate(text.split("\n"), 1))
     heads = [number for number, line in lines if line[:8].lower() == ";redcode"]
     lines = lines[heads[0] if heads else 0:]
@@ -146,8 +142,7 @@ def assembled_lines(text):
 
 
 def lines_of(text, adapted=None):
-    """Returns the lines that have an opcode or a directive. One gets the labels before it, too.
-    `adapted` is the adapted text, if the author's own is another one."""
+    """Returns the lines with an opcode or a directive, each with the labels before it, too."""
     lines, waiting, depth, numbers = [], [], 0, set()
     for row, line in assembled_lines(text):
         code = code_of(line)
@@ -178,7 +173,6 @@ def number_of(adapted, row, column):
 
 
 def hide_fields(lines):
-    """Takes from lines the fields that are no places."""
     equs = {name: line for line in lines if line.word == "equ" and "equ" in line.fields
             for name in line.labels}
     for line in lines:
@@ -193,8 +187,7 @@ def hide_fields(lines):
 
 
 def mode_in_equ(line, field, equs):
-    """Returns that the mode of an operand is in the EQU line of its first name, or an empty text.
-    `equs` has the EQU lines by their names."""
+    """Returns that an operand's mode is in an EQU line, or ''. `equs` has these by their names."""
     if kind_of(field) != "mode" or line.spelled(line.fields[field]):
         return ""
     text, equ = line.spelled(line.fields[field[0]]), None
@@ -285,13 +278,11 @@ def spots_in(line, field):
 
 
 def title_of(line, field):
-    """Returns the place of a field of a line."""
     label = line.labels[-1] if line.labels else line.number
     return str(label) if field == "equ" else f"{label}.{field}"
 
 
 def line_of(path, lines, name, field):
-    """Returns the line that a name or a number means."""
     if name.isdecimal():
         found = [line for line in lines if line.number == int(name) and line.fields]
         if not found:

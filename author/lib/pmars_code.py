@@ -118,7 +118,6 @@ class Instruction:
         return state
 
     def add(self, state, text, roots):
-        """Adds to the expression of an operand."""
         chars = (self.a if state == "A rest" else self.b).chars
         chars.extend(text, roots)
         self.has_value = True
@@ -144,7 +143,6 @@ class Instruction:
                              else otherwise)
 
     def value(self, operand):
-        """Returns the value of an operand's expression, 0 if it is empty."""
         chars = operand.chars
         if not chars.text:
             return 0
@@ -159,8 +157,6 @@ class Instruction:
 
 
 class Load:
-    """The load file of a text."""
-
     def __init__(self, text):
         self.text, self.start, self.lines = text, 0, []
         if not text.address:
@@ -183,17 +179,15 @@ class Load:
             self.start = 0
 
     def set_start(self, instruction):
-        """Reads the value of ORG or END."""
         value = instruction.value(instruction.b)
         if instruction.opcode == "ORG":
-            self.start = value % self.text.rules.core
-            self.start_code = instruction
             self.org_codes.append(instruction)
             self.text.finder.org(instruction)
         elif instruction.opcode == "END" and value and not self.start:
-            self.start = value % self.text.rules.core
-            self.start_code = instruction
             self.text.finder.end_over_org(self.org_codes)
+        else:
+            return
+        self.start, self.start_code = value % self.text.rules.core, instruction
 
     def add(self, instruction):
         core = self.text.rules.core

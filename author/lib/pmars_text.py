@@ -8,8 +8,7 @@ as it is met.
 import enum
 from typing import NamedTuple
 
-from .pmars_tokens import (BLANKS, LETTERS, OPCODES, PSEUDO_OPCODES, code_of, token_at,
-                           tokens_of)
+from .pmars_tokens import BLANKS, LETTERS, OPCODES, PSEUDO_OPCODES, code_of, token_at, tokens_of
 from .pmars_values import NoValue, ParserThere, Registers
 
 # What pMARS takes at most: labels of one instruction, lines of code, bytes of a line.
@@ -32,8 +31,7 @@ class TooMuch(Exception):
 
 
 class State(enum.IntEnum):
-    """What was read of a line: nothing, labels, a value begun, code, the value of a pseudo-opcode,
-    the head of a block, its end, or something wrong."""
+    """What was read of a line. VALUE is a value begun, and START that of a pseudo-opcode."""
 
     WRONG = -1
     NOTHING = 0
@@ -46,8 +44,7 @@ class State(enum.IntEnum):
 
 
 class Line(NamedTuple):
-    """A line as pMARS keeps it: its index in the text, the column of its first character, and its
-    text without the comment."""
+    """A line as pMARS keeps it: its index in the text, its first column, and no comment."""
 
     index: int
     column: int
@@ -106,13 +103,9 @@ class Chars:
         self.text, self.roots = "", []
         return taken
 
-    def of_root(self, root):
-        return "".join(char for char, its in zip(self.text, self.roots) if its == root)
-
 
 class Block(NamedTuple):
-    """A FOR block that is copied: the index of its head, the label that is its counter or None, the
-    labels before that, and how many copies there are."""
+    """A FOR block that is copied: where its head is, its counter or None, and other labels."""
 
     head: int
     counter: Label | None
@@ -143,7 +136,6 @@ class PmarsText:
         self.goes_on, self.index, self.inside, self.warnings = True, 0, None, set()
 
     def expand(self):
-        """Reads all lines."""
         while self.at < len(self.lines) and self.goes_on:
             made = Chars()
             state = self.read_line(made)
@@ -211,7 +203,6 @@ class PmarsText:
         return token.end, state
 
     def read_assertion(self, source, token, made):
-        """Reads an assertion, and refuses one that is false."""
         word = token_at(source.text, token.end)
         if word.text.upper() != "ASSERT":
             return
@@ -230,7 +221,6 @@ class PmarsText:
         self.finder.assertion(self, chars, node, before)
 
     def name_step(self, source, token, made, state):
-        """Reads a word."""
         word = token.text.upper()
         if self.dropping:
             return self.dropped_step(token, word)
@@ -248,7 +238,6 @@ class PmarsText:
         return (self.read_block if word == "FOR" else self.read_equ)(source, token.end, made)
 
     def dropped_step(self, token, word):
-        """Reads a word of a block that is dropped."""
         if word in ("FOR", "ROF"):
             self.dropping += 1 if word == "FOR" else -1
             return State.WRONG
@@ -257,7 +246,6 @@ class PmarsText:
         return token.end, State.NOTHING
 
     def curline_step(self, source, token, made, state):
-        """Puts in how many instructions there are before the line."""
         if state <= State.LABELS:
             raise PmarsFault(self.index, "CURLINE is no label")
         root = source.root_of(token.start, token.end)
@@ -291,7 +279,6 @@ class PmarsText:
         return taken
 
     def define(self, labels):
-        """Gives labels the address of what comes next."""
         for label in labels:
             self.names[label.name] = Name("label", self.address)
 
@@ -335,7 +322,6 @@ class PmarsText:
         return name, at, counters
 
     def number_step(self, source, at, made, what):
-        """Puts in the number of a counter, or of a label."""
         state, known, root = what
         if known.kind == "counter":
             text = f"{known.value:02}"
@@ -348,7 +334,6 @@ class PmarsText:
         return at, state
 
     def read_equ_use(self, source, at, made, what):
-        """Reads what an EQU name stands for."""
         state, known, root = what
         if known.is_open:
             raise PmarsFault(self.index, "an EQU that names itself")
@@ -393,7 +378,6 @@ class PmarsText:
         return State.VALUE
 
     def read_block(self, source, at, made):
-        """Reads the head of a block, and its copies."""
         labels, counter = self.take_labels(), None
         if labels:
             *labels, counter = labels
@@ -455,13 +439,11 @@ def given_names(rules):
 
 
 def blank_at(text, at):
-    """Returns a blank if there is one at a column."""
     return " " if text[at:at + 1] and text[at:at + 1] in BLANKS else ""
 
 
 def lines_of(texts):
-    """Returns the lines that pMARS keeps of those of a text: from its `;redcode` line to a second
-    one, without empty lines and comments."""
+    """Returns what pMARS keeps of the lines, from a `;redcode` to the next, but empty ones."""
     kept = []
     heads = [index for index, text in enumerate(texts) if is_head(text)]
     first = heads[0] + 1 if heads else 0

@@ -23,8 +23,7 @@ KIND_OF_SIGN = {**dict.fromkeys(MODES, "mode"), **dict.fromkeys(SIGNS, "sign"), 
 
 
 class Token(NamedTuple):
-    """A token: its kind, its text, and where that is in the text that was read. The kind is name,
-    number, mode, sign, join, comment, comma, dot or other, and empty at the end of the text."""
+    """A token, and where it is in the text that was read. At the end its kind is empty."""
 
     kind: str
     text: str
@@ -33,7 +32,6 @@ class Token(NamedTuple):
 
 
 def token_at(text, start):
-    """Returns the first token of a text from `start` on."""
     match = TOKEN.match(text, start)
     if not match:
         return Token("", "", len(text), len(text))
@@ -53,5 +51,4 @@ def comment_sign(text):
 
 
 def code_of(text):
-    """Returns a line without its comment."""
     return text.partition(";")[0]

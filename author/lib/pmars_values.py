@@ -79,7 +79,6 @@ def value_of(node, leaf_value):
 
 
 def leaves_of(node):
-    """Returns the numbers and registers of an expression."""
     below = [part for part in node.parts if isinstance(part, Node) and node.kind != "set"]
     return [leaf for part in below for leaf in leaves_of(part)] if below else [node]
 
@@ -97,7 +96,6 @@ class Parser:
         return self.text[self.at:self.at + 1]
 
     def operand(self):
-        """Reads an operand with the signs before it."""
         self.skip()
         start, first = self.at, self.next()
         if first == "(":
@@ -120,7 +118,6 @@ class Parser:
         return Node("number", (), start, self.at)
 
     def register(self, start):
-        """Reads a register, or what is given to one."""
         self.at += 1
         self.skip()
         if self.next() == "=" and self.text[self.at + 1:self.at + 2] != "=":
@@ -142,7 +139,6 @@ class Parser:
         return self.next() in ("", ")")
 
     def whole(self):
-        """Returns the whole text as an expression."""
         node = self.expression()
         if self.at != len(self.text):
             raise NoValue("more than an expression")

@@ -40,18 +40,14 @@ SETTINGS_AT_ONCE, BLOCKS_AT_ONCE = 48, 16
 
 
 class Contender:
-    """A setting in the race: its values, and the blocks that it played.
-
-    A rate is the points as a part of the greatest total. `guess` is what the setting was thought to
-    make before it played.
-    """
+    """A setting in the race: its values, and the blocks that it played. A rate is the points as a
+    part of the greatest total. `guess` is what the setting was thought to make before it played."""
 
     def __init__(self, values, guess=0.0):
         self.values, self.guess, self.assembles = values, guess, True
         self.blocks, self.sum_of_rates = 0, 0.0
 
     def add(self, rates):
-        """Adds the rates of some blocks. They are None if the setting does not assemble."""
         if rates is None:
             self.assembles = False
         else:
@@ -92,7 +88,6 @@ class Race:
         self.survivors, self.model = [], None
 
     def run(self):
-        """Runs the race to its end. Returns the outcome."""
         self.start.add(self.arena.rates([self.start], self.arena.trial_blocks())[0])
         self.start.guess = self.start.rate()
         self.arena.tell_estimate(f"a race of {self.grid.count()} settings")
@@ -127,8 +122,7 @@ class Race:
         return entered
 
     def play(self, contenders, count, limit):
-        """Plays new blocks, until the part `limit` of the race's budget is used: the first of
-        `count` that are to come. Returns the contenders that played and assemble."""
+        """Plays new blocks, of `count` to come, in the part `limit`. Returns who assembles."""
         blocks, played = self.arena.new_blocks(min(count, BLOCKS_AT_ONCE)), []
         for first in range(0, len(contenders), SETTINGS_AT_ONCE):
             some = contenders[first:first + SETTINGS_AT_ONCE]
@@ -141,11 +135,9 @@ class Race:
         return [contender for contender in played if contender.assembles]
 
     def plays_until(self, limit):
-        """Returns how many plays are left until the part `limit` of the race's budget is used."""
         return self.arena.plays_until(limit * self.share)
 
     def explore(self):
-        """Races settings from everywhere, as many as their part of the budget has room for."""
         count = int(self.plays_until(EXPLORED) / plays_of_exploring())
         new = self.enter(spread_evenly(self.grid.ranges, count, self.dice))
         self.tell("exploring")
@@ -167,8 +159,7 @@ class Race:
         return bool(new)
 
     def race(self, new, limit):
-        """Races those that played the first heat of a round against the survivors of the round
-        before. Sets the survivors of this one."""
+        """Races the new ones of a round against the survivors of the last. Sets the survivors."""
         runners, length = self.best([*new, *self.survivors]), FIRST_HEAT
         while length < LONGEST_HEAT or len(runners) > SURVIVORS + 1:
             length = min(2 * length, LONGEST_HEAT)
@@ -179,13 +170,11 @@ class Race:
         self.survivors = runners
 
     def best(self, contenders):
-        """Returns the better part of some contenders, the best first, and START."""
         count = max(SURVIVORS, math.ceil(GOES_ON * len(contenders)))
         ranked = sorted(contenders, key=Contender.estimate, reverse=True)
         return self.with_start(ranked[:count])
 
     def with_start(self, contenders):
-        """Returns contenders, and START if it assembles."""
         has_start = any(one.values == self.start.values for one in contenders)
         return contenders + [self.start] * (self.start.assembles and not has_start)
 
@@ -215,9 +204,8 @@ class Race:
         return ranked
 
     def knock_out(self, settings, counts, kept, limit):
-        """Plays settings in heats of fresh blocks, which alone count. `counts` says how many play
-        in each heat, the best so far; the setting `kept` plays in all. Returns the settings as new
-        contenders, the best first."""
+        """Plays settings in heats of fresh blocks, which alone count, `counts` of them in each heat
+        and `kept` in all. Returns the settings as new contenders, the best first."""
         players, out = [Contender(values) for values in settings], []
         for heat, count in enumerate(counts if len(players) > 1 else ()):
             out = [player for player in players[count:] if player.values != kept] + out
@@ -229,8 +217,7 @@ class Race:
         return players + out
 
     def measure(self, first, second, limit):
-        """Plays two settings in fresh blocks, until the part `limit` of the race's budget is used.
-        Returns the points of both: a text for each opponent, with a digit for each fight."""
+        """Plays two settings in fresh blocks, in the part `limit`. Returns the points of both."""
         pair, points = [Contender(first), Contender(second)], ([], [])
         while self.arena.has_room(2 * BLOCKS_AT_ONCE, limit * self.share):
             blocks = self.arena.new_blocks(BLOCKS_AT_ONCE)

@@ -4,7 +4,7 @@ Each process plays one setting, as the only one of a template, in some blocks; -
 side by side. What was played is a list of records, which a study keeps in a file. A race that is
 begun again with these takes the points from them, up to where it was stopped.
 """
-import argparse, concurrent.futures, operator, os, pathlib, random, resource, shutil
+import argparse, concurrent.futures, itertools, operator, os, pathlib, random, resource, shutil
 import subprocess, time
 from typing import NamedTuple
 
@@ -29,17 +29,12 @@ END_PART, END_SECONDS = 0.01, 0.4
 WITH_PARENT = ["setpriv", "--pdeathsig", "KILL", "--"] if shutil.which("setpriv") else []
 
 
-def processor_seconds():
-    """Returns the seconds of this process and of its children that have ended."""
-    return sum(sum(resource.getrusage(who)[:2])
-               for who in (resource.RUSAGE_SELF, resource.RUSAGE_CHILDREN))
-
-
 def clock():
     """Returns the seconds that --minutes counts. Measurements set CWTUNE_CLOCK=processor, since the
     time on a wall says little on a busy machine."""
     if os.environ.get("CWTUNE_CLOCK") == "processor":
-        return processor_seconds()
+        return sum(sum(resource.getrusage(who)[:2])
+                   for who in (resource.RUSAGE_SELF, resource.RUSAGE_CHILDREN))
     return time.monotonic()
 
 
@@ -50,7 +45,6 @@ class Budget(NamedTuple):
     seconds: float | None = None
 
     def used(self, fights, seconds):
-        """Returns which part of the budget is used by some fights that took some seconds."""
         parts = [fights / self.fights] if self.fights else []
         if self.seconds:
             parts.append(seconds / max(0.001, self.seconds * (1 - END_PART) - END_SECONDS))
@@ -67,7 +61,6 @@ class Positions:
         self.shift = dice.randrange(2)
 
     def fight(self, opponent, block):
-        """Returns the fight of a block, which is given by its number."""
         cycle, index = divmod(block, len(self.positions))
         return Fight(opponent, self.positions[index], "co"[(index + cycle + self.shift) % 2])
 
@@ -84,8 +77,7 @@ class Arena:
     def __init__(self, args, budget, grid, opponents, weights, records, folder, work=None):
         self.args, self.budget, self.grid, self.records = args, budget, grid, records
         self.rules = rules_of(args)
-        self.opponents, self.weights = zip(*((path, weight) for path, weight
-                                             in zip(opponents, weights) if weight))
+        self.opponents, self.weights = opponents, weights
         self.folder, dice = pathlib.Path(folder), random.Random(args.seed)
         self.work = work or self.folder
         self.positions = [Positions(self.rules, dice) for _ in self.opponents]
@@ -108,15 +100,12 @@ class Arena:
         self.threads.shutdown()
 
     def elapsed(self):
-        """Returns the seconds of the race, as its budget counts them."""
         return clock() - self.began_at
 
     def used(self):
-        """Returns which part of the budget is used."""
         return self.budget.used(self.fights, self.seconds)
 
     def has_room(self, plays, limit):
-        """Returns whether `plays` more are within a part of the budget."""
         fights = self.fights + plays * len(self.opponents)
         return self.budget.used(fights, self.seconds + plays * self.seconds_of_play) <= limit
 
@@ -126,7 +115,6 @@ class Arena:
         return max(0, left / len(self.opponents))
 
     def charge(self, fights, seconds):
-        """Takes fights and seconds from the budget."""
         self.fights += fights
         self.seconds += seconds
         self.began_at = clock() - self.seconds
@@ -138,29 +126,24 @@ class Arena:
         return blocks
 
     def blocks_to_come(self, count):
-        """Returns the next `count` blocks, each a tuple of fights."""
         numbers = range(self.block_count, self.block_count + count)
         return [tuple(positions.fight(opponent, number)
                       for opponent, positions in enumerate(self.positions)) for number in numbers]
 
     def trial_blocks(self):
-        """Returns the first blocks, of START alone, which show how long the race takes. They take
-        two seconds at most, but in very slow fights."""
+        """Returns the first blocks, which START plays alone. They take about two seconds."""
         return self.new_blocks(max(1, min(TRIAL_BLOCKS, TRIAL_FIGHTS // len(self.opponents))))
 
     def rates(self, contenders, blocks):
-        """Returns the rates of contenders in blocks, or None for one that does not assemble."""
         greatest = 3 * sum(self.weights)
         return [points and [sum(map(operator.mul, self.weights, map(int, block))) / greatest
                             for block in points] for points in self.play(contenders, blocks)]
 
     def is_recorded(self):
-        """Returns whether what comes next was played before."""
         return self.record_count < len(self.records)
 
     def play(self, contenders, blocks):
-        """Returns the points of contenders in blocks, or None for one that does not assemble. The
-        points of a block are a text with a digit for each opponent."""
+        """Returns the points of contenders in blocks: a digit for each opponent, or None."""
         settings = [list(contender.values) for contender in contenders]
         if not self.is_recorded():
             points = self.hosts.take(settings, blocks) or self.run(settings, blocks)
@@ -178,19 +161,19 @@ class Arena:
         return record["points"]
 
     def run(self, settings, blocks):
-        """Plays settings in blocks, several processes side by side."""
-        pieces = range(0, len(blocks), BLOCKS_OF_PROCESS)
-        for piece in pieces:
+        firsts = range(0, len(blocks), BLOCKS_OF_PROCESS)
+        for piece in firsts:
             fights = (fight for block in blocks[piece:piece + BLOCKS_OF_PROCESS] for fight in block)
             (self.folder / f"{piece}.csv").write_text(schedule_text(fights))
         futures = []
         for number, values in enumerate(settings):
             (self.folder / f"{number}.red").write_bytes(self.grid.line_through(values, ()))
             futures.append([self.threads.submit(self.run_process, number, piece)
-                            for piece in pieces])
+                            for piece in firsts])
         points = []
         for of_setting in futures:
-            points.append(joined([future.result() for future in of_setting]))
+            pieces = [future.result() for future in of_setting]
+            points.append(None if None in pieces else list(itertools.chain(*pieces)))
             self.tell_progress()
         self.plays_of_jobs += len(settings) * len(blocks)
         return points
@@ -201,7 +184,6 @@ class Arena:
                 "/dev/stdout", *opponents]
 
     def run_process(self, number, piece):
-        """Plays a setting in a piece of the blocks. Returns its points, or None."""
         began_at = time.monotonic()
         words = self.words(self.args.program, self.folder / f"{number}.red",
                            self.folder / f"{piece}.csv", self.opponents)
@@ -222,7 +204,6 @@ class Arena:
             return points_of(stdout.split(b"\n", 3)[2], len(self.opponents))
 
     def tell_estimate(self, what):
-        """Prints about how long the budget lasts, by the fights so far."""
         if not self.seconds_of_jobs:
             tell(f"{what}: goes on where it was stopped")
             return
@@ -233,17 +214,10 @@ class Arena:
              f"{counted(self.args.jobs, 'processor')}")
 
     def tell_progress(self):
-        """Prints how far the race is, if some seconds have passed since the last line."""
         self.pace.tell(f"{100 * self.used():.0f}%: {self.news}, {self.fights} fights")
 
 
-def joined(pieces):
-    """Returns the points of the pieces of a heat, one after the other."""
-    return None if None in pieces else [block for piece in pieces for block in piece]
-
-
 def duration(seconds):
-    """Returns a time in words, in the unit that fits."""
     if seconds < 100:
         return counted(max(1, round(seconds)), "second")
     if seconds < 6000:
@@ -252,7 +226,6 @@ def duration(seconds):
 
 
 def add_budget(parser):
-    """Adds the options of a race to the words of a command."""
     group = parser.add_argument_group("race")
     group.add_argument("--fights", type=number_from(1000), metavar="N", help="end after N fights, "
                        f"1000 or more [default: {DEFAULT_FIGHTS}, unless --minutes is given]")
@@ -272,7 +245,6 @@ def hosts_file(word):
 
 
 def minutes(word):
-    """Reads a number of minutes for argparse."""
     try:
         number = float(word)
     except ValueError:
@@ -283,7 +255,6 @@ def minutes(word):
 
 
 def budget_of(args):
-    """Returns the budget of the words of a command, which has a default."""
     if not (args.fights or args.minutes):
         args.fights = DEFAULT_FIGHTS
     return Budget(args.fights, args.minutes and 60 * args.minutes)

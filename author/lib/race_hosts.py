@@ -22,8 +22,7 @@ SCRIPT = pathlib.Path(__file__).with_name("race_job.sh")
 
 
 def points_of(row, width):
-    """Returns the points of blocks of `width` fights, given the row of a certificate that lists
-    them all: a text for each block."""
+    """Returns a text for each block of `width` fights, given the row with all their points."""
     points = {int(fight): digit for fight, _, digit in (item.partition(b":") for item
                                                         in row.split(b",")[2].split(b" "))}
     digits = b"".join(points[fight] for fight in range(len(points))).decode()
@@ -31,8 +30,6 @@ def points_of(row, width):
 
 
 class Piece(NamedTuple):
-    """Settings that play in blocks."""
-
     settings: list
     blocks: list
 
@@ -77,13 +74,11 @@ class PiecesFolder:
         self.file(number, "csv").write_text(schedule_text(fights))
 
     def words(self, number):
-        """Returns the words that play a piece in the folder."""
         name = f"{number}.{self.pid}"
         return ["sh", "./race_job", f"{name}.settings",
                 *self.arena.words("./cwtune", "setting.red", f"{name}.csv", self.opponents)]
 
     def result(self, number, status):
-        """Returns the points of a piece, by setting and block."""
         piece, fault = self.pieces[number], self.file(number, "fault").read_bytes()
         if status:
             raise fault_of(subprocess.CompletedProcess(["cwtune"], status, b"", fault))
@@ -105,8 +100,7 @@ class Hosts:
         self.arena, self.points, self.seconds = arena, {}, 0.0
 
     def play_ahead(self, contenders, blocks, count, limit):
-        """Has hosts play, if that takes long, what contenders are about to play: `blocks`, and the
-        blocks that come next, `count` in all, as far as `limit` of the budget allows."""
+        """Has hosts play `blocks`, and those to come of `count`, if that takes long here."""
         arena, settings = self.arena, [contender.values for contender in contenders]
         if (not (arena.args.hosts and arena.plays_of_jobs) or arena.is_recorded()
                 or (settings[0], blocks[0]) in self.points):
@@ -131,7 +125,6 @@ class Hosts:
         return plays if plays <= most else max(1, int(most / at_once)) * at_once
 
     def seconds_here(self):
-        """Returns the seconds of a play on a processor of this host."""
         return self.arena.seconds_of_jobs / self.arena.plays_of_jobs
 
     def processors(self):
@@ -139,7 +132,6 @@ class Hosts:
         return len(read_hosts(self.arena.args.hosts)) * self.arena.args.jobs
 
     def play_pieces(self, settings, blocks):
-        """Has hosts play settings in blocks."""
         arena, plays = self.arena, len(settings) * len(blocks)
         plays_of_piece = math.ceil(min(plays / self.processors(), SECONDS / self.seconds_here()))
         pieces = pieces_of(settings, blocks, plays_of_piece, MOST_FIGHTS // len(arena.opponents))
@@ -151,7 +143,6 @@ class Hosts:
         self.seconds = seconds / plays
 
     def play(self, folder):
-        """Plays the pieces of a folder. Returns the points."""
         jobs, points = HostJobs(self.arena.args, folder, folder.pieces), {}
         try:
             for number, status in ended(jobs, self.arena.tell_progress):

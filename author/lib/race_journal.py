@@ -19,8 +19,7 @@ class Record(TypedDict):
 
 
 class Journal(list):
-    """The records of a race, in an open file of a line of JSON for each. A line that a kill has cut
-    is removed. `shown` is the file's name for faults."""
+    """The records of a race, in an open file: a line of JSON for each, but for one that was cut."""
 
     def __init__(self, file, shown):
         super().__init__()
@@ -33,11 +32,9 @@ class Journal(list):
         file.truncate(whole_bytes)
 
     def fault(self, what):
-        """Returns what is wrong with the next line."""
         return Fault(f"{self.shown}: line {len(self) + 1}: {what}", 2)
 
     def read(self, line):
-        """Returns the record of the next line. Refuses one that is none."""
         try:
             record = from_json(Record, line)
             if len(record["settings"]) == len(record["points"]):

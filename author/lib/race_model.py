@@ -27,11 +27,9 @@ class Constant:
         self.curve, self.own = [0.0] * cells, {}
 
     def part(self, value):
-        """Returns what a value adds."""
         return self.curve[self.cell_of[value]] + self.own.get(value, 0.0)
 
     def fit(self, values, weights, rates):
-        """Fits the constant to rates of settings with these values."""
         sums = Sums(zip(map(self.cell_of.get, values), weights, rates))
         self.curve = [self.smooth(sums, cell) for cell in range(len(self.curve))]
         left = (rate - self.curve[self.cell_of[value]] for value, rate in zip(values, rates))
@@ -51,8 +49,6 @@ class Constant:
 
 
 class Sums:
-    """Weighted sums by key."""
-
     def __init__(self, entries):
         self.totals, self.weights = {}, {}
         for key, weight, number in entries:
@@ -61,8 +57,6 @@ class Sums:
 
 
 class Model:
-    """The model of what some contenders made."""
-
     def __init__(self, ranges, contenders):
         known = [contender for contender in contenders if contender.blocks]
         weights = [contender.blocks / (contender.blocks + PRIOR_BLOCKS) for contender in known]
@@ -77,6 +71,5 @@ class Model:
             left = [rest - constant.part(value) for rest, value in zip(left, column)]
 
     def guess(self, values):
-        """Returns the guess for a setting, as a part of the greatest total."""
         return self.mean + sum(constant.part(value)
                                for constant, value in zip(self.constants, values))

@@ -16,7 +16,6 @@ class NotRegular(Fault):
 
 
 def kind_of(mode):
-    """Returns what a file of this mode is, in words."""
     return KINDS.get(stat.S_IFMT(mode), "a device")
 
 
@@ -36,16 +35,8 @@ def open_regular(path, flags=0, folder=None, shown=None):
     return open(descriptor, "rb")
 
 
-def refuse_endless(paths):
-    """Refuses what is there and can keep a reader waiting for ever."""
-    for path in paths:
-        if os.path.exists(path) and not (os.path.isfile(path) or os.path.isdir(path)):
-            raise NotRegular(path)
-
-
 def read_regular(most, *place, **more):
-    """Returns what a regular file has, and raises a Malformed if that is more than `most` bytes.
-    `place` and `more` are arguments of `open_regular`."""
+    """Returns what a regular file has. Raises a Malformed if that is more than `most` bytes."""
     with open_regular(*place, **more) as file:
         if os.fstat(file.fileno()).st_size > most or len(text := file.read(most + 1)) > most:
             raise Malformed(f"more than {most} bytes")

@@ -21,7 +21,6 @@ class NotJson(Malformed):
 
 
 def from_json(schema, text):
-    """Returns what a text of JSON says, as the schema has it."""
     try:
         value = json.loads(text)
     except RecursionError:
@@ -84,7 +83,6 @@ def checked_list(schemas, value, entry):
 
 
 def checked_tuple(schemas, value, entry):
-    """Returns a list with an item for each schema."""
     if len(of_type(list, value, entry)) != len(schemas):
         raise named(entry, f"not a list of {len(schemas)}")
     return [checked(schema, item, f"{entry}[{index}]")
@@ -101,8 +99,7 @@ CONTAINERS = {list: checked_list, tuple: checked_tuple, dict: checked_dict}
 
 
 def entries(schema, values, entry):
-    """Returns the entries that a dataclass or a TypedDict names. Refuses values that lack one
-    without a default."""
+    """Returns the entries that a schema names. Refuses values without one that has no default."""
     fields = dataclasses.fields(schema) if dataclasses.is_dataclass(schema) else ()
     optional = {field.name for field in fields if field.default is not dataclasses.MISSING}
     hints = typing.get_type_hints(schema, include_extras=True)

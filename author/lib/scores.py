@@ -11,16 +11,14 @@ from . import cert_inputs, tuning_files
 from .endings import Fault, note
 from .program import assemble, rules_of
 from .watching import watched
-from .words import (add_files, add_json, add_cwtune, command_parser, counted,
-                    number_from, print_json)
+from .words import add_files, add_json, add_cwtune, add_number, command_parser, counted, print_json
 
 # With more settings than this none is assembled, to save time.
 MOST_ASSEMBLED = 2000
 
 
 def scores_of(setting, cert, fights, template):
-    """Returns the numbers of a setting: its total, None if it was dropped or does not assemble, and
-    what it made against each opponent, None if it does not assemble."""
+    """Returns a setting's total, None if it was dropped, and scores, None if it is refused."""
     points = cert.points(setting)
     opponents = sorted({fight.opponent for fight in fights})
     return {"setting": setting, "values": template and template.values_by_name(setting),
@@ -29,7 +27,6 @@ def scores_of(setting, cert, fights, template):
 
 
 def score_of(opponent, points, fights):
-    """Returns what a setting made against an opponent, by the points of its fights."""
     scheduled = [(index, fight.weight) for index, fight in enumerate(fights)
                  if fight.opponent == opponent]
     played = [(points[index], weight) for index, weight in scheduled if index in points]
@@ -42,7 +39,6 @@ def score_of(opponent, points, fights):
 
 
 def print_scores(title, scores):
-    """Prints wins, ties and losses of a setting against each opponent."""
     print(title)
     if scores["opponents"] is None:
         print("    does not assemble")
@@ -52,16 +48,7 @@ def print_scores(title, scores):
               f"{one['losses']} losses, {one['score']} of {one['greatest']}{left}")
 
 
-def print_start(start, best, template):
-    """Prints what START made, and how much less than the best."""
-    total = start["total"]
-    shown = "" if total is None else f", total {total}, {best['total'] - total} less than the best"
-    print_scores(f"START, setting {start['setting']}{shown} "
-                 f"{template.constants(start['setting'])}", start)
-
-
 def print_first(numbers, template, wanted):
-    """Prints the first `wanted` settings of the ranking, as far as the certificate shows it."""
     played_all, dropped = counted(numbers["played_all"], "setting"), numbers["dropped"]
     print(f"{played_all} played all fights, {dropped} {'was' if dropped == 1 else 'were'} dropped"
           if dropped else f"best of {played_all}")
@@ -106,7 +93,6 @@ class Warriors:
 
 
 def idle_text(constant):
-    """Returns a text that says how often a constant changes nothing."""
     if constant["values"] == 1:
         return "only one value"
     text = f"{constant['same']} of {constant['choices']}"
@@ -116,8 +102,7 @@ def idle_text(constant):
 
 
 def constants_of(template, warriors):
-    """Returns for each constant how many choices of the others there are, and in how many all its
-    values make the same warrior."""
+    """Returns for each constant in how many choices of the others it changes nothing."""
     count, block, constants = len(template.values_of_settings), 1, []
     for name, values in reversed(list(zip(template.names, template.ranges))):
         step, block = block, block * len(values)
@@ -149,7 +134,11 @@ def print_numbers(numbers, template, wanted):
     print_scores(f"best setting {best['setting']}, total {best['total']} of {numbers['greatest']}"
                  f"{constants}", best)
     if template:
-        print_start(numbers["start"], best, template)
+        start, total = numbers["start"], numbers["start"]["total"]
+        less = "" if total is None else (
+            f", total {total}, {best['total'] - total} less than the best")
+        print_scores(f"START, setting {start['setting']}{less} "
+                     f"{template.constants(start['setting'])}", start)
     print_first(numbers, template, wanted)
     if template:
         print("constants that change nothing: in how many choices of the others")
@@ -158,8 +147,7 @@ def print_numbers(numbers, template, wanted):
 
 
 def print_totals(cert, fights, template):
-    """Prints a line for each setting, with commas: the total of one that played all fights, the cap
-    of a dropped one."""
+    """Prints a line for each setting, with commas: its total, or its cap if it was dropped."""
     names = template.names if template else []
     print(",".join(["setting", "row", "total", *names]))
     for setting in range(cert.count):
@@ -177,8 +165,7 @@ def make_parser():
                         help="the schedule [default: that of the tuning]")
     parser.add_argument("--template", metavar="FILE", help="the template, for the constants' names "
                         "and for START [default: that of the tuning]")
-    parser.add_argument("--top", type=number_from(1), default=10, metavar="K",
-                        help="how many of the best settings [default: 10]")
+    add_number(parser, "--top", "K", 10, "how many of the best settings")
     output = parser.add_mutually_exclusive_group()
     add_json(output)
     output.add_argument("--csv", action="store_true",

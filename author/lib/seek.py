@@ -24,13 +24,12 @@ from .program import run_program
 from .race import Race
 from .race_fights import Arena, add_budget, budget_of
 from .tuning_files import MOST_SETTINGS
-from .words import (add_files, add_json, add_cwtune, command_parser, number_from,
+from .words import (add_files, add_json, add_cwtune, add_number, command_parser, number_from,
                     print_json)
 from .writing import temporary_folder
 
 
 def print_outcome(grid, outcome, weights):
-    """Prints what was found, and by how much it is better than START."""
     tell(f"found: {grid.constants_of(outcome.winner)}")
     if outcome.winner == grid.start_values:
         note("it is START: the race found nothing better")
@@ -47,8 +46,7 @@ def print_outcome(grid, outcome, weights):
 
 
 def outcome_numbers(grid, outcome, weights, text):
-    """Returns the object of --json. `outcome` is None of a race that was stopped, whose template
-    has the best so far as its START."""
+    """Returns the object of --json. A stopped race has no outcome, and its best in the text."""
     gain = outcome and outcome.points and holdout.gain_of(outcome.points, weights)
     return {"winner": dict(zip(grid.names, outcome.winner)) if outcome else None,
             "start": dict(zip(grid.names, grid.start_values)),
@@ -61,8 +59,7 @@ def outcome_numbers(grid, outcome, weights, text):
 
 
 def ranges_of(args, grid, values):
-    """Returns the ranges of the template that is printed: those of the box around a setting, unless
-    it has more settings than `cwtune tune` takes."""
+    """Returns the ranges to print: the box around a setting, unless it has too many settings."""
     if args.box is None:
         return grid.ranges
     ranges = grid.box(values, args.box)
@@ -78,8 +75,7 @@ def make_parser():
     parser = command_parser(__doc__)
     add_budget(parser)
     add_json(parser)
-    parser.add_argument("--seed", type=number_from(0), default=1, metavar="N",
-                        help="another number gives other settings and positions [default: 1]")
+    add_number(parser, "--seed", "N", 1, "another number gives other settings and positions", low=0)
     parser.add_argument("--box", type=number_from(0), metavar="N",
                         help="cut each range to N values on both sides of the winner's")
     add_cwtune(parser)
@@ -88,25 +84,20 @@ def make_parser():
     return parser
 
 
-def playing_opponents(args, weights, folder):
-    """Returns the paths of the opponents with a weight. Of those that are adapted these are copies
-    in a folder."""
-    paths = []
-    playing = [path for path, weight in zip(args.opponent, weights) if weight]
-    for path, text, is_adapted in adapted_opponents(args, playing):
+def playing_opponents(args, paths, folder):
+    """Yields the paths of opponents. Of those that are adapted these are copies in a folder."""
+    for index, (path, text, is_adapted) in enumerate(adapted_opponents(args, paths)):
         if is_adapted:
-            path = pathlib.Path(folder, f"opponent{len(paths)}.red")
+            path = pathlib.Path(folder, f"opponent{index}.red")
             path.write_bytes(text)
-        paths.append(path)
-    return paths
+        yield path
 
 
-def seek(args, grid, weights):
-    """Runs the race against the opponents with a weight. Returns the values of the winner and the
-    outcome, or after Ctrl-C those of the best so far and None."""
+def seek(args, grid, opponents, weights):
+    """Races. Returns the winner's values and the outcome; after Ctrl-C the best so far and None."""
     with (temporary_folder() as folder,
-          Arena(args, budget_of(args), grid, playing_opponents(args, weights, folder),
-                list(filter(None, weights)), [], folder) as arena):
+          Arena(args, budget_of(args), grid, list(playing_opponents(args, opponents, folder)),
+                weights, [], folder) as arena):
         race = Race(grid, arena, args.seed)
         try:
             outcome = race.run()
@@ -116,7 +107,7 @@ def seek(args, grid, weights):
             tell(f"stopped: the best so far is {grid.constants_of(race.leader())}; its gain was "
                  "not measured")
             return race.leader(), None
-    print_outcome(grid, outcome, list(filter(None, weights)))
+    print_outcome(grid, outcome, weights)
     return outcome.winner, outcome
 
 
@@ -128,9 +119,11 @@ def main():
                     "(cwtune-vary makes a template of a text with EQU lines)")
     run_program(args.program, "--version")
     weights = holdout.weights_by_opponent(args.schedule, len(args.opponent))
-    winner, outcome = seek(args, grid, weights)
+    opponents = [path for path, weight in zip(args.opponent, weights) if weight]
+    weights = list(filter(None, weights))
+    winner, outcome = seek(args, grid, opponents, weights)
     text = grid.text(ranges_of(args, grid, winner), winner)
     if args.json:
-        print_json(outcome_numbers(grid, outcome, list(filter(None, weights)), text))
+        print_json(outcome_numbers(grid, outcome, weights, text))
     else:
         sys.stdout.buffer.write(text)

@@ -18,14 +18,12 @@ def series(seed, rounds, core, distance):
 
 
 def series_fights(seed, rounds, rules, weights):
-    """Returns the fights of a series against each opponent, of the opponents' weights."""
     rounds_of_each = list(series(seed, rounds, rules.core, rules.distance))
     return [Fight(opponent, position, first, weight) for opponent, weight in enumerate(weights)
             for position, first in rounds_of_each]
 
 
 def weights_of(word):
-    """Reads a list of weights for argparse."""
     weights = [int(part) if part.isdecimal() else 0 for part in word.split(",")]
     if not all(1 <= weight <= MOST_WEIGHT for weight in weights):
         raise argparse.ArgumentTypeError(f"{word} is not a list of 1 to {MOST_WEIGHT}, as 2,1,1")
@@ -33,8 +31,7 @@ def weights_of(word):
 
 
 def refuse_fights(parser, name, rounds, opponents):
-    """Refuses `rounds` fights against each opponent if that is more than a schedule may have.
-    `name` is the option that gave `rounds`."""
+    """Refuses more fights than a schedule may have. The option `name` gave `rounds`."""
     if rounds * opponents > MOST_FIGHTS:
         parser.error(f"{name} {rounds} against {counted(opponents, 'opponent')}: more than "
                      f"{MOST_FIGHTS} fights")

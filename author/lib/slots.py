@@ -46,7 +46,6 @@ class Slot(NamedTuple):
         return f"({terms})"
 
     def text_of(self, value):
-        """Returns what the author's line has for a value of the constant."""
         return self.texts[value] if self.texts else str(value)
 
 
@@ -106,19 +105,12 @@ def author_lines(path, lines, names):
     return own, with_slot
 
 
-def texts_of(slots, value_of):
-    """Returns for each slot what it has in a setting, whose values are given by names."""
-    return {slot: slot.text_of(value_of[slot.name]) for slot in slots or ()}
-
-
 def is_range_of(line, names):
-    """Returns whether a line is the range line of one of these constants."""
     return is_range_line(line.encode("latin-1")) and line.split()[1:2] and line.split()[1] in names
 
 
 def after_code(path, lines, index, names, code):
-    """Returns the index after the lines that are assembled in place of a kept line, which comes
-    before `index`. Refuses others."""
+    """Returns the index after `code`, which a kept line before `index` has. Refuses other lines."""
     number = index
     while index < len(lines) and is_range_of(lines[index], names):
         index += 1

@@ -39,12 +39,10 @@ class Traced:
         return len(self.text)
 
     def strip(self):
-        """Returns the text without blanks at its ends."""
         start = len(self.text) - len(self.text.lstrip())
         return self[start:start + len(self.text.strip())]
 
     def replaced(self, start, end, new):
-        """Returns the text with another one in place of the characters from `start` to `end`."""
         return self[:start] + new + self[end:]
 
     def lines(self):
@@ -60,7 +58,6 @@ class Traced:
 
 
 def joined(parts, between):
-    """Returns texts as one, with `between` between them."""
     whole = parts[0]
     for part in parts[1:]:
         whole = whole + between + part

@@ -45,8 +45,7 @@ class Fights(list):
 
 
 class Settings(collections.abc.Sequence):
-    """The values of all settings in their order, in which the first constant changes slowest. Each
-    is made when it is asked for: a million would take much memory."""
+    """The values of all settings in order, each made when it is asked for: there may be many."""
 
     def __init__(self, ranges):
         self.ranges, self.count = ranges, math.prod(map(len, ranges))
@@ -78,11 +77,8 @@ class Settings(collections.abc.Sequence):
 
 
 class Template(Grid):
-    """A template as `cwtune` takes it.
-
-    `settings` are the values of its settings in their order, in which the first constant changes
-    slowest, and `start` is the index of START.
-    """
+    """A template as `cwtune` takes it. `values_of_settings` has the values of its settings, the
+    first constant changing slowest, and `start` is the index of START."""
 
     def __init__(self, path):
         super().__init__(path)
@@ -102,26 +98,15 @@ class Template(Grid):
             raise Fault(f"{path}: not a template, a schedule or a certificate")
         return text
 
-    def steps(self, setting):
-        """Returns for each constant the index of the setting's value, the last constant first."""
-        indices = []
-        for values in reversed(self.ranges):
-            setting, index = divmod(setting, len(values))
-            indices.append(index)
-        return indices
-
     def nearest_start(self, settings):
         """Returns which of the settings is the fewest steps from START; of several the first."""
-        start_steps = self.steps(self.start)
-
         def distance(setting):
-            pairs = zip(self.steps(setting), start_steps)
-            return sum(abs(index - start_index) for index, start_index in pairs)
+            values = zip(self.values_of_settings[setting], self.start_values, self.ranges)
+            return sum(abs(value - start) // whole.step for value, start, whole in values)
 
         return min(settings, key=distance)
 
     def with_start(self, setting):
-        """Returns the text of this template with another setting as START."""
         return self.text(self.ranges, self.values_of_settings[setting])
 
     def constants(self, setting):
@@ -129,12 +114,10 @@ class Template(Grid):
         return self.constants_of(self.values_of_settings[setting])
 
     def values_by_name(self, setting):
-        """Returns the values of a setting by the names of the constants."""
         return dict(zip(self.names, self.values_of_settings[setting]))
 
     def checked_for(self, cert):
-        """Returns this template. Refuses it if the certificate has another number of rows than it
-        has settings."""
+        """Returns this template. Refuses it if it has not a setting for each row of `cert`."""
         if len(self.values_of_settings) != cert.count:
             raise Fault(f"the certificate is of {cert.count} settings, and the template "
                         f"has {len(self.values_of_settings)}", 2)
@@ -174,7 +157,6 @@ class AnyCertificate:
 
     @property
     def count(self):
-        """The number of settings."""
         return len(self.twins)
 
     def add_row(self, record):
@@ -214,7 +196,6 @@ class AnyCertificate:
         return self.twins[setting] if self.assembles(setting) else setting
 
     def items(self, setting):
-        """Yields the fights that a setting played, with their points."""
         twin = self.twin(setting)
         place = slice(self.starts[twin], self.starts[twin + 1])
         return zip(self.listed[place], self.made[place])
@@ -224,7 +205,6 @@ class AnyCertificate:
         return dict(self.items(setting)) if self.assembles(setting) else None
 
     def plays_all(self, setting, fights):
-        """Returns whether a setting played all of these fights."""
         twin = self.twin(setting)
         return (self.assembles(setting)
                 and self.starts[twin + 1] - self.starts[twin] == len(fights))
@@ -251,12 +231,9 @@ class Ranked(collections.abc.Sequence):
 
 
 class Ranking(NamedTuple):
-    """What a certificate shows of the ranking.
-
-    `full` has total and index of each setting that played all fights, the best first; `dropped` is
-    how many settings were dropped, and `exact` how many of the first are exact: no cap of a dropped
-    setting beats them.
-    """
+    """What a certificate shows of the ranking. `full` has total and index of each setting that
+    played all fights, the best first; the caps of `dropped` settings beat none of the first
+    `exact`."""
 
     full: Ranked
     dropped: int
@@ -273,8 +250,7 @@ class Certificate(AnyCertificate):
                         f"{self.total}")
 
     def fights(self, schedule):
-        """Returns the fights of the file `schedule`. Without it returns as many as the best setting
-        played, of weight 1, with opponent and position unknown (0)."""
+        """Returns the fights of `schedule`, or without it as many as the best setting played."""
         if schedule:
             fights = read_schedule(schedule)
         elif self.version == 2:
@@ -295,7 +271,6 @@ class Certificate(AnyCertificate):
         return self.cap(setting, fights) if self.plays_all(setting, fights) else None
 
     def ranked(self, fights):
-        """Returns the ranking of the settings by these fights."""
         keys, dropped, first_dropped = [], 0, math.inf
         for setting in watched(range(self.count), self.count, "totals"):
             if self.assembles(setting):
@@ -319,8 +294,7 @@ def read_schedule(path):
     try:
         header, *records = read_records(path)
         has_weights = header == [*HEADER, "weight"]
-        fights = Fights(read_fight(record if has_weights else [*record, "1"])
-                        for record in records)
+        fights = Fights(read_fight(record if has_weights else [*record, "1"]) for record in records)
     except (ValueError, csv.Error):
         header, fights = None, []
     if not 0 < len(fights) <= MOST_FIGHTS or not (has_weights or header == HEADER):
@@ -345,15 +319,13 @@ def read_fight(record):
 
 
 def cap(listed, fights):
-    """Returns the greatest total of a setting that made the points `listed`, pairs of a fight and
-    its points; its total if all fights are listed."""
+    """Returns the greatest total with the points `listed` by fight; the total if all are."""
     weights = fights.weights
     return fights.greatest - sum((3 - points) * weights[fight] for fight, points in listed)
 
 
 def exactness_text(exact, wanted):
-    """Returns a text that says how many of the first of a ranking are exact, though settings were
-    dropped. `wanted` is how many were asked for."""
+    """Returns a text that says how many of the first `wanted` of a ranking are exact."""
     shown = "the first of the ranking is exact" if exact == 1 else (
         f"the first {exact} of the ranking are exact")
     return shown if exact >= wanted else (

@@ -73,7 +73,6 @@ class Varied:
         return "\n".join(lines).encode("latin-1")
 
     def lines_for(self, row, line, starts_alone):
-        """Returns the lines of the template for a line of the text."""
         here = sorted((opened for opened in self.opened if opened.spot.line.row == row),
                       key=lambda opened: opened.spot.span, reverse=True)
         if not here:
@@ -118,8 +117,7 @@ def heads_of_prose(lines):
 
 
 def lines_of_numbers(lines):
-    """Yields for each number that can have a range a line that says where it is and, of an EQU
-    line, how often it is used. The count of a block of prose is left out."""
+    """Yields where each number is that can have a range, and the uses of an EQU line."""
     prose = heads_of_prose(lines)
     for line, spots in spots_of(lines, ["equ", "a", "b"]):
         is_hidden = line.row in prose or line.word == "equ" and line.depth
@@ -139,7 +137,6 @@ def lines_of_others(lines):
 
 
 def load_file_of_source(args, source):
-    """Returns the load file of a text. Refuses one that does not assemble."""
     return load_file_of(args.warrior, assemble_bytes(
         args.program, source.text.encode("latin-1"), *rules_of(args).words()))
 
@@ -175,9 +172,8 @@ def source_of(parser, args):
 
 
 def checked(args, source):
-    """Returns a text with what is open in it. Refuses openings whose START is not the warrior of
-    the text. For this each constant has its START alone, as `cwtune` takes at most a million
-    settings."""
+    """Returns a text with what is open in it. Refuses openings whose START is another warrior.
+    START is alone for that, as `cwtune` takes at most a million settings."""
     varied = Varied(args.warrior, source, args.ranges)
     load_file = load_file_of_source(args, source)
     refuse_other_warrior("with range lines", varied.template(True), load_file, args.program,

@@ -38,12 +38,12 @@ def equ_line(name, value):
 
 
 def own_lines(template, setting):
-    """Returns the author's lines of a template with the values of a setting, and the slots that
-    each had."""
+    """Returns the author's lines with the values of a setting, and the slots that each had."""
     value_of = template.values_by_name(setting)
     lines = [line.decode("latin-1") for line in template.lines]
     lines, _ = slots.author_lines(template.path, lines, value_of)
-    return [(slots.filled(line, slots.texts_of(of_line, value_of)), of_line or [])
+    return [(slots.filled(line, {slot: slot.text_of(value_of[slot.name])
+                                 for slot in of_line or ()}), of_line or [])
             for line, of_line in lines]
 
 
@@ -59,8 +59,7 @@ def places_of(template, setting):
 
 
 def strategy_line(template, setting, totals):
-    """Returns the line that says what the values are, and their total and that of START, each None
-    if it is not known."""
+    """Returns the line with the values, their total and START's, each None if not known."""
     (total, start_total), places = totals, places_of(template, setting)
     values = [f"{places.get(name, name)}={template.shown_value(name, value)}"
               for name, value in template.values_by_name(setting).items()]
@@ -70,13 +69,11 @@ def strategy_line(template, setting, totals):
 
 
 def text_of(template, setting, totals=(None, None)):
-    """Returns the author's text with the values of a setting."""
     return finished([line for line, _ in own_lines(template, setting)], template, setting, totals)
 
 
 def finished(own, template, setting, totals):
-    """Returns the author's text of lines in which the places that are open have their values, with
-    EQU lines for range lines of one's own, and the line of this command."""
+    """Returns the text of the author's lines, with EQU lines for range lines, and STRATEGY."""
     end = "\r" if own[0].endswith("\r") else ""
     own = with_equs(own, template.values_by_name(setting), end)
     return "\n".join(with_strategy(own, strategy_line(template, setting, totals) + end)).encode(
@@ -102,8 +99,7 @@ def with_equs(lines, value_of, end):
 
 
 def with_strategy(lines, line):
-    """Returns lines with the line of this command after the author's `;strategy` lines. That of an
-    earlier tuning is left out."""
+    """Returns lines with a line after the `;strategy` lines, without that of an earlier tuning."""
     lines = [other for other in lines if not other.startswith(STRATEGY)]
     head = max(last_that_begins(lines, ";redcode"), 0)
     places = [last_that_begins(lines[head:], word) for word in LINES_BEFORE]
@@ -112,21 +108,18 @@ def with_strategy(lines, line):
 
 
 def last_that_begins(lines, word):
-    """Returns the index of the last of the lines that begins with a word, in letters of any case;
-    of `;redcode` the first; -1 if there is none."""
+    """Returns the index of the last line that begins so, of `;redcode` the first; else -1."""
     found = [index for index, line in enumerate(lines) if line[:len(word)].lower() == word]
     return (found[0] if word == ";redcode" else found[-1]) if found else -1
 
 
 def setting_word(word):
-    """Reads the W of --setting for argparse."""
     if word != "start" and not re.fullmatch("[0-9]{1,7}", word):
         raise argparse.ArgumentTypeError(f"{word} is neither an index from 0 nor `start`")
     return word
 
 
 def setting_of(template, word):
-    """Returns the setting that the W of --setting names."""
     if word == "start":
         return template.start
     setting = int(word)
@@ -136,15 +129,13 @@ def setting_of(template, word):
 
 
 def total_of_start(cert, template, schedule):
-    """Returns the total of START, or None if it was dropped, or if the certificate has weights and
-    there is no schedule."""
+    """Returns the total of START, or None if that is not known."""
     if cert.version == 2 and schedule is None:
         return None
     return cert.total_of(template.start, cert.fights(schedule))
 
 
 def print_pmars_notes(text):
-    """Notes on standard error which lines pMARS refuses or cuts."""
     for number, line in enumerate(text.split(b"\n"), 1):
         code = line.partition(b";")[0]
         if len(line) > MOST_LINE_BYTES:
@@ -168,8 +159,7 @@ def checked_text(args, template, setting, totals):
 
 
 def text_put_back(args, template, setting, totals, load_file):
-    """Returns the text of --original with the values of a setting. If it cannot have them all in
-    their places, a note says so, and nothing is returned."""
+    """Returns the text of --original with a setting's values; if it cannot, says why."""
     try:
         text = finished(original_lines(args, template, setting), template, setting, totals)
         if adapt(args.original, text, rules_of(args), args.program).load_file != load_file:
@@ -212,24 +202,14 @@ def main():
         except tuning_files.TooManySettings:
             if args.setting != "start" or args.as_template:
                 raise
-            print_start(args, path)
-        if not (args.original or args.as_template) and (path != args.template or has_mark(path)):
+            with temporary_file(path, start_of(read_text(path), path)) as alone:
+                print_text(args, alone)
+        if not (args.original or args.as_template) and (path != args.template or (
+                ADAPTED.encode() in map(bytes.rstrip, read_text(path).split(b"\n")))):
             note("this is the adapted text: --original FILE puts the values into yours")
 
 
-def has_mark(path):
-    """Returns whether `cwtune-vary` made a template of an adapted text."""
-    return ADAPTED.encode() in map(bytes.rstrip, read_text(path).split(b"\n"))
-
-
-def print_start(args, path):
-    """Prints the text of START of a template of any size, as that of a race."""
-    with temporary_file(path, start_of(read_text(path), path)) as alone:
-        print_text(args, alone)
-
-
 def print_text(args, path):
-    """Prints the text of a setting of the template at a path."""
     template, totals = tuning_files.Template(path), (None, None)
     args.schedule, why_unused = None, ""
     if args.cert is None:

@@ -11,44 +11,35 @@ def rewrite(line=""):
 
 
 class Pace:
-    """Writes a line on standard error now and then: at least 15 seconds after the last one."""
+    """Writes a line on standard error now and then: at least `pause` seconds after the last one."""
 
-    def __init__(self):
+    def __init__(self, pause=15):
+        self.pause, self.told_at = pause, time.monotonic()
+
+    def is_due(self):
+        """Returns whether a line may be written now, which is then the last one."""
+        if time.monotonic() - self.told_at < self.pause:
+            return False
         self.told_at = time.monotonic()
+        return True
 
     def tell(self, line):
-        if time.monotonic() - self.told_at > 15:
-            self.told_at = time.monotonic()
+        if self.is_due():
             tell(line)
 
 
-class Watch:
-    """The lines of progress: at a terminal one that is rewritten twice a second, elsewhere a new
-    one each 15 seconds. `shown_at` is when the last one was shown."""
-
-    shown_at = time.monotonic()
-    at_terminal = sys.stderr.isatty()
-    pause = 0.5 if at_terminal else 15
-
-    @classmethod
-    def show(cls, line):
-        """Shows a line, if the last one was shown long enough ago. Returns whether it did."""
-        if time.monotonic() - cls.shown_at < cls.pause:
-            return False
-        cls.shown_at = time.monotonic()
-        if cls.at_terminal:
-            rewrite(line)
-        else:
-            tell(line)
-        return True
+# A terminal has one line, which is rewritten twice a second.
+AT_TERMINAL = sys.stderr.isatty()
+PACE = Pace(0.5 if AT_TERMINAL else 15)
 
 
 def watched(items, count, what):
     """Yields the items, of which there are `count`, and now and then shows how many were."""
     shown = False
     for index, item in enumerate(items):
-        if index % 1024 == 1023:
-            shown |= Watch.show(f"{what}: {index + 1} of {count}")
+        if index % 1024 == 1023 and PACE.is_due():
+            (rewrite if AT_TERMINAL else tell)(f"{what}: {index + 1} of {count}")
+            shown = AT_TERMINAL
         yield item
-    if shown and Watch.at_terminal:
+    if shown:
         rewrite()

@@ -18,8 +18,7 @@ MEANING = {"core": "the core size", "cycles": "the most cycles of a fight",
 
 
 class Parser(argparse.ArgumentParser):
-    """A parser to which names after `--` are files, whatever they begin with, also where files and
-    options may be mixed."""
+    """A parser to which names after `--` are files, also where files and options are mixed."""
 
     # What stands before a name with a dash while argparse reads it. No word of a command has it.
     FENCE = "\0"
@@ -75,13 +74,18 @@ def number_from(low, high=None):
     return read
 
 
+def add_number(parser, name, metavar, default, about, low=1, high=None):
+    """Adds an option that is a number, and says its default."""
+    parser.add_argument(name, type=number_from(low, high), default=default, metavar=metavar,
+                        help=f"{about} [default: {default}]")
+
+
 def counted(number, noun):
     """Returns a number with its noun, as `1 setting` and `2 settings`."""
     return f"{number} {noun}{'s' * (number != 1)}"
 
 
 def add_built(parser):
-    """Adds a program to the words of a module of a room."""
     parser.add_argument("program", nargs="?", default=BUILT, metavar="PROGRAM",
                         help="the program cwtune [default: the one built here]")
 
@@ -94,7 +98,6 @@ def program_word(module, docstring):
 
 
 def add_files(parser, *names):
-    """Adds the files of a tuning to the words of a command."""
     for name in names:
         parser.add_argument(name, metavar=name.upper(), help=FILE_HELP[name],
                             nargs="+" if name == "opponent" else None)
@@ -126,8 +129,7 @@ def add_hill(parser, default="94nop"):
 
 
 def add_cwtune(parser, of_tuning=False):
-    """Adds the program and the options of the rules. With `of_tuning` the tuning's rules are the
-    defaults."""
+    """Adds the program and the rules. With `of_tuning` the tuning's are the defaults."""
     add_program(parser)
     group = parser.add_argument_group("rules")
     add_hill(group, "the rules of the tuning, else 94nop" if of_tuning else "94nop")

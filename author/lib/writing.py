@@ -71,7 +71,8 @@ def remove_left(folder, pattern):
     with contextlib.suppress(OSError):
         for name in os.listdir(folder):
             match = re.fullmatch(pattern, name)
-            if match and not is_running(int(match.groups()[-1])):
+            pid = match and match.groups()[-1]
+            if match and (pid == str(os.getpid()) or not os.path.exists(f"/proc/{pid}")):
                 remove_unlocked(os.path.join(folder, name))
 
 
@@ -88,19 +89,6 @@ def remove_unlocked(path):
                 shutil.rmtree(path)
         finally:
             os.close(descriptor)
-
-
-def is_running(pid):
-    """Returns whether another process of this host has this id."""
-    if pid == os.getpid():
-        return False
-    try:
-        os.kill(pid, 0)
-    except (ProcessLookupError, OverflowError):
-        return False
-    except PermissionError:
-        pass
-    return True
 
 
 @contextlib.contextmanager

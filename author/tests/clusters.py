@@ -30,13 +30,11 @@ class Clusters(SpreadTrial):
             return f"slurm-{self.slurm.submit(self.folder, array, SCRIPT, *words)}.out"
 
     def jobs(self, array, *words, **options):
-        """Runs jobs to their end. Returns what they print."""
         name = self.begin(array, *words, **options)
         wait_until(lambda: not self.slurm.queue())
         return self.read(name).decode()
 
     def times(self):
-        """Returns when the files of the parts were changed, by name."""
         return {path.name: path.stat().st_mtime_ns for path in self.folder.glob("CERT.*")}
 
     def arrays(self):
@@ -61,7 +59,6 @@ class Clusters(SpreadTrial):
             sorted(printed.splitlines(True)), self.times()))
 
     def faults(self):
-        """Lets a part fail, and gives a template whose name begins with a dash."""
         self.jobs("1-2", "2", *DECOY)
         self.jobs("2", "2", *DECOY, program="./none")
         status, _, err = self.spread("--merge=2", *DECOY)
@@ -73,7 +70,6 @@ class Clusters(SpreadTrial):
         self.same("-d.red", 0, self.spread("--merge=2", "./-d.red", *DECOY[1:]).status)
 
     def cancelled(self):
-        """Ends jobs by scancel."""
         self.jobs("1-2", "2", *DECOY)
         before = self.times()
         self.write_program("stuck", f"""case $2 in

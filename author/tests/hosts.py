@@ -31,8 +31,7 @@ class OnHosts:
         self.settle(self.top / "work")
 
     def remains(self):
-        """Returns what there should not be after a run: in temporary folders, beside CERT, and of
-        processes, which have a few seconds to end."""
+        """Returns what a run left: processes after some seconds, folders of hosts and of CERT."""
         deadline = time.monotonic() + 8
         while (running := running_in(self.top)) and time.monotonic() < deadline:
             time.sleep(0.1)
@@ -46,7 +45,6 @@ class Hosts(OnHosts, SpreadTrial):
         self.write_program("slow", SLOW.format(program=self.program, folder=self.folder))
 
     def on(self, hosts, *words):
-        """Returns the result of `cwtune-spread` on hosts, given as words of a line."""
         self.write("hosts", "\n".join(hosts.split()))
         return self.spread("--hosts=hosts", *words)
 
@@ -76,7 +74,6 @@ class Hosts(OnHosts, SpreadTrial):
             status, used.is_dir(), left.is_dir()))
 
     def test_failing(self):
-        """Tunes on a host that cannot run the program, alone and beside another one."""
         tuned = self.tuned()
         words = ["--program=./slow", "--jobs=1", *DECOY]
         line = "failed: no result for part 1 of 1 (./cwtune: Permission denied)\n"
@@ -87,8 +84,7 @@ class Hosts(OnHosts, SpreadTrial):
         self.same("beside another", (tuned, NOTHING), (self.found(DECOY, came), self.remains()))
 
     def test_three(self):
-        """Tunes on three hosts of which one dies, one goes silent and one cannot run the program,
-        and on this one."""
+        """Tunes on a host that dies, one that goes silent, one without the program, and here."""
         self.tune(*DECOY)
         best = self.read("CERT").splitlines()[:2]
         self.clear()
@@ -104,10 +100,6 @@ class Hosts(OnHosts, SpreadTrial):
             self.remains()[2]))
 
     def test_refused(self):
-        for name, text in [("empty", ""), ("of comments", "# good\n\n  # :\n")]:
-            self.write("hosts", text)
-            self.same(f"a file that is {name}", (2, "", "error: hosts: no host in it\n"),
-                      self.spread("--hosts=hosts", *DECOY))
         status, out, err = self.on("dead dead dead", *DECOY)
         first, last, *more = err.splitlines()
         self.same("dead hosts", (3, "", DEAD, "failed: no host of hosts is ready", []), (
@@ -147,7 +139,6 @@ class Hosts(OnHosts, SpreadTrial):
             self.clear()
 
     def test_kills(self):
-        """Kills a spread while hosts are at work, and repeats it."""
         tuned = self.tuned()
         self.write("hosts", "good\nshared\n:\n")
         for number, signal_number in enumerate([signal.SIGKILL, signal.SIGHUP, signal.SIGTERM], 1):

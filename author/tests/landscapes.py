@@ -84,7 +84,6 @@ class Landscapes(Trial):
             self.read("y.png")))
 
     def test_means(self):
-        """Computes the means of the values of two constants, and their errors."""
         template, nan = tuning_files.Template(str(self.folder / "two.red")), math.nan
         for name, totals, constant, expected in [
             ("the slower constant", [1, 2, 3, 4, nan, 6], 0, ([0, 1], [2, 5], [0.577350269, 1])),

@@ -47,8 +47,7 @@ class Merging(SpreadTrial):
         return mock.patch.dict(os.environ, {"PATH": f"{self.folder}:{os.environ['PATH']}"})
 
     def host_jobs(self, numbers):
-        """Runs the jobs of a stub by a stand-in for GNU parallel. Returns the jobs, and the numbers
-        of those that ended, with their statuses."""
+        """Runs jobs by a stand-in for GNU parallel. Returns them, and those ended by number."""
         args, ended = argparse.Namespace(hosts=self.folder / "hosts", jobs=1), []
         jobs = HostJobs(args, FolderStub(self.folder), numbers)
         while jobs.keep_running():
@@ -58,14 +57,12 @@ class Merging(SpreadTrial):
         return jobs, ended
 
     def test_archives(self):
-        """Runs a stand-in for GNU parallel that brings archives back, damaged ones among them."""
         with self.parallel(ARCHIVES):
             jobs, ended = self.host_jobs(range(1, 6))
         self.same("archives", ([(3, 126), (4, 0)], [1, 2, 5], "GNU parallel ended with status 0"),
                   (ended, jobs.waiting, jobs.fault))
 
     def test_idle_hosts(self):
-        """Runs a stand-in for GNU parallel that ends at once."""
         with self.parallel("exit 9\n"):
             self.same("parts without a result", (
                 3, "", "failed: no result for parts 1, 2, 3 of 3 (GNU parallel ended with status "
@@ -77,13 +74,11 @@ class Merging(SpreadTrial):
                   (jobs.fault, ended))
 
     def merged(self, name, expected, *words):
-        """Compares what `cwtune-spread` says of parts, by default of three of the decoy, and that
-        it writes no certificate."""
+        """Compares what is said of parts, by default of three, and that no CERT is written."""
         came = self.spread(*(words or ["--merge=3", *DECOY]))
         self.same(name, (expected, None, None), (came, self.read("CERT"), self.read("CERT.whole")))
 
     def test_merged(self):
-        """Runs the parts as jobs of a cluster do, and puts them together."""
         unbroken = self.found(DECOY, self.spread("--parts=3", *DECOY))
         self.clear()
         self.run_jobs(3, *DECOY)
@@ -106,7 +101,6 @@ class Merging(SpreadTrial):
             "sbatch was called)\n"))
 
     def test_merged_others(self):
-        """Puts parts together that are of another tuning, or of another number of parts."""
         self.run_jobs(3, *DECOY)
         self.write("other.csv", b"opponent,position,first\n0,4000,c\n")
         with_other_schedule = ["other.csv" if word == "schedule.csv" else word for word in DECOY]
@@ -126,7 +120,6 @@ class Merging(SpreadTrial):
                   self.spread("--merge=4", *DECOY).status)
 
     def test_damaged(self):
-        """Damages what a job of a cluster left, with its CERT.I.inputs."""
         self.run_jobs(3, *DECOY)
         cert, report = self.read("CERT.2"), self.read("CERT.2.report")
         for name, text in {"changed": cert.replace(b":0", b":1", 1), "cut": cert[:-9],
@@ -145,7 +138,6 @@ class Merging(SpreadTrial):
             2, "", "error: CERT.2.inputs is malformed\n"))
 
     def test_damaged_without_inputs(self):
-        """Damages a certificate that a job of a cluster left, without its CERT.I.inputs."""
         self.run_jobs(3, *DECOY)
         (self.folder / "CERT.2.inputs").unlink()
         cert = self.read("CERT.2")
@@ -163,7 +155,6 @@ class Merging(SpreadTrial):
         self.merged("a certificate that is missing", NO_CERT)
 
     def test_merged_rankings(self):
-        """Puts parts together that have floors, and a ranking."""
         self.write_ranked()
         tuned = self.tuned(RANKED)
         words = [*RANKED[len(RULES):], *RULES]

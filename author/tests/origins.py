@@ -4,7 +4,7 @@ import os
 from author.lib.program import run_program
 from gate.lib import cert_inputs
 
-from .trial import Refusal, Trial, usage_error
+from .trial import Refusal, Trial, usage_errors
 
 FILES = {
     "t.red": ";@tune K 0 1 1 0\nJMP 1-K\n",
@@ -38,7 +38,6 @@ OTHER_INPUTS = [Refusal(words, 2, f"error: {message}") for words, message in [
 
 
 def note(why_unused):
-    """Returns the note that says why nothing was compared with CERT.inputs."""
     return f"note: {why_unused}, so files and rules cannot be compared with the tuning's\n"
 
 
@@ -60,8 +59,8 @@ class Origins(Trial):
             self.same(f"{words} by CERT.inputs", (0, True, ""), (status, line in out, err))
         self.refused(OTHER_INPUTS)
         (self.folder / "s.csv").rename(self.folder / "moved.csv")
-        self.refused([usage_error("cwtune-scores cert", "give SCHEDULE: the schedule of the tuning "
-                                  "is not there")])
+        self.refused(usage_errors("cwtune-scores", {
+            "cert": "give SCHEDULE: the schedule of the tuning is not there"}))
         self.write("t.red", FILES["other.red"])
         self.refused([Refusal(HOLDOUT, 2, "error: t.red is not the template of the tuning")])
 
@@ -86,11 +85,10 @@ class Origins(Trial):
                 self.write("cert.inputs", text)
             self.same(why_unused, (0, GAIN, note(why_unused)), self.call(
                 f"{HOLDOUT} --core=800 --schedule s.csv dat.red imp.red"))
-            self.refused(usage_error(words, f"give {missing}: {why_unused}") for words, missing in [
-                (HOLDOUT, "OPPONENT.."), ("cwtune-scores cert", "SCHEDULE")])
+            for words, missing in [(HOLDOUT, "OPPONENT.."), ("cwtune-scores cert", "SCHEDULE")]:
+                self.refused(usage_errors(words, {"": f"give {missing}: {why_unused}"}))
 
     def test_writers(self):
-        """Has `cwtune-spread` write what `tune` writes."""
         version_line = run_program(self.program, "--version").stdout.decode()
         version = version_line.removeprefix("cwtune ").strip()
         for words in [["--all", *TUNE], TUNE]:

@@ -9,7 +9,7 @@ import json, os, random, shutil, signal, subprocess, sys, tempfile
 from author.lib import endings, spread, study
 from author.lib.endings import STATUS_WORDS, run_tool
 from author.lib.regular import digest_of
-from author.lib.words import add_built, module_parser, number_from
+from author.lib.words import add_built, add_number, module_parser
 
 from .spread_trial import DECOY, SpreadTrial
 from .study_trial import FEW, StudyTrial
@@ -23,7 +23,6 @@ REFUSED_MARK = "CERT.parts is not a folder of this cwtune-spread, and is not tou
 
 
 def replaced(path, make):
-    """Puts something else where a file or a folder is."""
     removed(path)
     make(path)
 
@@ -51,8 +50,7 @@ class Fuzz:
         self.right = self.run_in_copy(lambda: None)
 
     def run_in_copy(self, damage):
-        """Damages a copy of the folder. Returns how the command ends: its status, the lines of its
-        output but `fights`, and its standard error."""
+        """Damages a copy of the folder. Returns status, output but `fights`, standard error."""
         removed(self.path)
         if self.name == "CERT.parts":
             removed(self.trial.folder / "CERT")
@@ -64,7 +62,6 @@ class Fuzz:
         return status, [line for line in out.splitlines() if line[:7] != "fights "], err
 
     def play(self, dice):
-        """Plays a case by chance."""
         name = dice.choice([".", *self.names])
         how, make = dice.choice(DAMAGES)
         outside = self.trial.texts_of("victim")
@@ -87,7 +84,6 @@ class Fuzz:
 
 
 def random_json(path, text, dice):
-    """Writes JSON with one value changed."""
     try:
         value = json.loads(text)
     except ValueError:
@@ -135,8 +131,7 @@ DAMAGES = [
 
 
 def in_process(module, words, folder):
-    """Runs a command in a copy of this process, which saves its start. Returns its status, what it
-    printed, and its standard error. It is ended after half a minute."""
+    """Runs a command in a copy of this process, which saves its start. Returns its result."""
     with tempfile.TemporaryFile() as out, tempfile.TemporaryFile() as err:
         sys.stdout.flush()
         if not (pid := os.fork()):
@@ -159,8 +154,7 @@ def in_process(module, words, folder):
 
 
 class OwnFolders(SpreadTrial, StudyTrial):
-    """Work folders of a stranger: COUNT are damaged by chance, and a study is killed at every
-    STEP-th file that it removes."""
+    """Work folders of a stranger: COUNT are damaged, and kills come at each STEP-th removal."""
 
     FILES = {**SpreadTrial.FILES, **StudyTrial.FILES, **{
         f"victim/{name}": "mine, without a line feed"
@@ -174,7 +168,6 @@ class OwnFolders(SpreadTrial, StudyTrial):
         self.same(name, (expected, files), (came, self.texts_of("victim")))
 
     def test_links_of_studies(self):
-        """Puts links to files and folders of the user in a study."""
         self.same("a study", 0, self.study(*STUDY).status)
         shutil.copytree(self.folder / "t.study", self.folder / "kept")
         secret = {"opponents": [["secret", ""]]}
@@ -205,7 +198,6 @@ class OwnFolders(SpreadTrial, StudyTrial):
         self.same("a path through a link", 0, self.study("--out=below/kept", *STUDY).status)
 
     def test_links_of_spreads(self):
-        """Puts links to files and folders of the user in a folder of parts."""
         for name, target in [("whole.cert", "../victim/secret"), ("4.done", "../victim/none"),
                              ("spread.json", "../victim/secret"), ("1.2.red", "../victim/secret")]:
             self.unfinished(*PARTS)
@@ -259,7 +251,6 @@ class OwnFolders(SpreadTrial, StudyTrial):
                 status, out, err.startswith("error: ") and name in err))
 
     def test_forged_reports(self):
-        """Writes into the report and the results of a study what no study writes."""
         self.study(*STUDY)
         stages = self.mark("t")["stages"]
         for text in ["1", "{}", "[" * 100000, json.dumps({"ranking": [1]})]:
@@ -347,8 +338,7 @@ class OwnFolders(SpreadTrial, StudyTrial):
         self.same("kills met a spread that removes its folders", True, number > 15)
 
     def test_kills_of_studies(self):
-        """Kills a study that begins anew at some of the files that it removes, and repeats the
-        command."""
+        """Kills a study that begins anew at some removals, and repeats the command."""
         self.need("strace")
         words = [*FEW, "--rounds=1", "--fresh=1", *STUDY]
         self.study(*words)
@@ -382,8 +372,7 @@ class OwnFolders(SpreadTrial, StudyTrial):
 
 def main():
     parser = module_parser("author.tests.own_folders", __doc__)
-    parser.add_argument("--count", type=number_from(1), default=300, metavar="N",
-                        help="how many damaged folders [default: 300]")
+    add_number(parser, "--count", "N", 300, "how many damaged folders")
     parser.add_argument("--kills", action="store_true",
                         help="kill a study at each file that it removes, too")
     add_built(parser)

@@ -4,7 +4,7 @@ from unittest import mock
 
 from author.lib import grid, race, race_fights
 
-from .trial import SECONDS, Refusal, Trial, came_of, usage_error, wait_until
+from .trial import SECONDS, Refusal, Trial, came_of, usage_errors, wait_until
 
 LARGE = ";@tune A 0 9999 1 2\n;@tune B 0 9999 1 2\nDAT A, B\n"
 # A warrior that wins if A is 3 and B near 4, in a core of 80.
@@ -13,7 +13,11 @@ PLANE = (";@tune STEP 1 9 2 3\n;@tune aim -4 4 1 4\n        ADD  #STEP, 3\n     
          "        JMP  -2\n        DAT  #0, #aim\n")
 FILES = {"plane.red": PLANE, "large.red": LARGE, "dat.red": "DAT 0, 0\n", "imp.red": "MOV 0, 1\n",
          "s.csv": "opponent,position,first,weight\n0,40,c,1\n1,40,c,3\n",
-         "one.csv": "opponent,position,first\n1,40,c\n"}
+         "one.csv": "opponent,position,first\n1,40,c\n", "one.red": "MOV 0, 1\n",
+         "bad.red": ";@tune K 0 5 1 2\nMOV 1\n",
+         "none-assembles.red": ";@tune K 0 5 1 2\nDAT 1/0\n",
+         "two.csv": "opponent,position,first\n2,40,c\n", "empty": "# good\n\n  # :\n",
+         "one-host": "good\n"}
 # The files of a race, and what is refused.
 RACED = "plane.red s.csv dat.red imp.red"
 NOBODY = ("refused: no setting that was tried assembles; `cwtune asm --setting start` says why of "
@@ -22,10 +26,10 @@ REFUSALS = [
     Refusal("cwtune-seek none s.csv dat.red", 3, "failed: none: No such file or directory"),
     Refusal("cwtune-seek plane.red two.csv dat.red imp.red", 2,
             "error: two.csv has fights against more opponents than were given"),
-    *(usage_error(f"cwtune-seek {word} {RACED}", f"argument {fault}") for word, fault in [
-        ("--fights=999", "--fights: 999 is not 1000 or more"),
-        ("--minutes=0", "--minutes: 0 is not 0.01 to 100000"),
-        ("--minutes=x", "--minutes: x is not a number of minutes")]),
+    *usage_errors(f"cwtune-seek {RACED}", {
+        "--fights=999": "argument --fights: 999 is not 1000 or more",
+        "--minutes=0": "argument --minutes: 0 is not 0.01 to 100000",
+        "--minutes=x": "argument --minutes: x is not a number of minutes"}),
     Refusal(f"cwtune-seek --hosts=empty {RACED}", 2, "error: empty: no host in it"),
     Refusal(f"cwtune-seek --hosts=none {RACED}", 3, "failed: none: No such file or directory"),
     Refusal("cwtune-seek one.red s.csv dat.red imp.red", 1,
@@ -38,8 +42,7 @@ class MadeUpArena(race_fights.Arena):
     """An arena whose fights are made up: a setting wins the more, the nearer it is to `best`."""
 
     def __init__(self, values, fights, records=(), seed=1):
-        args = argparse.Namespace(seed=seed, jobs=1, hosts=None, hill="nano",
-                                  program="")
+        args = argparse.Namespace(seed=seed, jobs=1, hosts=None, hill="nano", program="")
         super().__init__(args, race_fights.Budget(fights), values, ["a", "b"], [1, 1],
                          list(records), ".")
         self.best, self.calls = (3, 4), []
@@ -50,7 +53,6 @@ class MadeUpArena(race_fights.Arena):
         return [[self.points(values, block) for block in blocks] for values in settings]
 
     def points(self, values, block):
-        """Returns the points of a block, which depend on its position alone."""
         distance = sum(abs(value - best) for value, best in zip(values, self.best))
         return "".join("3" if random.Random(f"{values}{fight}").random() < 1 / (1 + distance / 3)
                        else "0" for fight in block)
@@ -76,14 +78,12 @@ class Racing(Trial):
         return self.call(f"cwtune-seek {files}", *words, **options)
 
     def raced(self, records=()):
-        """Returns a made-up arena, and the outcome of a race in it."""
         self.write("hidden.red", HIDDEN)
         values = grid.Grid(self.folder / "hidden.red")
         arena = MadeUpArena(values, 20000, records)
         return arena, race.Race(values, arena, 1).run()
 
     def test_rounds(self):
-        """Looks who plays what in a race with made-up fights."""
         arena, outcome = self.raced()
         self.same("the best setting wins", (3, 4), outcome.winner)
         plays = [(values, block) for settings, blocks in arena.calls for values in settings
@@ -101,7 +101,6 @@ class Racing(Trial):
                   len(outcome.points[0][0]))
 
     def test_goes_on(self):
-        """Begins a race again with the first of its records."""
         arena, outcome = self.raced()
         for count in [0, 1, 7, len(arena.records) // 2, len(arena.records)]:
             again, outcome_again = self.raced(arena.records[:count])
@@ -166,11 +165,6 @@ class Racing(Trial):
         self.same("an opponent that SCHEDULE leaves out does not play", one.out, alone.out)
 
     def test_refusals(self):
-        for name, text in [("one.red", "MOV 0, 1\n"), ("bad.red", ";@tune K 0 5 1 2\nMOV 1\n"),
-                           ("none-assembles.red", ";@tune K 0 5 1 2\nDAT 1/0\n"),
-                           ("two.csv", "opponent,position,first\n2,40,c\n"),
-                           ("empty", "# no host\n"), ("one-host", "good\n")]:
-            self.write(name, text)
         self.refused(REFUSALS)
         for name in ["none-assembles.red", "bad.red"]:
             status, out, err = self.seek(files=f"{name} s.csv dat.red imp.red")
@@ -197,8 +191,7 @@ class Racing(Trial):
             status, out.startswith(b";@tune STEP "), b"\nstopped: the best so far is STEP=" in err))
 
     def stopped(self, words, signal_number, line=b""):
-        """Starts `cwtune-seek` and sends it a signal once the file `begun` is there, and it has
-        printed `line`. Returns its status and what it wrote."""
+        """Sends `cwtune-seek` a signal, once it has begun and printed `line`. Returns its end."""
         path = self.folder / "begun"
         with self.started(f"cwtune-seek {words} {RACED}", stdout=subprocess.PIPE,
                           stderr=subprocess.PIPE) as job:

@@ -112,7 +112,6 @@ def gain_of(start, winner):
 
 
 def raced(sizes, box=None, has_totals=False):
-    """Returns a report of a race. `box` is what it says of the box."""
     report = sample(sizes)
     winner, start = report["winner"], report["start"]
     for name in ["ranking", "fights", "check", "schedule", "refused"]:
@@ -138,7 +137,6 @@ def renamed(piece, names):
 
 
 def hostile():
-    """Returns a report whose words are hostile."""
     report = renamed(sample((3, 3, 2), opponents=len(HOSTILE)),
                      dict(zip(["STEP", "FIRST", "DECOY", "core"], HOSTILE)))
     report["title"] = report["winner_text"] = report["check"] = "\n".join(HOSTILE)

@@ -36,10 +36,6 @@ class Reader(html.parser.HTMLParser):
         if tag not in UNCLOSED_TAGS:
             self.open_tags.append(tag)
 
-    def handle_startendtag(self, tag, attrs):
-        self.handle_starttag(tag, attrs)
-        self.handle_endtag(tag)
-
     def handle_endtag(self, tag):
         if not self.open_tags or self.open_tags.pop() != tag:
             self.wrong.append(f"</{tag}>")
@@ -54,8 +50,7 @@ def words_of(report):
 
 
 def numbers_of(piece, left_out=()):
-    """Yields the numbers of a piece of a report as the page spells them, without commas. The values
-    of the keys `left_out` are left out."""
+    """Yields the numbers of a report as the page spells them, but those of the keys `left_out`."""
     if isinstance(piece, dict):
         for name, value in piece.items():
             yield from () if name in left_out else numbers_of(value, left_out)
@@ -105,7 +100,6 @@ def pictures(page):
 
 
 def faults_of(page, reader):
-    """Returns what is wrong with a page that was read."""
     levels, ids = reader.levels, reader.ids
     return [*reader.wrong, *pictures(page)[1],
             *(f"h{level} after h{before}" for before, level in zip(levels, levels[1:])
@@ -201,8 +195,7 @@ class Reporting(Trial):
         self.same("thinned", (2, [[3], [None]], [[1, 3], [4]]), (step, thin.totals, thin.ranges))
         self.same("places", [(1, 1), None],
                   [landscape.place({"A": 2, "B": 5}), landscape.place({"A": 9, "B": 5})])
-        self.same("shades", [0, 3, 6],
-                  [maps.shade_of(total, 10, 80) for total in (10, 45, 80)])
+        self.same("shades", [0, 3, 6], [maps.shade_of(total, 10, 80) for total in (10, 45, 80)])
 
     def test_numbers(self):
         self.same("escaped", "&lt;&amp;&quot;&#x27;\ufffd\n", pieces.escaped("<&\"'\udcff\r\n"))

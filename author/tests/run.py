@@ -9,7 +9,7 @@ that -k takes:
 
     python3 -m author.tests.run -k spreading.floors
 """
-import contextlib, os, pathlib, re, shutil, signal, subprocess, sys, unittest
+import os, pathlib, re, shutil, signal, subprocess, sys, unittest
 
 from author.lib.endings import run_tool
 from author.lib.words import add_built, module_parser
@@ -18,7 +18,7 @@ from . import (adapting, clusters, hosts, landscapes, merging, origins, own_fold
                refusals, reporting, sharing, spreading, strangers, study_hosts, studying, varying,
                warriors)
 from .trial import (AUTHOR, SECONDS, TUNING, Trial, command, name_of, play, python_with_matplotlib,
-                    run, wait_until)
+                    run)
 
 MODULES = [warriors, varying, adapting, racing, origins, landscapes, refusals, strangers,
            own_folders, studying, spreading, merging, sharing, hosts, study_hosts, clusters,
@@ -132,51 +132,24 @@ class Commands(Trial):
             (completed.returncode, completed.stdout.splitlines()[-1],
              completed.stderr.splitlines(True)[0]))
 
-    def test_signals(self):
+    def test_closed_pipe(self):
         reading_end, pipe = os.pipe()
         os.close(reading_end)
         completed = subprocess.run(command("cwtune-scores", "step.cert", "schedule.csv"),
                                    cwd=TUNING, stdout=pipe, stderr=subprocess.PIPE, timeout=SECONDS)
         os.close(pipe)
-        self.same("a closed pipe", (-signal.SIGPIPE, b""),
-                  (completed.returncode, completed.stderr))
-        os.mkfifo(self.folder / "pipe")
-        for words in ["cwtune-scores pipe schedule.csv", "cwtune-landscape pipe step.cert x.svg"]:
-            with self.started(words, stderr=subprocess.PIPE) as job:
-                writer = wait_until(lambda: writer_of(self.folder / "pipe"), job)
-                with writer or open(os.devnull, "wb"):
-                    interrupt(job)
-                _, err = job.communicate()
-            self.same(f"Ctrl-C in {words}", (-signal.SIGINT, b""), (job.returncode, err))
-
-
-def interrupt(job):
-    """Ends a job by Ctrl-C. One that comes just before the job reads is not seen, so that another
-    has to follow."""
-    for _ in range(SECONDS // 5):
-        job.send_signal(signal.SIGINT)
-        with contextlib.suppress(subprocess.TimeoutExpired):
-            return job.wait(5)
-    raise subprocess.TimeoutExpired(job.args, SECONDS)
-
-
-def writer_of(pipe):
-    """Opens a named pipe for writing. Returns None if nobody reads it."""
-    with contextlib.suppress(OSError):
-        return open(pipe, "wb", opener=lambda path, flags: os.open(path, flags | os.O_NONBLOCK))
+        self.same("a closed pipe", (-signal.SIGPIPE, b""), (completed.returncode, completed.stderr))
 
 
 def chosen(parser, names):
-    """Returns the trials that have one of some texts in their names, or all. Refuses a text that is
-    in none."""
+    """Returns the trials with one of `names` in their names, or all. Refuses an unknown one."""
     suites = map(unittest.TestLoader().loadTestsFromModule, [sys.modules[__name__], *MODULES])
     trials = [trial for suite in suites for of_class in suite for trial in of_class]
     for name in names:
         if not any(name in name_of(trial) for trial in trials):
             parser.error(f"argument -k: no trial {name}; there are "
                          f"{', '.join(map(name_of, trials))}")
-    return [trial for trial in trials
-            if not names or any(name in name_of(trial) for name in names)]
+    return [trial for trial in trials if not names or any(name in name_of(trial) for name in names)]
 
 
 def main():

@@ -6,7 +6,7 @@ import signal
 from gate.lib import inputs
 
 from .spread_trial import DECOY, SMALL, SpreadTrial, left_over, without_fights
-from .trial import SECONDS, usage_error
+from .trial import SECONDS, usage_errors
 
 CHECK_ONLY = ["--check-only", *DECOY]
 OTHER_CHECK = " is cut, or of another certificate, number of shares or --keep)\n"
@@ -29,7 +29,6 @@ class Sharing(SpreadTrial):
         return self.read("CERT"), self.verdict(DECOY)[1]
 
     def left(self):
-        """Returns the names of the files and folders of a check that are there."""
         return sorted(path.name for path in self.folder.glob("CERT.*") if path.suffix != ".inputs")
 
     def test_verdicts(self):
@@ -61,24 +60,14 @@ class Sharing(SpreadTrial):
                       (self.spread("--check-only", *words), self.left()))
 
     def test_after_kills(self):
-        """Kills a check at six moments, and compares its line with that of an unbroken one."""
         _, line = self.tune_decoy()
         list(self.kill_by_chance(66, range(0, 12, 2), 0.03, "--shares=16", *CHECK_ONLY,
                                  kind="shares"))
         self.same("six kills change nothing", ((0, line, ""), []),
                   (self.spread("--jobs=2", *CHECK_ONLY), self.left()))
 
-    def test_stops(self):
-        self.tune_decoy()
-        for signal_number in [signal.SIGINT, signal.SIGTERM]:
-            self.same(f"signal {signal_number} says how to go on", (
-                -signal.SIGINT, f"stopped: {left_over(1, 3, 'shares')}", 1), (
-                *self.stop_in("--share=2/3", signal_number, "--anew", "--jobs=1", "--shares=3",
-                              *CHECK_ONLY), self.done("shares")))
-
     def test_kept_shares(self):
-        """Gives a folder of shares other inputs, a job that was stopped, and files that are
-        damaged."""
+        """Gives a folder of shares other inputs, and damaged files."""
         cert, line = self.tune_decoy()
         shares = ["--shares=16", *CHECK_ONLY]
         self.unfinished(*shares, kind="shares")
@@ -97,10 +86,6 @@ class Sharing(SpreadTrial):
                   self.spread("--shares=7", *CHECK_ONLY).status)
         min(self.folder.glob("CERT.shares/*.done")).write_text('"acc')
         self.same("a share that was cut is checked again", (0, line, ""), self.spread(*CHECK_ONLY))
-        self.unfinished(*shares, kind="shares")
-        self.write("CERT.shares/notes.txt", b"mine\n")
-        self.same("a folder is kept for a file of somebody else", ((0, line, ""), b"mine\n"),
-                  (self.spread(*CHECK_ONLY), self.read("CERT.shares/notes.txt")))
 
     def test_other_folders(self):
         """Tries a folder in which another `cwtune-spread` is at work, and one of somebody else."""
@@ -108,16 +93,17 @@ class Sharing(SpreadTrial):
         self.write("mine/precious.txt", b"mine\n")
         self.same("a folder that it did not make", (2, "", "error: mine is not a folder of this "
                   "cwtune-spread, and is not touched\n"), self.spread("--work=mine", *CHECK_ONLY))
-        with self.held("--jobs=1", "--shares=16", *CHECK_ONLY, kind="shares") as job:
+        with self.started("cwtune-spread --jobs=1 --shares=16", *CHECK_ONLY) as job:
+            self.wait_for(1, job, "shares")
+            job.send_signal(signal.SIGSTOP)
             self.same("two at once",
                       (2, "", "error: another cwtune-spread is at work in CERT.shares\n"),
                       self.spread(*CHECK_ONLY))
             job.send_signal(signal.SIGCONT)
             self.same("the first one ends as it does alone", 0, job.wait(SECONDS))
-        check_only = " ".join(CHECK_ONLY)
-        self.refused(usage_error(f"cwtune-spread {option} {check_only}", "argument --check-only: "
-                                 f"not allowed with argument {option.partition('=')[0]}")
-                     for option in ["--all", "--parts=3"])
+        self.refused(usage_errors(f"cwtune-spread {' '.join(CHECK_ONLY)}", {
+            option: f"argument --check-only: not allowed with argument {option.partition('=')[0]}"
+            for option in ["--all", "--parts=3"]}))
 
     def test_with_a_tuning(self):
         """Checks what a tuning in parts found, and kills it between tuning and check."""
@@ -155,7 +141,6 @@ class Sharing(SpreadTrial):
                 "--program=./liar", "--anew", "--shares=3", "--check-only", *SMALL))
 
     def test_merged(self):
-        """Puts shares together that were checked as jobs of a cluster do."""
         cert, line = self.tune_decoy()
         self.run_jobs(3, "--check", *DECOY)
         self.same("--check-only --merge", (0, line, ""), self.spread("--merge=3", *CHECK_ONLY))

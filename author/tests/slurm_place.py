@@ -84,13 +84,11 @@ class Slurm:
                 stdin=subprocess.DEVNULL, stdout=log, stderr=log))
 
     def run(self, *words, **options):
-        """Returns what a command of Slurm prints."""
         return subprocess.run(words, env={**os.environ, **self.environment()}, text=True,
                               stdin=subprocess.DEVNULL, capture_output=True, timeout=SECONDS,
                               **options).stdout
 
     def queue(self):
-        """Returns the jobs that wait or run."""
         return self.run("squeue", "--noheader")
 
     def submit(self, folder, array, *words):

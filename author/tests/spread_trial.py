@@ -1,5 +1,5 @@
 """The folder in which `cwtune-spread` is played: a template, a schedule and opponents."""
-import contextlib, os, random, re, signal, subprocess, time
+import os, random, re, signal, subprocess, time
 from typing import NamedTuple
 
 from gate.lib import inputs
@@ -18,8 +18,7 @@ SCHEDULE = b"opponent,position,first\n0,3670,c\n1,2085,o\n2,4621,c\n"
 
 
 class Kill(NamedTuple):
-    """What a signal did to `cwtune-spread`: its status, its standard error, and how many parts or
-    shares were done before this run and after it."""
+    """What a signal did to `cwtune-spread`, and the pieces done before this run and after it."""
 
     status: int
     err: str
@@ -27,8 +26,7 @@ class Kill(NamedTuple):
     after: int
 
     def met_job(self):
-        """Returns whether it met a run that had work done and was not at its end: such a run is
-        ended by the signal, and keeps more than was there before."""
+        """Returns whether it met a run that had work done and was not at its end."""
         return self.status < 0 and self.after > self.before
 
 
@@ -48,44 +46,29 @@ class SpreadTrial(Trial):
                            timeout=SECONDS)
 
     def spread(self, *words):
-        """Returns the result of `cwtune-spread`."""
         return self.call("cwtune-spread", *words)
 
     def check(self, words):
-        """Returns the status of a check of CERT."""
         return self.verdict(words)[0]
 
     def verdict(self, words):
-        """Returns the status of a check of CERT, and its line."""
         end = self.cwtune(["check", *words])
         return end.status, end.out.decode()
 
     def found(self, words, result):
-        """Returns what a tuning found: its result without the fights, which depend on which part
-        ends when, and the status of a check of CERT."""
+        """Returns a tuning's result without the fights, and the status of a check of CERT."""
         return without_fights(result), self.check(words)
 
     def tuned(self, words=DECOY):
-        """Returns what one `cwtune tune` finds."""
         found = self.found(words, self.tune(*words))
         self.clear()
         return found
 
     def done(self, kind="parts"):
-        """Returns how many parts are done, or how many shares."""
         return len(list(self.folder.glob(f"CERT.{kind}/*.done")))
 
     def wait_for(self, pieces, job, kind="parts"):
-        """Waits until `pieces` parts or shares are done, or the job has ended."""
         wait_until(lambda: self.done(kind) >= pieces, job)
-
-    @contextlib.contextmanager
-    def held(self, *words, kind="parts"):
-        """Starts `cwtune-spread`, and holds it by SIGSTOP once a part or a share is done."""
-        with self.started("cwtune-spread", *words) as job:
-            self.wait_for(1, job, kind)
-            job.send_signal(signal.SIGSTOP)
-            yield job
 
     def kill_at(self, pieces, signal_number, seconds, *words, kind="parts"):
         """Ends `cwtune-spread` by a signal, `seconds` after `pieces` parts or shares are done."""
@@ -97,23 +80,8 @@ class SpreadTrial(Trial):
             _, err = job.communicate(timeout=SECONDS)
         return Kill(job.returncode, err.decode(), before, self.done(kind))
 
-    def stop_in(self, piece, signal_number, *words):
-        """Ends `cwtune-spread` by a signal in a piece that a stand-in for `cwtune` does not end,
-        given as `--part=2/3`. Returns its status and its standard error."""
-        begun = self.folder / "begun"
-        self.write_program("stuck", f"""case "$*" in *{piece}*) touch {begun}; exec sleep 99;;
-*) exec {self.program} "$@";; esac""")
-        with self.started("cwtune-spread --program=./stuck", *words,
-                          stderr=subprocess.PIPE) as job:
-            wait_until(begun.exists, job)
-            job.send_signal(signal_number)
-            _, err = job.communicate(timeout=SECONDS)
-        begun.unlink(missing_ok=True)
-        return job.returncode, err.decode()
-
     def unfinished(self, *words, kind="parts"):
-        """Leaves CERT.parts or CERT.shares as a kill leaves it, with some of the pieces done, and
-        of parts no CERT."""
+        """Leaves CERT.parts or CERT.shares as a kill leaves it, with some pieces done."""
         for _ in range(10):
             for name in [f"CERT.{kind}", *["CERT"] * (kind == "parts")]:
                 removed(self.folder / name)
@@ -130,8 +98,7 @@ class SpreadTrial(Trial):
             removed(self.folder / name)
 
     def kill_by_chance(self, seed, moments, seconds, *words, kind="parts"):
-        """Kills `cwtune-spread` after each of the numbers of pieces `moments`, up to `seconds`
-        later, and compares what it says. Yields after each kill."""
+        """Kills `cwtune-spread` at some moments, and compares what it says. Yields after each."""
         dice, kills = random.Random(seed), []
         for pieces in moments:
             signal_number = dice.choice([signal.SIGKILL, signal.SIGINT, signal.SIGTERM])
@@ -148,8 +115,7 @@ class SpreadTrial(Trial):
 
     def write_ranked(self):
         """Writes a template of 12 settings: three total 4, START among them, two do not assemble,
-        and the others total 3. Also writes a stand-in for `cwtune` that notes its words, and the
-        range line of a part's template."""
+        the others total 3. A stand-in for `cwtune` notes its words and the ranges of parts."""
         self.write("steps.red", ";@tune K 0 11 1 5\nJMP K % 5\nDAT 8/(K-3), 7/(K-9)\n")
         self.write_program("noting", f"""echo "$*" >> {self.folder}/words
 for word; do case $word in [0-9]*.red) grep '^;@tune' $word >> {self.folder}/ranges;; esac; done
@@ -158,13 +124,11 @@ exec {self.program} "$@"
 
 
 def left_over(done, count, kind):
-    """Returns what is said of pieces that are left."""
     return (f"{done} of {count} {kind} are done, and kept in CERT.{kind}: repeat the command to "
             "run the others\n")
 
 
 def without_fights(result):
-    """Returns the result of a tuning in parts, with the lines of its report but `fights`: how many
-    fights are played depends on which part ends when."""
+    """Returns a result without the line `fights`, which depends on which part ends when."""
     lines = [line for line in result.out.splitlines() if not line.startswith("fights ")]
     return result.status, lines, result.err

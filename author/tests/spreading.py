@@ -1,5 +1,5 @@
 """Plays `cwtune-spread`: kills it and starts it again, and gives it what it has to refuse."""
-import os, pathlib, pty, re, signal, threading, time
+import os, pathlib, pty, re, signal, subprocess, threading, time
 from unittest import mock
 
 from author.lib import tuning_files
@@ -9,18 +9,18 @@ from gate.lib.play import shown
 
 from .spread_trial import (DECOY, OPPONENTS, RANKED, SCHEDULE, SMALL, TWELVE, SpreadTrial,
                            left_over, without_fights)
-from .trial import SECONDS, running_in, usage_error
+from .trial import SECONDS, usage_errors, wait_until
 
-WRONG_OPTIONS = [
-    *((f"{name}={number}", f"{name}: {number} is not 1 or more")
-      for name, number in [("--jobs", 0), ("--jobs", -1), ("--parts", 0), ("--parts", -3)]),
-    *((f"--keep={number}", f"--keep: {number} is not 1 to 1000") for number in [0, 1001, -2]),
-    ("--merge=2 --parts=2", "--merge: not allowed with argument --parts"),
-    ("--merge=2 --hosts=x", "--merge: not allowed with argument --hosts"),
-    ("--all --cache=5", "--cache: not allowed with argument --all"),
-    ("--shares=2", "--shares: needs --check or --check-only"),
-    ("--work=x", "--work: needs --check or --check-only"),
-]
+WRONG_OPTIONS = usage_errors(f"cwtune-spread {' '.join(SMALL)}", {
+    **{f"{name}={number}": f"argument {name}: {number} is not 1 or more"
+       for name, number in [("--jobs", 0), ("--jobs", -1), ("--parts", 0), ("--parts", -3)]},
+    **{f"--keep={number}": f"argument --keep: {number} is not 1 to 1000"
+       for number in [0, 1001, -2]},
+    **{f"{option} {other}=2": f"argument {option[:7]}: not allowed with argument {other}"
+       for option, other in [("--merge=2", "--parts"), ("--merge=2", "--hosts")]},
+    "--all --cache=5": "argument --cache: not allowed with argument --all",
+    **{f"{name}=2": f"argument {name}: needs --check or --check-only"
+       for name in ["--shares", "--work"]}})
 
 
 class Spreading(SpreadTrial):
@@ -39,25 +39,22 @@ class Spreading(SpreadTrial):
         self.same("the parts are gone at the end", False, (self.folder / "CERT.parts").exists())
 
     def test_stops(self):
-        """Stops a tuning in the part that begins last."""
+        begun = self.folder / "begun"
+        self.write_program("stuck", f"""case "$*" in *--part=2/3*) touch {begun}; exec sleep 99;;
+*) exec {self.program} "$@";; esac""")
         for signal_number in [signal.SIGINT, signal.SIGTERM]:
+            with self.started("cwtune-spread --program=./stuck --jobs=1 --parts=3", *DECOY,
+                              stderr=subprocess.PIPE) as job:
+                wait_until(begun.exists, job)
+                job.send_signal(signal_number)
+                _, err = job.communicate(timeout=SECONDS)
             self.same(f"signal {signal_number} says how to go on", (
-                -signal.SIGINT, f"stopped: {left_over(2, 3, 'parts')}", 2), (
-                *self.stop_in("--part=2/3", signal_number, "--jobs=1", "--parts=3", *DECOY),
-                self.done()))
-            self.clear()
-
-    def test_killed(self):
-        for signal_number, ended_by in [(signal.SIGKILL, signal.SIGKILL),
-                                        (signal.SIGHUP, signal.SIGINT)]:
-            status, _ = self.stop_in("--part=2/3", signal_number, "--jobs=1", "--parts=3", *DECOY)
-            time.sleep(0.5)
-            self.same(f"signal {signal_number} leaves nothing running", (-ended_by, []),
-                      (status, running_in(self.folder)))
+                -signal.SIGINT, f"stopped: {left_over(2, 3, 'parts')}", 2),
+                (job.returncode, err.decode(), self.done()))
+            begun.unlink()
             self.clear()
 
     def test_other_inputs(self):
-        """Gives a folder of parts other inputs than those that it was made of."""
         reversed_opponents = [*DECOY[:3], *reversed(OPPONENTS)]
         self.unfinished()
         self.write("other.red", self.read("decoy.red").replace(b"PLACE 2000", b"PLACE 2500"))
@@ -99,7 +96,6 @@ class Spreading(SpreadTrial):
             "the parts away and begin again, or another CERT\n"), self.spread(*DECOY))
 
     def test_folders(self):
-        """Puts files that `cwtune-spread` did not make at CERT.parts."""
         self.unfinished()
         self.write("CERT.parts/notes.txt", b"mine\n")
         self.same("a folder is kept for a file of somebody else", (0, b"mine\n"),
@@ -116,14 +112,6 @@ class Spreading(SpreadTrial):
         self.same("a file in its place", (
             2, "", "error: CERT.parts is a file, and is not touched\n", b"mine\n"),
             (*self.spread(*DECOY), self.read("CERT.parts")))
-
-    def test_two_at_once(self):
-        with self.held("--jobs=1", *TWELVE) as job:
-            self.same("the second one is refused",
-                      (2, "", "error: another cwtune-spread is at work in CERT.parts\n"),
-                      self.spread(*DECOY))
-            job.send_signal(signal.SIGCONT)
-            self.same("the first one ends as it does alone", 0, job.wait(SECONDS))
 
     def test_templates(self):
         """Compares with `tune` on templates that another reader would take for others."""
@@ -169,8 +157,7 @@ class Spreading(SpreadTrial):
             left = sorted(path.name for path in self.folder.glob("*CERT*"))
             self.same(f"tune {words}", (*expected, []), (*result, left))
             self.clear()
-        self.refused(usage_error(f"cwtune-spread {words} {' '.join(SMALL)}", f"argument {fault}")
-                     for words, fault in WRONG_OPTIONS)
+        self.refused(WRONG_OPTIONS)
 
     def test_methods(self):
         """Plays every fight, tells a log how far it is, and explains."""
@@ -281,7 +268,6 @@ case $1 in tune) {self.program} "$@" | head -c -5;; *) {self.program} "$@";; esa
         return text.decode()
 
     def test_explained(self):
-        """Compares an explanation on a terminal with that of `tune`."""
         self.write("x.red", inputs.FILES["imps.red"])
         self.write("near.csv", b"opponent,position,first\n0,3,c\n")
         words = [*RULES, "x.red", "near.csv", "CERT", "dat.red"]
@@ -291,7 +277,6 @@ case $1 in tune) {self.program} "$@" | head -c -5;; *) {self.program} "$@";; esa
         self.same("the explanation is that of tune", explanation, self.screen_of(words))
 
     def test_notes(self):
-        """Looks at the notes of what is ignored in a template."""
         self.write("x.red", ";@tune K 0 3 1 2\n ;@tune X 1 2 1 1\nMOV 0, 1\n")
         expected = self.tune("--explain", *SMALL).err
         for options in [[], ["--check"], ["--check-only"]]:
@@ -303,17 +288,12 @@ case $1 in tune) {self.program} "$@" | head -c -5;; *) {self.program} "$@";; esa
         self.same("the notes and the fault", self.tune("--explain", *SMALL).err,
                   self.spread("--explain", *SMALL).err)
 
-    def total_of_start(self):
-        """Returns the total of START by the certificate of the decoy."""
-        cert = tuning_files.Certificate(self.folder / "CERT")
-        fights = tuning_files.read_schedule(self.folder / "schedule.csv")
-        return cert.total_of(94, fights)
-
     def test_progress(self):
         lines = self.screen_of(["--jobs=1", *TWELVE]).split("\r")
         half = re.compile(r"6 of 12 parts, 63 of 126 settings, \d+ fights, \d+:\d\d left, best \d+ "
                           r"total \d+ DECOY.*\x1b\[K")
         self.same("a line of progress", True, any(half.fullmatch(line) for line in lines))
-        last_line = (f"\x1b[K  START, setting 94, total {self.total_of_start()} DECOY=1 PLACE=4000 "
-                     "STEP=3045\n")
-        self.same("the line is cleared, and START is told", last_line, lines[-1])
+        fights = tuning_files.read_schedule(self.folder / "schedule.csv")
+        total = tuning_files.Certificate(self.folder / "CERT").total_of(94, fights)
+        self.same("the line is cleared, and START is told", f"\x1b[K  START, setting 94, total "
+                  f"{total} DECOY=1 PLACE=4000 STEP=3045\n", lines[-1])

@@ -167,7 +167,6 @@ class SshHosts:
         raise ConnectionRefusedError(f"no sshd at {port}")
 
     def environment(self):
-        """Returns the variables for a command that uses the hosts."""
         return {"HOME": str(self.home("here")), "PARALLEL_SSH": f"ssh -F {self.folder}/config"}
 
     def left(self):

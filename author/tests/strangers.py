@@ -1,5 +1,6 @@
 """Gives the commands names, texts and files that a stranger chose, and looks what they leave."""
-import ast, contextlib, fcntl, os, pathlib, pty, re, signal, struct, subprocess, termios, time
+import ast, contextlib, fcntl, itertools, os, pathlib, pty, re, signal, struct, subprocess, termios
+import time
 from unittest import mock
 
 from author.lib import regular, tuning_files, writing
@@ -54,7 +55,7 @@ sys.meta_path.insert(0, Finder())
 start.run("files")
 """
 READ = """from author.lib import files, watching; import sys
-watching.Watch.pause = 0; sys.argv = ['f', 'big.cert']; files.main()
+watching.PACE.pause = 0; sys.argv = ['f', 'big.cert']; files.main()
 """
 # Starts a command as a Python 3.10 does.
 OLD = """import runpy, sys; sys.version_info = (3, 10, 4, 'final', 0)
@@ -80,7 +81,6 @@ class Strangers(Trial):
     FILES = FILES
 
     def test_dashes(self):
-        """Gives each command files whose names begin with a dash, after `--`."""
         (self.folder / "x.red").chmod(0o755)
         self.tune("--", "-t.red", "-s.csv", "-cert", "--program=x.red")
         for words in [
@@ -92,8 +92,7 @@ class Strangers(Trial):
             "cwtune-holdout --rounds=2 -- -t.red -cert --program=x.red",
             "cwtune-warrior -- -t.red -cert", "cwtune-files -- -t.red --program=x.red",
         ]:
-            self.same(words, (0, False), (
-                self.call(words).status, (self.folder / "ran").exists()))
+            self.same(words, (0, False), (self.call(words).status, (self.folder / "ran").exists()))
 
     def test_terminals(self):
         """Gives the commands names and texts that would steer a terminal."""
@@ -151,7 +150,6 @@ class Strangers(Trial):
                   self.call("cwtune-scores cert s.csv").err)
 
     def test_endless(self):
-        """Gives the commands FIFOs and devices among files of others."""
         (self.folder / "all").mkdir()
         os.mkfifo(self.folder / "all/a.red")
         os.symlink("/dev/zero", self.folder / "zero.red")
@@ -224,8 +222,7 @@ class Memory(Trial):
         self.write("big.red", f";@tune A 0 {rows // 100 - 1} 1 0\n;@tune B 0 99 1 0\nDAT A, B\n")
 
     def peak(self, words, megabytes=0):
-        """Returns status and standard error of a command, and its greatest memory in bytes. With
-        `megabytes` it has no more."""
+        """Returns status, standard error and most bytes of memory, which `megabytes` may bound."""
         completed = python(MEASURE, str(megabytes << 20), *command(*words.split()), cwd=self.folder)
         status, most = completed.stdout.split()
         return int(status), completed.stderr, int(most)
@@ -278,8 +275,7 @@ class Endings(Trial):
                 completed.stderr.count("\n") == 1))
 
     def test_interrupts(self):
-        """Interrupts a command in a destructor, where Python drops the exception, and while it
-        imports its modules."""
+        """Interrupts a command in a destructor, and while it imports its modules."""
         for code in [DROPPED, EARLY]:
             completed = python(code, preexec_fn=lambda: signal.signal(signal.SIGINT, signal.SIG_DFL)
                                if code == EARLY else None)
@@ -287,8 +283,7 @@ class Endings(Trial):
                       (completed.returncode, completed.stderr))
 
     def test_old_pythons(self):
-        """Starts each command as a Python 3.10 does, and reads with the grammar of 3.6 what is read
-        before that is seen."""
+        """Starts commands as a Python 3.10 does, and parses as 3.6 what is read before that."""
         scripts = sorted(AUTHOR.glob("cwtune-*"))
         for path in [*scripts, AUTHOR / "lib/__init__.py", AUTHOR / "lib/start.py"]:
             ast.parse(path.read_text(), feature_version=(3, 6))
@@ -302,9 +297,8 @@ class Endings(Trial):
         return list(map(int, (self.read("pids") or b"").split()))
 
     def ended_by(self, signal_number, words):
-        """Sends a command a signal once a stand-in for `cwtune` runs, which notes its process id
-        when it tunes, and does not end. Returns the status, and which stand-ins are left running
-        after a second."""
+        """Sends a command a signal once a stand-in for `cwtune`, which does not end, tunes. Returns
+        the status, and which stand-ins are left running after a second."""
         self.write_program("stuck", f"""case "$1 $*" in
 tune*4294967295*|asm*|settings*|--version*) exec {self.program} "$@";; esac
 echo $$ >> {self.folder}/pids; exec sleep 99""")
@@ -333,18 +327,20 @@ echo $$ >> {self.folder}/pids; exec sleep 99""")
                 self.same(f"{signal_number.name} of {words}", (status, True, []),
                           self.ended_by(signal_number, words))
 
-    def test_hang_ups(self):
+    def test_waiting(self):
         os.mkfifo(self.folder / "pipe")
-        for words in ["cwtune-files pipe", "cwtune-vary pipe", "cwtune-warrior --setting=0 pipe",
-                      "cwtune-landscape pipe step.cert x.svg"]:
+        for signal_number, words in itertools.product([signal.SIGINT, signal.SIGHUP], [
+                "cwtune-files pipe", "cwtune-vary pipe", "cwtune-scores pipe s.csv",
+                "cwtune-warrior --setting=0 pipe", "cwtune-landscape pipe step.cert x.svg"]):
             with self.started(words, stderr=subprocess.PIPE) as job:
                 # It is waiting in the open of the pipe.
                 wait_until(lambda: re.search(b"wait_for_partner|fifo_open", wchan(job.pid)), job)
-                job.send_signal(signal.SIGHUP)
+                job.send_signal(signal_number)
                 with contextlib.suppress(subprocess.TimeoutExpired):
                     job.wait(5)
                 _, err = job.communicate()
-            self.same(f"SIGHUP in {words}", (-signal.SIGINT, b""), (job.returncode, err))
+            self.same(f"signal {signal_number} in {words}", (-signal.SIGINT, b""),
+                      (job.returncode, err))
 
     def test_left_files(self):
         """Finds what killed runs have left, and what only looks so."""

@@ -29,8 +29,7 @@ class RaceTrial(StudyTrial):
                                  grid.Grid(self.folder / "holed.red"), paths, [1, 2, 1], [], folder)
 
     def raced(self, seconds_of_play=0.0, hosts=None):
-        """Returns the outcome of a race with its records, and how many of its plays were here. It
-        is told how long a play takes here."""
+        """Returns what a race found, with its records, and how many of its plays were here."""
         with (temporary_folder() as folder, self.arena(folder, self.program, hosts) as arena,
               contextlib.redirect_stderr(io.StringIO())):
             arena.seconds_of_jobs, arena.plays_of_jobs = 1e9 * seconds_of_play, 10 ** 9
@@ -44,8 +43,7 @@ class StudyOnHosts(OnHosts, RaceTrial):
     """A study and a race on hosts that answer."""
 
     def test_on_hosts(self):
-        """Makes a study of a whole template here and on hosts. Then races, with the fights for the
-        gain on hosts."""
+        """Makes a study here and on hosts. Then races, with the gain on hosts."""
         found = []
         for words in [], ["--hosts=hosts"]:
             status = self.study("--anew", *words, "few.red", "all").status
@@ -67,8 +65,7 @@ class RaceOfHosts(RaceTrial):
     """Races with what hosts do made up."""
 
     def test_ahead(self):
-        """Races, with all heats but the short ones ahead, by jobs of this host in place of
-        hosts."""
+        """Races, with all heats but the short ones ahead by jobs in place of hosts."""
         found, all_plays = self.raced()
         played = [points for _, of_settings in found[-1] for points in of_settings]
         self.same("a setting does not assemble", True, None in played)

@@ -27,7 +27,6 @@ class StudyTrial(Trial):
              **{f"all/{name}": text for name, text in OPPONENTS.items()}}
 
     def study(self, *words):
-        """Returns the result of `cwtune-study`."""
         return self.call("cwtune-study", *FEW, *words)
 
     def begin(self, *words):
@@ -37,8 +36,7 @@ class StudyTrial(Trial):
         return json.loads(self.read(f"{name}.study/report.json"))
 
     def own_lines(self, name, index):
-        """Returns which lines of the winner's text are not those of the warrior, but for the line
-        of `cwtune-warrior`, which has to have this index."""
+        """Returns which lines of a winner are not the warrior's, but STRATEGY at `index`."""
         lines = self.read(f"{name}.study/winner.red").decode().split("\n")
         own = self.read(f"{name}.red").decode().split("\n")
         if not lines.pop(index).startswith(";strategy cwtune: ") or len(lines) != len(own):
@@ -56,6 +54,5 @@ class StudyTrial(Trial):
         return list(self.mark(name)["stages"])
 
     def texts_of(self, name):
-        """Returns the texts of all files of a folder."""
         return {path: path.read_bytes() for path in (self.folder / name).rglob("*")
                 if path.is_file()}

@@ -6,64 +6,50 @@ import fcntl, json, os, random, shutil, signal, subprocess, time
 from author.lib import grid, tuning_files
 
 from .study_trial import FEW, OPPONENTS, PLANE, TEMPLATE, WARRIOR, StudyTrial
-from .trial import AUTHOR, SECONDS, Refusal, usage_error, wait_until
+from .trial import AUTHOR, SECONDS, Refusal, refusals, usage_errors, wait_until
 
 STAGES = ["inputs", "schedule", "template", "best", "fresh 1", "fresh 2", "fresh 3", "fresh 4",
           "fresh 5", "winner", "report"]
 MARK = '{"by": "cwtune-study %d", "of": %s, "stages": {}}'
 FOREIGN = "error: mine is not a folder of this cwtune-study, and is not touched{}\n"
-WRONG_WORDS = [
-    usage_error("cwtune-study t.red", "OPPONENT is missing: files, or a folder with files *.red"),
-    usage_error("cwtune-study STEP=1:2 K=1:2",
-                "WARRIOR is missing: a template, or a warrior with words PLACE=VALUES"),
-    usage_error("cwtune-study w.red all STEP=1",
-                "STEP=1 is not of the form PLACE=LOW:HIGH:STEP or PLACE=VALUE,VALUE, as "
-                "STEP=5:4000:10 or throw.b=-40,-25, without blanks"),
-    usage_error("cwtune-study w.red all s1.mode=<,>",
-                "s1.mode=<,>: there is no field mode; there are a b a-mode b-mode modifier opcode"),
-    usage_error("cwtune-study w.red all s1-b=1:9",
-                "s1-b=1:9 is not of the form PLACE=LOW:HIGH:STEP or PLACE=VALUE,VALUE, as "
-                "STEP=5:4000:10 or throw.b=-40,-25, without blanks"),
-    usage_error("cwtune-study w.red all STEP=1:9 STEP=1:9", "STEP has two ranges"),
-    usage_error("cwtune-study t.red " + "all " * 22, "66 opponents; at most 64"),
-    usage_error("cwtune-study --rounds=4000 t.red all",
-                "--rounds 4000 against 3 opponents: more than 10000 fights"),
-    usage_error("cwtune-study --fresh=4000 t.red all",
-                "--fresh 4000 against 3 opponents: more than 10000 fights"),
-    usage_error("cwtune-study --fresh=0 t.red all", "argument --fresh: 0 is not 1 to 10000"),
-    usage_error("cwtune-study --seed=4 t.red all",
-                "--seed 4 is not 5 to 75, the positions that pMARS takes"),
-    usage_error("cwtune-study --distance=41 t.red all",
-                "--distance is more than half of --core"),
-]
-WRONG_WARRIORS = [
-    Refusal("cwtune-study w.red all", 1, "refused: w.red: no range line: give words "
-            "PLACE=VALUES too (`cwtune-vary w.red` lists the places)"),
-    Refusal("cwtune-study t.red all STEP=1:9:2", 1,
-            "refused: t.red: it has range lines, so it is a template already"),
-    Refusal("cwtune-study three-words.red all", 1, "refused: three-words.red: line 1 is not a "
-            "range line: ;@tune NAME LOW HIGH STEP START, with START one of the values"),
-    Refusal("cwtune-study no-start.red all", 1, "refused: START of no-start.red does not assemble: "
-            "Asm line 3 Value DivisionByZero"),
-    Refusal("cwtune-study t.red long.red", 1,
-            "refused: long.red does not assemble: Asm line 0 Warrior TooLong"),
-]
-WRONG_FILES = [
-    Refusal("cwtune-study t.red empty", 2, "error: empty: no file *.red in this folder"),
-    Refusal("cwtune-study t.red none.red", 3, "failed: none.red: No such file or directory"),
-    Refusal("cwtune-study t.red none.red=2", 3, "failed: none.red=2: No such file or directory"),
-    Refusal("cwtune-study none.red all", 3, "failed: none.red: No such file or directory"),
-    Refusal("cwtune-study --out=none/x t.red all", 3, "failed: none/x: No such file or directory"),
-    Refusal("cwtune-study --out=\udcff t.red all", 2,
-            "error: the name of the folder is not UTF-8, which cwtune wants"),
-    Refusal("cwtune-study --out=t.red t.red all", 2, "error: t.red is a file, and is not touched"),
+FORM = ("is not of the form PLACE=LOW:HIGH:STEP or PLACE=VALUE,VALUE, as STEP=5:4000:10 or "
+        "throw.b=-40,-25, without blanks")
+REFUSALS = [
+    *usage_errors("cwtune-study", {
+        "t.red": "OPPONENT is missing: files, or a folder with files *.red",
+        "STEP=1:2 K=1:2": "WARRIOR is missing: a template, or a warrior with words PLACE=VALUES",
+        **{f"w.red all {word}": f"{word} {FORM}" for word in ["STEP=1", "s1-b=1:9"]},
+        "w.red all s1.mode=<,>":
+            "s1.mode=<,>: there is no field mode; there are a b a-mode b-mode modifier opcode",
+        "w.red all STEP=1:9 STEP=1:9": "STEP has two ranges",
+        f"t.red {'all ' * 22}": "66 opponents; at most 64",
+        "--rounds=4000 t.red all": "--rounds 4000 against 3 opponents: more than 10000 fights",
+        "--fresh=4000 t.red all": "--fresh 4000 against 3 opponents: more than 10000 fights",
+        "--fresh=0 t.red all": "argument --fresh: 0 is not 1 to 10000",
+        "--seed=4 t.red all": "--seed 4 is not 5 to 75, the positions that pMARS takes",
+        "--distance=41 t.red all": "--distance is more than half of --core"}),
+    *refusals("cwtune-study", 1, {
+        "w.red all": "refused: w.red: no range line: give words PLACE=VALUES too (`cwtune-vary "
+                     "w.red` lists the places)",
+        "t.red all STEP=1:9:2": "refused: t.red: it has range lines, so it is a template already",
+        "three-words.red all": "refused: three-words.red: line 1 is not a range line: ;@tune NAME "
+                               "LOW HIGH STEP START, with START one of the values",
+        "no-start.red all": "refused: START of no-start.red does not assemble: Asm line 3 Value "
+                            "DivisionByZero",
+        "t.red long.red": "refused: long.red does not assemble: Asm line 0 Warrior TooLong"}),
+    *refusals("cwtune-study", 2, {
+        "t.red empty": "error: empty: no file *.red in this folder",
+        "--out=\udcff t.red all": "error: the name of the folder is not UTF-8, which cwtune wants",
+        "--out=t.red t.red all": "error: t.red is a file, and is not touched"}),
+    *(Refusal(f"cwtune-study {words}", 3, f"failed: {name}: No such file or directory")
+      for words, name in [("t.red none.red", "none.red"), ("t.red none.red=2", "none.red=2"),
+                          ("none.red all", "none.red"), ("--out=none/x t.red all", "none/x")]),
 ]
 # How the program plays as the hill nano has it.
 NANO = ["--core=80", "--length=5", "--distance=5"]
 
 
 def without_seconds(log):
-    """Returns the lines of a log without the seconds that the commands took."""
     return [line.rpartition("  # ")[0] or line for line in log.decode().splitlines()]
 
 
@@ -115,8 +101,7 @@ class Studying(StudyTrial):
             self.same(f"wins, ties and losses of {name}", (fresh["fights"], fresh["points"]),
                       (wins + ties + losses, 3 * wins + ties))
         gain = winner["fresh"]["percent"] - start["fresh"]["percent"]
-        self.same("the gain is the difference", round(gain, 9),
-                  round(report["gain"]["percent"], 9))
+        self.same("the gain is the difference", round(gain, 9), round(report["gain"]["percent"], 9))
         fresh_of_ranking = [ranked["fresh"] for ranked in ranking]
         self.same("each of the ranking plays, and the half of them more", [30, 30, 60, 90, 90],
                   sorted(fresh["fights"] for fresh in fresh_of_ranking))
@@ -127,8 +112,7 @@ class Studying(StudyTrial):
                   fresh_of_ranking[winner["rank"] - 1]["points"])
 
     def tuned(self, template, study):
-        """Returns the report of `cwtune tune` by the schedule of a study: its lines by their first
-        words."""
+        """Returns the report of `cwtune tune` by a study's schedule, by the first words."""
         output = self.tune(*NANO, "--cycles=800", "--tasks=80", template, f"{study}/schedule.csv",
                            "CERT", *(f"all/{name}" for name in OPPONENTS)).out
         return dict(line.split(" ", 1) for line in output.splitlines())
@@ -232,7 +216,6 @@ class Studying(StudyTrial):
             name for name in names if self.read(f"typed/{name}") != self.read(f"w.study/{name}")])
 
     def test_races(self):
-        """Makes a study of more settings than are tuned."""
         self.write("p.red", PLANE.replace("2 5", "2 3").replace("1 0", "1 4"))
         words = ["--exact=9", "--fights=4000", "--certify", "p.red", "all"]
         status, out, _ = self.study(*words)
@@ -285,8 +268,7 @@ class Studying(StudyTrial):
                 2, f"error: p.study/race.jsonl: line 1: {fault}\n"), self.study(*words)[::2])
 
     def test_whole(self):
-        """Kills a study of a whole template after each stage, and compares it with an unbroken
-        one."""
+        """Kills a study of a whole template after each stage, and compares the end."""
         self.study("p.red", "all")
         unbroken, log = self.read("p.study/report.json"), self.read("p.study/log.txt")
         shutil.rmtree(self.folder / "p.study")
@@ -303,8 +285,7 @@ class Studying(StudyTrial):
                 self.same("a stop says how to go on", True, err.endswith(
                     "stopped: what is done is kept in p.study: repeat the command to go on\n"))
         status = self.study("p.red", "all").status
-        self.same("kills change nothing", (0, unbroken),
-                  (status, self.read("p.study/report.json")))
+        self.same("kills change nothing", (0, unbroken), (status, self.read("p.study/report.json")))
         self.same("nor the log", without_seconds(log),
                   without_seconds(self.read("p.study/log.txt")))
 
@@ -354,5 +335,5 @@ class StudyRefused(StudyTrial):
         before = sorted(os.listdir(self.folder))
         no_program = Refusal("cwtune-study --program=none t.red all", 3,
                              f"failed: {self.folder}/none: No such file or directory")
-        self.refused([*WRONG_WORDS, *WRONG_WARRIORS, *WRONG_FILES, no_program])
+        self.refused([*REFUSALS, no_program])
         self.same("refusals make no folder", before, sorted(os.listdir(self.folder)))

@@ -29,26 +29,29 @@ class Result(NamedTuple):
 
 
 class Refusal(NamedTuple):
-    """A command line that has to be refused: its words, the status, and the line on standard
-    error. There is no output."""
+    """A command line to refuse: its words, the status, and its line. There is no output."""
 
     words: str
     status: int
     line: str
 
 
-def usage_error(words, message):
-    """Returns the refusal of a command line that is wrong in itself, which has the status 2."""
-    return Refusal(words, 2, f"{words.split()[0]}: error: {message}")
+def refusals(command, status, lines):
+    """Returns the refusals of a command, given their lines by the words after it."""
+    return [Refusal(f"{command} {words}".rstrip(), status, line) for words, line in lines.items()]
+
+
+def usage_errors(command, messages):
+    """Returns the refusals of command lines that are wrong in themselves, given as `refusals`."""
+    return refusals(command, 2, {words: f"{command.split()[0]}: error: {message}"
+                                 for words, message in messages.items()})
 
 
 def command(name, *words, python=sys.executable):
-    """Returns the words that run a command by this Python."""
     return [python, str(AUTHOR / name), *words]
 
 
 def run(*words, folder=TUNING, python=sys.executable):
-    """Runs a command. Returns its result."""
     completed = subprocess.run(command(*words, python=python), cwd=folder,
                                stdin=subprocess.DEVNULL, capture_output=True, encoding="utf-8",
                                errors="surrogateescape", timeout=SECONDS)
@@ -91,8 +94,7 @@ def started(words, **options):
 
 
 def wait_until(is_so, job=None, seconds=SECONDS):
-    """Waits until `is_so` returns something true, or the job has ended. Returns what it returned
-    last. Gives up after some seconds."""
+    """Waits until `is_so` returns something true, or a job has ended. Returns the last value."""
     deadline = time.monotonic() + seconds
     while not (value := is_so()) and not (job and job.poll() is not None):
         if time.monotonic() > deadline:
@@ -102,7 +104,6 @@ def wait_until(is_so, job=None, seconds=SECONDS):
 
 
 def removed(path):
-    """Removes a file, a link or a folder, if it is there."""
     if path.is_dir() and not path.is_symlink():
         shutil.rmtree(path)
     else:
@@ -148,8 +149,8 @@ class Trial(unittest.TestCase, Place):
     def same(self, name, expected, came):
         self.wrong(*compare(name, expected, came))
 
-    def refused(self, refusals, **options):
-        for words, status, line in refusals:
+    def refused(self, all_refused, **options):
+        for words, status, line in all_refused:
             self.same(words, (status, "", f"{line}\n"), self.call(words, **options))
 
     def write(self, name, text):
@@ -158,7 +159,6 @@ class Trial(unittest.TestCase, Place):
         super().write(name, text)
 
     def write_program(self, name, script):
-        """Writes a program, of the commands of a bash script."""
         self.write(name, f"#!/bin/bash\n{script}\n")
         (self.folder / name).chmod(0o755)
 
@@ -169,16 +169,13 @@ class Trial(unittest.TestCase, Place):
         return [name, *program, *self.OPTIONS, *first, *words]
 
     def call(self, line, *words, below="", **options):
-        """Runs a command in the folder, or in one below it. Returns its result."""
         return run(*self.words(line, *words), folder=self.folder / below, **options)
 
     def started(self, line, *words, **streams):
-        """Starts a command in the folder, as a context."""
         return started(command(*self.words(line, *words)), cwd=self.folder,
                        **{"stdout": subprocess.DEVNULL, "stderr": subprocess.DEVNULL, **streams})
 
     def cwtune(self, words, **options):
-        """Runs the program. Returns its `End`."""
         return Place.run(self, words, **options)
 
     def tune(self, *words):
@@ -188,8 +185,7 @@ class Trial(unittest.TestCase, Place):
 
 
 class Outcome(unittest.TestResult):
-    """What came of a trial. `tried` has for each part its name, and what was wrong with it, or why
-    it was left out, as `tally` takes them."""
+    """What came of a trial. `tried` has what was wrong, or left out, as `tally` takes it."""
 
     def __init__(self):
         super().__init__()
@@ -222,8 +218,7 @@ def name_of(test):
 
 
 def broke_off(fault):
-    """Returns that an exception ended a trial, and the last line of the trial that it came through.
-    A command that failed leaves less than a trial reads, so any exception may come of it."""
+    """Returns that an exception ended a trial, and the last line of the trial."""
     lines = [(pathlib.Path(frame.filename), frame.lineno)
              for frame in traceback.extract_tb(fault.__traceback__)]
     of_trials = [(path, number) for path, number in lines
@@ -233,7 +228,6 @@ def broke_off(fault):
 
 
 def tried(trials):
-    """Plays trials. Yields names, and what was wrong."""
     for trial in trials:
         outcome = Outcome()
         trial.run(outcome)
@@ -241,8 +235,7 @@ def tried(trials):
 
 
 def play(program, trials):
-    """Plays trials by a program, which the commands find, and can be interrupted. Returns the exit
-    status."""
+    """Plays trials by a program, which the commands find. Returns the exit status."""
     Trial.program = program_of(program)
     # They look on the PATH, if none is built here.
     os.environ["PATH"] = f"{pathlib.Path(Trial.program).parent}:{os.environ['PATH']}"

@@ -1,7 +1,7 @@
 """Plays `cwtune-vary` with the program."""
 import subprocess
 
-from .trial import SECONDS, Refusal, Trial, command, usage_error
+from .trial import SECONDS, Refusal, Trial, command, refusals, usage_errors
 
 TEXT = """;redcode-94
 ;name Two Numbers
@@ -139,19 +139,15 @@ TEXTS = {"two.red": TEXT, "label.red": "K EQU 1\nMOV K, 1/K\nDAT 1/(K-1)\n",
          "ranges.red": ";@tune K 0 1 1 0\nMOV 0, 1\n",
          "none.red": ";redcode\nK = 5\nMOV 0, K\n"}
 WRONG_RANGES = [
-    Refusal("cwtune-vary label.red K=1:2", 1,
-            "refused: label.red does not assemble: Asm line 3 Value DivisionByZero"),
-    Refusal("cwtune-vary none.red", 1,
-            "refused: none.red does not assemble: Asm line 2 Expand Text BadByte"),
-    Refusal("cwtune-vary ranges.red", 1,
-            "refused: ranges.red: it has range lines, so it is a template already"),
-    Refusal("cwtune-vary two.red both=1:9", 1, "refused: two.red, line 6: STEP+1 is not a plain "
-            "number, so both can have no range; it has both.1=1"),
-    Refusal("cwtune-vary two.red step=1:9", 1,
-            "refused: two.red: no line `step EQU number`; did you mean STEP?"),
-    *(Refusal(f"cwtune-vary two.red {name}=1:9", 1,
-              f"refused: two.red: no line `{name} EQU number`") for name in ["k", "late"]),
+    *refusals("cwtune-vary", 1, {
+        "label.red K=1:2": "refused: label.red does not assemble: Asm line 3 Value DivisionByZero",
+        "none.red": "refused: none.red does not assemble: Asm line 2 Expand Text BadByte",
+        "ranges.red": "refused: ranges.red: it has range lines, so it is a template already"}),
     *(Refusal(f"cwtune-vary two.red {word}", 1, f"refused: two.red{fault}") for word, fault in [
+        ("both=1:9", ", line 6: STEP+1 is not a plain number, so both can have no range; it has "
+                     "both.1=1"),
+        ("step=1:9", ": no line `step EQU number`; did you mean STEP?"),
+        ("k=1:9", ": no line `k EQU number`"), ("late=1:9", ": no line `late EQU number`"),
         ("bom.b=1:9", ": no label `bom`; did you mean bomb?"),
         ("99.a=1:9", ", line 99: nothing there can be opened"),
         ("3.a=1:9", ", line 3: nothing there can be opened"),
@@ -162,21 +158,23 @@ WRONG_RANGES = [
         ("both.2=1:9", ", line 6: both has 1 number, and no both.2")]),
     Refusal("cwtune-vary two.red STEP=1:9 4.1=2:5", 2,
             "error: two.red, line 4: STEP and STEP.1 are in one place"),
-    usage_error("cwtune-vary two.red STEP=1:9 STEP=2:5", "STEP has two ranges"),
-    *(usage_error(f"cwtune-vary two.red {word}", f"argument PLACE=VALUES: {word}{fault}")
-      for word, fault in [
-          *((word, FORM) for word in ["STEP=1", "STEP=a:b", "STEP", "STEP=1,", "bomb.b.0=1:2"]),
-          *((word, f": there is no field {field}; there are a b a-mode b-mode modifier opcode")
-            for word, field in [("bomb.c=1:2", "c"), ("bomb.mode=<,>", "mode")]),
-          ("STEP=9:1", ": 9 is above 1"), ("STEP=1:9:0", ": the step is 0"),
-          ("STEP=1:99999", ": values are -65535 to 65535"),
-          ("bomb.a-mode=#,q", f": q is no mode; there are {MODES}"),
-          ("bomb.modifier=ab,", ": nothing is no modifier; there are a b ab ba f x i"),
-          ("bomb.opcode=ldp", f": ldp is no opcode; there are {OPCODES}")]),
+    *usage_errors("cwtune-vary two.red", {
+        "STEP=1:9 STEP=2:5": "STEP has two ranges",
+        **{word: f"argument PLACE=VALUES: {word}{fault}" for word, fault in [
+            *((word, FORM) for word in ["STEP=1", "STEP=a:b", "STEP", "STEP=1,", "bomb.b.0=1:2"]),
+            *((word, f": there is no field {field}; there are a b a-mode b-mode modifier opcode")
+              for word, field in [("bomb.c=1:2", "c"), ("bomb.mode=<,>", "mode")]),
+            ("STEP=9:1", ": 9 is above 1"), ("STEP=1:9:0", ": the step is 0"),
+            ("STEP=1:99999", ": values are -65535 to 65535"),
+            ("bomb.a-mode=#,q", f": q is no mode; there are {MODES}"),
+            ("bomb.modifier=ab,", ": nothing is no modifier; there are a b ab ba f x i"),
+            ("bomb.opcode=ldp", f": ldp is no opcode; there are {OPCODES}")]}}),
 ]
 
 
 class Varying(Trial):
+    FILES = TEXTS
+
     def opened(self, name, *words):
         """Returns the result of `cwtune-vary`. Its output stays in t.red."""
         result = self.call("cwtune-vary", name, *words)
@@ -238,7 +236,6 @@ class Varying(Trial):
             status, err, out.count("AIM EQU 7-([AIM_2_choice:5,3,-9])")))
 
     def test_places(self):
-        """Opens places of each kind, alone and together, and takes the text out again."""
         self.write("places.red", PLACES)
         lines = PLACES.split("\n")
         for number, word, new, notes in OPENED:
@@ -252,8 +249,7 @@ class Varying(Trial):
         self.returned("all", 6)
 
     def returned(self, name, most):
-        """Compares the author's text of START, and those of the first and the last setting, with
-        the text that the template was made of. At most `most` lines differ."""
+        """Compares the texts of START, the first and the last setting with the original."""
         settings = int(self.cwtune(["settings", "t.red"]).out.split()[1])
         for setting in ["start", 0, settings - 1]:
             out = self.call(f"cwtune-warrior --setting={setting} t.red").out.split("\n")
@@ -265,7 +261,5 @@ class Varying(Trial):
                 and len(differ) <= (0 if setting == "start" else most)))
 
     def test_refusals(self):
-        for name, text in TEXTS.items():
-            self.write(name, text)
         self.refused(WRONG_RANGES)
         self.same("a missing file", 3, self.call("cwtune-vary none").status)

@@ -4,8 +4,8 @@ import json
 from author.lib import tuning_files, warrior
 from author.lib.program import assemble
 
-from .origins import GAIN, note
-from .trial import TUNING, Refusal, Trial, usage_error
+from .origins import note
+from .trial import TUNING, Trial, refusals, usage_errors
 
 FIGHT = "opponent,position,first\n0,4000,c\n"
 # Templates with range lines at unusual places, and how many settings they have.
@@ -23,27 +23,24 @@ CHAIN = b"".join([b";@tune K 3 4 1 3\n",
                   *(b"e%d EQU e%d\n" % (number, number + 1) for number in range(1, 16)),
                   b"e16 EQU K\nDAT e1\n"])
 WRONG_WORDS = [
-    usage_error("cwtune-warrior step.red", "CERT is missing: give it, or --setting W"),
-    usage_error("cwtune-warrior step.red step.cert --setting 0",
-                "give CERT or --setting, and not both"),
-    Refusal("cwtune-warrior stone.red step.cert", 2,
-            "error: the certificate is of 21 settings, and the template has 273"),
-    Refusal("cwtune-warrior step.red --setting 21", 2,
-            "error: the template has 21 settings, from 0"),
-    *(usage_error(f"cwtune-warrior step.red --setting {word}", f"argument --setting: {word} is "
-                  "neither an index from 0 nor `start`") for word in ["x", "-1"]),
+    *refusals("cwtune-warrior", 2, {
+        "stone.red step.cert": "error: the certificate is of 21 settings, and the template has 273",
+        "step.red --setting 21": "error: the template has 21 settings, from 0"}),
+    *usage_errors("cwtune-warrior step.red", {
+        "": "CERT is missing: give it, or --setting W",
+        "step.cert --setting 0": "give CERT or --setting, and not both",
+        **{f"--setting {word}": f"argument --setting: {word} is neither an index from 0 nor `start`"
+           for word in ["x", "-1"]}}),
 ]
 
 
 class Warriors(Trial):
     FILES = {"dat.red": "DAT 0\n", "imp.red": "MOV 0, 1\n", "s.csv": FIGHT,
-             "two.csv": "opponent,position,first,weight\n0,4000,c,5\n1,4000,c,1\n",
              **{name: (TUNING / name).read_bytes() for name in ["step.red", "step.cert",
                                                                "stone.red"]}}
 
     def wrong_settings(self, text, count):
-        """Returns which settings of a template `text_of` makes another warrior of, and whether it
-        has another number of settings."""
+        """Returns which of `count` settings are another warrior in their text."""
         self.write("t.red", text)
         path, setting_path = self.folder / "t.red", self.folder / "setting.red"
         template, wrong = tuning_files.Template(path), []
@@ -73,8 +70,7 @@ class Warriors(Trial):
             0, True, note("step.cert.inputs is not there")), (status, line in out, err))
 
     def test_own_texts(self):
-        """Makes texts of templates with range lines of one's own, and with an older `;strategy`
-        line of this command; and the template with another START."""
+        """Makes texts of templates with own range lines, and an older `;strategy` line."""
         text = (";redcode\n;name N\n;strategy cwtune: old\n;strategy own\n;@tune K -2 2 1 0\n"
                 "MOV 0, K\n")
         large = (";strategy own\n;@text K EQU [K] ; own\n;@tune K 0 9999 1 7\n;@tune L 0 999 1 5\n"
@@ -157,18 +153,13 @@ class Warriors(Trial):
 
     def test_gains(self):
         """Plays fresh fights of a setting that lives, and of START, which dies against an imp."""
-        for schedule, opponents, expected in [
-            ("s.csv", ["imp.red"],
-             "setting 1, rank 1: tuning 1 of 3 (33.3%), fresh 20 of 60 (33.3% +- 0.0) K=1\n"
-             "setting 0, rank 2: tuning 0 of 3 (0.0%), fresh 0 of 60 (0.0% +- 0.0) K=0\n"
-             "START, setting 0: tuning 0 of 3 (0.0%), fresh 0 of 60 (0.0% +- 0.0) K=0\n"
-             "over START, setting 1: +33.3% +- 0.0, a gain\n"),
-            ("two.csv", ["dat.red", "imp.red"], GAIN),
-        ]:
-            words = ["--all", "t.red", schedule, "cert", *opponents]
-            self.tuned(";@tune K 0 1 1 0\nJMP 1-K\n", *words)
-            self.same(f"a gain by {schedule}", (0, expected, ""), self.call(
-                f"cwtune-holdout --schedule {schedule} --rounds 20 t.red cert", *opponents))
+        self.tuned(";@tune K 0 1 1 0\nJMP 1-K\n")
+        self.same("a gain", (
+            0, "setting 1, rank 1: tuning 1 of 3 (33.3%), fresh 20 of 60 (33.3% +- 0.0) K=1\n"
+            "setting 0, rank 2: tuning 0 of 3 (0.0%), fresh 0 of 60 (0.0% +- 0.0) K=0\n"
+            "START, setting 0: tuning 0 of 3 (0.0%), fresh 0 of 60 (0.0% +- 0.0) K=0\n"
+            "over START, setting 1: +33.3% +- 0.0, a gain\n", ""),
+            self.call("cwtune-holdout --schedule s.csv --rounds 20 t.red cert imp.red"))
 
     def test_objects(self):
         self.tuned(";@tune K 0 2 1 0\nJMP 1-1/(K!=2)\n")
@@ -210,9 +201,3 @@ class Warriors(Trial):
             self.same(f"ranks in a certificate of tune {options}", (0, names, last_line), (
                 status, [line.partition(":")[0] for line in lines if ": tuning " in line],
                 lines[-1]))
-        self.write("cert", "cwcert,1,3\nnone,-,9\n" + "".join(
-            f"cap,{setting},0:0\n" for setting in range(3)))
-        for words in [fresh, "cwtune-warrior t.red cert"]:
-            self.same(f"{words} of a certificate without a best setting", (
-                1, "", "refused: cert: it names no best setting, since none reaches the floor 9\n"),
-                self.call(words))

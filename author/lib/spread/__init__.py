@@ -24,7 +24,7 @@ import contextlib, os, shutil, sys
 from .. import cert_inputs, tuning_files
 from ..endings import Fault, end_as, tell
 from ..program import EXPLAIN, reading_output, rules_of, run_program
-from ..regular import refuse_endless
+from ..regular import NotRegular
 from ..words import command_parser
 from ..writing import naming, whole_file
 from .folder import SpreadFolder
@@ -57,18 +57,15 @@ def refuse_faults(args):
 
 
 def explain_words(args):
-    """Returns the option --explain of `cwtune`, if somebody wants explanations."""
     return ["--explain"] if args.explain or EXPLAIN else []
 
 
 def run(args, command, cert, *options):
-    """Runs `tune` or `check` on the inputs as they are."""
     return run_program(args.program, command, *options, *explain_words(args), "--", args.template,
                        args.schedule, cert, *args.opponent)
 
 
 def tune_options(args):
-    """Returns the rules, the method and the ranking of the tuning as options of `tune`."""
     return [*rules_of(args).words(), "--all" if args.all else f"--cache={args.cache}",
             *keep_words(args.keep)]
 
@@ -79,8 +76,7 @@ def method_of(args):
 
 
 def count_settings(args):
-    """Returns the number of settings, which the program counts, and its notes of what is ignored in
-    the template, which this shows."""
+    """Returns the settings, which the program counts, and its notes, which this shows."""
     completed = run_program(args.program, "settings", *explain_words(args), "--", args.template)
     if completed.returncode != 0:
         end_as(args.program, completed.returncode, completed.stderr)
@@ -133,8 +129,7 @@ def explaining_stop(folder, progress):
 
 
 def run_jobs(args, folder, progress):
-    """Runs the pieces that are not done, if they are not those of a cluster. Returns for each its
-    fault or a text that says why it has no result, or None if it has one."""
+    """Runs the pieces that are not done, but those of a cluster. Returns the faults by number."""
     if not isinstance(folder, SpreadFolder):
         return {number: folder.fault(number) for number in progress.numbers_left()}
     faults = {}
@@ -151,7 +146,6 @@ def run_jobs(args, folder, progress):
 
 
 def how_to_go_on(folder, progress):
-    """Returns the text that says what is done, and what to repeat."""
     return (f"{len(progress.done())} of {folder.piece_count} {folder.PIECE}s are done, and kept in "
             f"{folder.given_path}: repeat the command to run the others")
 
@@ -225,11 +219,10 @@ def finish(args, folder, progress, notes):
 
 
 def write_inputs(args):
-    """Writes CERT.inputs beside a regular file CERT, as `tune` does. If that fails, an older one is
-    removed, and nothing else changes."""
+    """Writes CERT.inputs beside a regular CERT, as `tune` does, or removes an older one."""
     if not os.path.isfile(args.cert):
         return
-    name, files = cert_inputs.inputs_path(args.cert), [args.template, args.schedule, *args.opponent]
+    name, files = f"{args.cert}.inputs", [args.template, args.schedule, *args.opponent]
     try:
         printed = run_program(args.program, "--version").stdout.decode()
         version = printed.removeprefix("cwtune ").strip()
@@ -242,8 +235,7 @@ def write_inputs(args):
 
 
 def print_start(args, whole):
-    """Prints on standard error what START made, if it played all fights and somebody asks. `whole`
-    is the certificate."""
+    """Says what START made by the certificate `whole`, if it played all and somebody asks."""
     if not explain_words(args):
         return
     cert, template = tuning_files.Certificate(whole), tuning_files.Template(args.template)
@@ -275,7 +267,10 @@ def main():
     parser = make_parser()
     args = parser.parse_args()
     refuse_idle(parser, args)
-    refuse_endless([args.template, args.schedule, *args.opponent, *[args.cert] * args.check_only])
+    for path in [args.template, args.schedule, *args.opponent, *[args.cert] * args.check_only]:
+        # It could keep a reader waiting for ever.
+        if os.path.exists(path) and not (os.path.isfile(path) or os.path.isdir(path)):
+            raise NotRegular(path)
     if not args.check_only:
         refuse_faults(args)
         return tune(args, *count_settings(args))

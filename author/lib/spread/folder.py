@@ -39,8 +39,7 @@ class Copy(NamedTuple):
 
 @dataclasses.dataclass
 class Mark:
-    """What `spread.json` says: of what the pieces are, how many pieces and settings there are, and
-    by kind the fingerprint `of` the inputs."""
+    """What `spread.json` says: of what pieces, how many, and the fingerprint `of` the inputs."""
 
     by: str
     piece: str
@@ -61,7 +60,6 @@ class Pieces:
     """The pieces of a tuning or a check: `piece_count` of them, with `setting_count` settings."""
 
     def settings(self, number):
-        """Returns the settings of a piece, a range."""
         return range((number - 1) * self.setting_count // self.piece_count,
                      number * self.setting_count // self.piece_count)
 
@@ -74,12 +72,10 @@ class ClusterPieces(Pieces):
         self.setting_count = setting_count
 
     def read(self, number, kind):
-        """Returns what a job wrote to CERT.I.KIND."""
         return read_regular(MOST_REPORT_BYTES, f"{self.given_path}.{number}.{kind}").decode()
 
     def fault_in(self, kind, otherwise):
-        """Returns the fault that a job wrote to a file, `otherwise` if that is empty, or where to
-        look if it is not there."""
+        """Returns the fault that a job wrote to a file, or what to say if it wrote none."""
         path = f"{self.given_path}.{kind}"
         try:
             lines = pathlib.Path(path).read_text(errors="replace").splitlines()
@@ -110,11 +106,8 @@ class SpreadFolder(Pieces, OwnFolder):
     SENT_KINDS = []
 
     def __init__(self, args, given_path, copies, options, piece_count, setting_count):
-        """Opens the folder, and makes it if it is new.
-
-        `copies` are the files of which its pieces are made, and `options` what else they depend on,
-        by kind. A folder that is not new keeps the counts of its mark.
-        """
+        """Opens or makes the folder, of the files `copies` and by kind of what else pieces depend
+        on. A folder that is not new keeps the counts of its mark."""
         super().__init__(given_path)
         self.copies, self.input_options, self.pid = copies, options, os.getpid()
         self.work = self.path  # what hosts keep of it is known by this name
@@ -145,11 +138,9 @@ class SpreadFolder(Pieces, OwnFolder):
         return {"": f"{self.OWN_FILES}|{self.UNFINISHED_FILES}"}
 
     def inputs_fingerprint(self):
-        """Returns the fingerprint of the inputs as they are now."""
         return self.fingerprint(lambda copy: sha256_of(copy.source))
 
     def copies_fingerprint(self):
-        """Returns the fingerprint of the copies in the folder."""
         return self.fingerprint(lambda copy: self.sha256(copy.name))
 
     def fingerprint(self, digest_of_copy):
@@ -160,18 +151,16 @@ class SpreadFolder(Pieces, OwnFolder):
         return digests | self.input_options
 
     def fill(self, piece_count, setting_count):
-        """Makes the folder anew: copies the inputs, and then writes the mark with their
-        fingerprint, which it returns."""
-        self.write_mark(Mark(self.maker(), self.PIECE))
+        """Makes the folder anew, and returns its mark, which is written once all is there."""
+        mark = Mark(self.maker(), self.PIECE)
+        self.write_mark(mark)
         self.remove_all()
         self.put_back_copies()
-        mark = Mark(self.maker(), self.PIECE, piece_count, setting_count,
-                    self.copies_fingerprint())
+        mark.parts, mark.count, mark.of = piece_count, setting_count, self.copies_fingerprint()
         self.write_mark(mark)
         return mark
 
     def put_back_copies(self):
-        """Copies the inputs of which no copy is there."""
         for copy in self.copies:
             if not os.access(copy.name, os.F_OK, dir_fd=self.top.descriptor):
                 with open_regular(copy.source) as source, self.whole_file(copy.name, "wb") as file:
@@ -196,11 +185,9 @@ class SpreadFolder(Pieces, OwnFolder):
         """Writes what only this piece reads, the files of the kinds `SENT_KINDS`."""
 
     def file(self, number, kind):
-        """Returns where this run writes something of a piece."""
         return self.path / f"{number}.{self.pid}.{kind}"
 
     def fault(self, number, status):
-        """Returns the fault of a run of a piece that has no result."""
         stderr = self.file(number, "fault").read_bytes()
         return fault_of(subprocess.CompletedProcess(["cwtune"], status, b"", stderr))
 
@@ -209,8 +196,7 @@ class SpreadFolder(Pieces, OwnFolder):
             json.dump(result, file)
 
     def read_done(self, number):
-        """Returns what was written of a piece that is done, or None, also if that was cut. Refuses
-        what is not of its form."""
+        """Returns what is written of a piece, None if it is not done or was cut."""
         try:
             return self.load(f"{number}.done", self.RESULT)
         except (FileNotFoundError, NotJson):

@@ -68,8 +68,7 @@ def read_hosts(path):
 
 
 def tell_left_out(reasons):
-    """Says which hosts are left out, given the reasons by host, and of many how many more. Says
-    nothing of a host twice."""
+    """Says which hosts are left out and why, of many how many more, of none twice."""
     lines = [f"note: {host.replace(f'{SSH_OPTIONS} ', '')} is left out: {reason}"
              for host, reason in reasons.items() if host not in TOLD]
     TOLD.update(reasons)
@@ -82,8 +81,7 @@ def tell_left_out(reasons):
 
 
 class HostJobs:
-    """Jobs that GNU parallel runs. Once it has ended, `waiting` has those without a status, and
-    `fault` says why."""
+    """Jobs of GNU parallel. At its end `waiting` has those without a status, `fault` says why."""
 
     fault = None
 
@@ -100,7 +98,6 @@ class HostJobs:
             raise
 
     def begin(self):
-        """Starts GNU parallel for the jobs that wait."""
         host_count = self.ready_hosts()
         self.started, self.statuses, self.is_over = list(self.waiting), {}, False
         self.pack_inputs()
@@ -141,7 +138,6 @@ class HostJobs:
         return len(ready)
 
     def pack_inputs(self):
-        """Packs all that a host has to have."""
         folder = self.folder
         with tarfile.open(self.inputs, "w") as archive:
             archive.add(SCRIPT, "job")
@@ -181,8 +177,7 @@ class HostJobs:
         return ended
 
     def end_round(self):
-        """Begins again for jobs that are lost, as when a host dies before it sends what came of
-        them, unless all of this round are."""
+        """Begins again for jobs that are lost, as by a dead host, unless all of a round are."""
         self.is_over, is_any_done = True, len(self.waiting) < len(self.started)
         if self.waiting:
             self.fault = self.complaint()
@@ -201,10 +196,8 @@ class HostJobs:
                     f"GNU parallel ended with status {self.parallel.returncode}")
 
     def returned(self):
-        """Returns the numbers of the jobs of which an archive came back."""
         names = set(os.listdir(self.folder.path))
-        return [number for number in self.waiting
-                if self.folder.file(number, "tar").name in names]
+        return [number for number in self.waiting if self.folder.file(number, "tar").name in names]
 
     def unpack(self, number):
         """Unpacks what came of a job. Returns its status, or None if the archive is damaged."""

@@ -9,8 +9,7 @@ from ..endings import end_with_parent
 
 
 def ended(jobs, show):
-    """Runs jobs to their end. Yields number and status of each that ends, and meanwhile calls
-    `show` again and again."""
+    """Runs jobs. Yields number and status of each that ends, and calls `show` meanwhile."""
     try:
         while jobs.keep_running():
             yield from jobs.take_ended()
@@ -45,7 +44,6 @@ class LocalJobs:
                                     stdout=report, stderr=fault, preexec_fn=end_with_parent)
 
     def take_ended(self):
-        """Returns number and status of the jobs that have ended since the last call."""
         ended = [(number, job.returncode) for number, job in self.running.items()
                  if job.poll() is not None]
         for number, _ in ended:

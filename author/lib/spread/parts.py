@@ -19,6 +19,7 @@ from ..program import NO_CANDIDATE, rules_of
 from ..regular import sha256_of
 from ..schema import Sha256
 from ..tuning_files import MOST_BYTES, Template
+from ..writing import open_new
 from .folder import JOB_FILES, ClusterPieces, SpreadFolder, copies_of
 
 # A count that `cwtune` prints, and the values of a setting.
@@ -32,8 +33,7 @@ REPORT = re.compile(
 
 
 class Part(NamedTuple):
-    """What came of a part: its settings, a range, and its report by the first words of the lines,
-    which is empty without a candidate."""
+    """What came of a part, its report by the lines' first words: empty without a candidate."""
 
     settings: range
     report: dict
@@ -46,12 +46,10 @@ class Part(NamedTuple):
         return bool(self.report) and not self.is_below()
 
     def total(self):
-        """Returns the total of its best setting."""
         return int(self.report["total"].split()[0])
 
     def ranked(self):
-        """Returns a dict from settings, counted in the whole template, to total and constants: of
-        all that the report ranks, or of the best one if it ranks none."""
+        """Returns total and constants by setting of the whole: of what is ranked, or the best."""
         if not self.has_best():
             return {}
         best = self.report["best"], self.report["total"].split()[0], self.report["constants"]
@@ -61,9 +59,8 @@ class Part(NamedTuple):
 
 
 def read_report(text):
-    """Returns the lines of a report by their first words, and of the lines `rank` a list: nothing
-    for an empty text, as of a part without a candidate. Raises a ValueError if it is not a report,
-    or was cut."""
+    """Returns the lines of a report by their first words, of the lines `rank` a list; nothing for
+    an empty text. Raises a ValueError if it is not a report, or was cut."""
     if not text:
         return {}
     if not REPORT.fullmatch(text):
@@ -83,8 +80,7 @@ class PartResult:
 
 
 class ClusterParts(ClusterPieces):
-    """Parts. Job I writes the certificate of its part as CERT.I, and what `tune` prints as
-    CERT.I.report and CERT.I.fault."""
+    """Parts. Job I writes CERT.I, and what `tune` prints as CERT.I.report and CERT.I.fault."""
 
     PIECE = "part"
 
@@ -92,7 +88,6 @@ class ClusterParts(ClusterPieces):
         return pathlib.Path(f"{self.given_path}.{number}")
 
     def result(self, number):
-        """Returns what came of a part, or None if it has no result."""
         try:
             fault, report = self.read(number, "fault"), read_report(self.read(number, "report"))
         except (FileNotFoundError, ValueError):
@@ -102,16 +97,13 @@ class ClusterParts(ClusterPieces):
         return Part(self.settings(number), report)
 
     def fault(self, number):
-        """Returns why a part has no result."""
-        return self.fault_in(f"{number}.fault",
-                             f"{self.cert(number)}.report is cut, or not there")
+        return self.fault_in(f"{number}.fault", f"{self.cert(number)}.report is cut, or not there")
 
     def whole(self):
         """Returns where the whole certificate is put together: a file that only this run has."""
         return pathlib.Path(f"{self.given_path}.whole.{os.getpid()}.new")
 
     def writing_whole(self):
-        """Opens that file."""
         return self.whole().open("x")
 
 
@@ -143,8 +135,7 @@ class Parts(SpreadFolder):
                         "give --anew to throw them away and begin again", 2)
 
     def in_order(self, numbers):
-        """Returns the numbers of parts in the order in which these begin: that of START first.
-        Plays START alone, if other parts need its total as their floor."""
+        """Returns the numbers, that of START first. Plays START alone if others need its total."""
         with_start = next(number for number in range(1, self.piece_count + 1)
                           if self.template.start in self.settings(number))
         others = [number for number in numbers if number != with_start]
@@ -165,7 +156,7 @@ class Parts(SpreadFolder):
 
     def run(self, words, output_name):
         """Runs the program in the folder, with its output in a file there. Returns its status."""
-        with self.create(output_name) as output:
+        with open_new(self.top.descriptor, output_name, "wb") as output:
             return subprocess.run(["./cwtune", *words], cwd=self.path, stdin=subprocess.DEVNULL,
                                   stdout=output, stderr=subprocess.DEVNULL,
                                   preexec_fn=end_with_parent).returncode
@@ -193,7 +184,6 @@ class Parts(SpreadFolder):
         self.write(f"{number}.{self.pid}.red", text)
 
     def words(self, number):
-        """Returns the words that tune a part in the folder."""
         name = f"{number}.{self.pid}"
         return ["./cwtune", "tune", f"--part={number}/{self.piece_count}", *self.tune_options,
                 *self.floor(number), f"{name}.red", "s.csv", f"{name}.cert", *self.opponents]
@@ -232,7 +222,6 @@ class Parts(SpreadFolder):
         return part
 
     def whole(self):
-        """Returns where the certificate of the whole template is put together."""
         return self.path / "whole.cert"
 
     def writing_whole(self):

@@ -2,7 +2,7 @@
 import sys, time
 
 from ..endings import tell
-from ..watching import rewrite
+from ..watching import Pace, rewrite
 from .report import best_of, index_of, summed
 
 # Seconds from a line in a log to the next.
@@ -14,17 +14,16 @@ class Progress:
     of what is done: at a terminal, and with `in_log` every PAUSE seconds elsewhere."""
 
     def __init__(self, folder, in_log):
-        self.folder, self.in_log, self.shown, self.last_line_at = folder, in_log, "", -PAUSE
+        self.folder, self.in_log, self.shown, self.pace = folder, in_log, "", Pace(PAUSE)
+        self.pace.told_at = -PAUSE  # the first line comes at once
         numbers = range(1, folder.piece_count + 1)
         self.results = {number: folder.result(number) for number in numbers}
         self.began_at, self.settings_before = time.monotonic(), self.settings_done()
 
     def done(self):
-        """Returns what came of the pieces that are done."""
         return [result for result in self.results.values() if result]
 
     def numbers_left(self):
-        """Returns the numbers of the pieces that are not done."""
         return [number for number, result in self.results.items() if result is None]
 
     def show(self):
@@ -34,32 +33,28 @@ class Progress:
             if line != self.shown:
                 rewrite(line)
             self.shown = line
-        elif self.in_log and time.monotonic() - self.last_line_at >= PAUSE:
+        elif self.in_log and self.pace.is_due():
             tell(self.line())
-            self.last_line_at = time.monotonic()
 
     def clear(self):
-        """Clears the line at a terminal."""
         if self.shown:
             rewrite()
+
+    def settings_done(self):
+        return sum(len(self.folder.settings(number))
+                   for number, result in self.results.items() if result)
 
     def time_left(self):
         """Returns the text of the time that is left, once a piece was done in this run."""
         settings = self.settings_done()
         if settings <= self.settings_before:
             return ""
-        seconds = time.monotonic() - self.began_at
-        seconds_left = int(seconds * (self.folder.setting_count - settings)
-                           / (settings - self.settings_before))
+        seconds_of_setting = (time.monotonic() - self.began_at) / (settings - self.settings_before)
+        seconds_left = int(seconds_of_setting * (self.folder.setting_count - settings))
         return f", {seconds_left // 60}:{seconds_left % 60:02} left"
 
 
 class PartsProgress(Progress):
-    """The parts of a tuning."""
-
-    def settings_done(self):
-        return sum(len(part.settings) for part in self.done())
-
     def line(self):
         parts, folder = self.done(), self.folder
         line = (f"{len(parts)} of {folder.piece_count} parts, {self.settings_done()} of "
@@ -71,12 +66,6 @@ class PartsProgress(Progress):
 
 
 class SharesProgress(Progress):
-    """The shares of a check."""
-
-    def settings_done(self):
-        return sum(len(self.folder.settings(number))
-                   for number, verdict in self.results.items() if verdict)
-
     def line(self):
         return (f"{len(self.done())} of {self.folder.piece_count} shares of the check, "
                 f"{self.settings_done()} of {self.folder.setting_count} settings"

@@ -18,7 +18,6 @@ def best_of(parts):
 
 
 def index_of(part):
-    """Returns the index of the part's best setting within the whole template."""
     return part.settings.start + int(part.report["best"])
 
 
@@ -34,17 +33,12 @@ def ranks_of(parts, keep):
     ranked = {}
     for part in parts:
         ranked |= part.ranked()
-    first = sorted(ranked, key=lambda setting: (-ranked[setting][0], setting))[:keep]
-    return [rank_line(rank, setting, *ranked[setting]) for rank, setting in enumerate(first, 1)]
-
-
-def rank_line(rank, setting, total, constants):
-    values = f" {constants}" if constants != "-" else ""
-    return f"rank {rank} setting {setting} total {total}{values}"
+    first = sorted((-total, setting, constants) for setting, (total, constants) in ranked.items())
+    return [f"rank {rank} setting {setting} total {-less}" + f" {constants}" * (constants != "-")
+            for rank, (less, setting, constants) in enumerate(first[:keep], 1)]
 
 
 def report_lines(parts, setting_count):
-    """Returns the lines of the report of the whole template."""
     best = best_of(parts)
     return [
         f"vectors {setting_count}",
@@ -68,8 +62,7 @@ def reading(folder, number):
 
 
 def rows_of(folder, number, part):
-    """Yields the rows of a part, with settings counted within the whole template. There has to be
-    one for each of its settings."""
+    """Yields the rows of a part, with settings of the whole template. Each has to have one."""
     first, count = part.settings.start, len(part.settings)
     if not part.report:
         yield from (f"refused,{setting},-" for setting in part.settings)
@@ -88,7 +81,6 @@ def rows_of(folder, number, part):
 
 
 def write_whole(folder, parts):
-    """Writes the certificate of the whole template. `parts` are the parts by number."""
     best = best_of(parts.values())
     number = next(number for number, part in parts.items() if part is best)
     with reading(folder, number) as path, open_regular(path) as file:

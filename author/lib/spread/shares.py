@@ -32,8 +32,7 @@ def is_verdict(text, status, number, share_count, keep=1):
 
 
 def verdict_in(text, *share):
-    """Returns a text that a share may have printed, or None if it may not. `share` has the last
-    arguments of `is_verdict`."""
+    """Returns a text that a share, given as for `is_verdict`, may have printed, or None."""
     return text if is_verdict(text, 0 if ACCEPTED.fullmatch(text) else 1, *share) else None
 
 
@@ -52,8 +51,7 @@ def verdict_of(texts, cert):
 
 
 def first_rejection(rejections, cert):
-    """Returns the rejection, a record and a reason, that a check of the whole finds first. Like
-    each share, it looks at `same` rows last."""
+    """Returns the rejection that a check of the whole finds first. It sees `same` rows last."""
     with open(cert, encoding="utf-8-sig", errors="replace", newline="") as file:
         records = filter(None, csv.reader(file) if len(rejections) > 1 else ())
         same = {index for index, record in enumerate(records) if record[0] == "same"}
@@ -66,13 +64,11 @@ def first_rejection(rejections, cert):
 
 
 def keep_words(keep):
-    """Returns how many of the ranking are asked for as words of `tune` and `check`."""
     return [f"--keep={keep}"] if keep > 1 else []
 
 
 class ClusterShares(ClusterPieces):
-    """Shares. Job I writes CERT.I.check: the SHA-256 digest of CERT, what the check prints, and the
-    digest again."""
+    """Shares. Job I writes CERT.I.check: the digest of CERT, what `check` prints, the digest."""
 
     PIECE = "share"
 
@@ -91,7 +87,6 @@ class ClusterShares(ClusterPieces):
         return verdict_in("".join(lines[1:-1]), number, self.piece_count, self.keep)
 
     def fault(self, number):
-        """Returns why a share has no result."""
         return self.fault_in(f"{number}.check.fault", f"{self.given_path}.{number}.check is cut, "
                              "or of another certificate, number of shares or --keep")
 
@@ -117,7 +112,6 @@ class Shares(SpreadFolder):
                         "give --anew to throw them away and begin again", 2)
 
     def words(self, number):
-        """Returns the words that check a share in the folder."""
         return ["./cwtune", "check", f"--share={number}/{self.piece_count}",
                 *keep_words(self.keep), *self.rules.words(), "t.red", "s.csv", "c.cert",
                 *self.opponents]
@@ -131,7 +125,6 @@ class Shares(SpreadFolder):
         return self.fault(number, status)
 
     def result(self, number):
-        """Returns what a share printed, or None if it is not done."""
         text = self.read_done(number)
         return text and verdict_in(text, number, self.piece_count, self.keep)
 

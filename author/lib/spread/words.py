@@ -2,14 +2,13 @@
 import os
 
 from ..tuning_files import MOST_KEPT, MOST_SETTINGS
-from ..words import add_cwtune, add_files, number_from
+from ..words import add_cwtune, add_files, add_number, number_from
 
 # The most parts and the most shares that the program takes; more than settings do nothing.
 MOST_PIECES = 2 ** 32 - 1
 
 
 def add_options(parser):
-    """Adds all options and words of the command."""
     parser.add_argument("--progress", action="store_true",
                         help="print a line every 20 seconds on standard error, if it is not a "
                         "terminal")
@@ -27,7 +26,6 @@ def add_options(parser):
 
 
 def add_jobs(parser):
-    """Adds the options of where the jobs run, and of how they are split."""
     group = parser.add_argument_group("jobs")
     group.add_argument("--jobs", type=number_from(1), default=os.cpu_count(), metavar="N",
                        help="jobs that run side by side, on each host "
@@ -46,11 +44,9 @@ def add_jobs(parser):
 
 
 def add_search(parser):
-    """Adds the options of how a part is tuned."""
     group = parser.add_argument_group("search")
-    group.add_argument("--keep", type=number_from(1, MOST_KEPT), default=1,
-                       metavar="K", help="find and check the first K of the ranking, as "
-                       "`cwtune tune --keep K` [default: 1]")
+    add_number(group, "--keep", "K", 1, "find and check the first K of the ranking, as "
+               "`cwtune tune --keep K`", high=MOST_KEPT)
     methods = group.add_mutually_exclusive_group()
     methods.add_argument("--all", action="store_true",
                          help="play every fight of every setting, as `cwtune tune --all`")

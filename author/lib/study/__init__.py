@@ -30,7 +30,7 @@ from ..race import Contender
 from ..race_fights import Arena, Budget, add_budget
 from ..series import series_fights
 from ..tuning_files import MOST_FIGHTS, MOST_SETTINGS, Certificate, read_schedule, schedule_text
-from ..words import add_cwtune, add_json, command_parser, number_from, print_json
+from ..words import add_cwtune, add_json, add_number, command_parser, number_from, print_json
 from ..writing import temporary_folder
 from .folder import StudyFolder
 from .fresh import FIRST_HEAT_PLAYERS, find_winner
@@ -38,8 +38,6 @@ from .inputs import read_inputs
 from .race import RaceOfStudy
 from .report import html_of, shown_values
 from .result import raced_numbers, tuned_numbers
-
-fight_count = number_from(1, MOST_FIGHTS)
 
 
 class Study:
@@ -71,7 +69,6 @@ class Study:
             ["cwtune-series", *words, str(seed), str(rounds), str(len(weights))], name, 0)
 
     def copy_inputs(self):
-        """Copies the inputs, and makes the template of a warrior."""
         folder, inputs = self.folder, self.inputs
         (folder.path / "opponents").mkdir(exist_ok=True)
         for path, (_, text) in zip(self.opponents, inputs.opponents):
@@ -105,13 +102,11 @@ class Study:
         return {"fights": int(fights), "check": lines[-1]}
 
     def first_settings(self):
-        """Returns the first settings of the ranking of the box."""
         cert = Certificate(self.folder.path / "best.cert")
         ranking = cert.ranked(read_schedule(self.folder.path / "schedule.csv"))
         return [setting for _, setting in ranking.full[:FIRST_HEAT_PLAYERS]]
 
     def go(self):
-        """Goes through all stages."""
         args, stage = self.args, self.folder.stage
         warrior = ["warrior.red"] if args.ranges else []
         stage("inputs", self.copy_inputs, "template.red", "start.red", *warrior, *self.opponents)
@@ -135,7 +130,6 @@ class Study:
         return {"tuning": tuning, "winner": winner, "points": points, "last_points": last_points}
 
     def tell_estimate(self, grid):
-        """Prints about how long the tuning and its check take, by some fights of START."""
         fights = 2 * grid.count() * self.args.rounds * len(self.names)
         paths = [str(self.folder.path / path) for path in self.opponents]
         with (temporary_folder() as folder,
@@ -151,14 +145,12 @@ class Study:
         self.folder.run(words, "winner.red")
 
     def write_report(self, results):
-        """Writes report.json and report.html."""
         report = (raced_numbers if "race" in results else tuned_numbers)(self, results)
         self.folder.write("report.json", (json.dumps(report, indent=1) + "\n").encode())
         self.folder.write("report.html", html_of(report).encode(errors="replace"))
 
 
 def print_fresh(name, player, report):
-    """Prints what a player made in its fresh fights, and its values."""
     fresh, values = player["fresh"], shown_values(report, player["values"])
     constants = " ".join(f"{constant}={value}" for constant, value in values.items())
     print(f"fresh: {name}: {fresh['points']} of {3 * fresh['fights']} ({fresh['percent']:.1f}% "
@@ -166,7 +158,6 @@ def print_fresh(name, player, report):
 
 
 def print_tuned(report):
-    """Prints what the tuning of a whole template found."""
     best, winner, start = report["ranking"][0], report["winner"], report["start"]
     if report["refused"]:
         print(f"{report['refused']} of the {report['settings']} settings do not assemble")
@@ -177,7 +168,6 @@ def print_tuned(report):
 
 
 def print_raced(report):
-    """Prints what the race found."""
     race, box = report["race"], report["box"]
     print(f"race: {race['settings']} of {report['settings']} settings in {race['fights']} fights")
     if box:
@@ -193,7 +183,6 @@ def print_raced(report):
 
 
 def print_end(folder, report):
-    """Prints what the study found, and where its files are."""
     gain = report["gain"]
     print_raced(report) if report["race"] else print_tuned(report)
     if gain and report["winner"]["values"] != report["start"]["values"]:
@@ -210,20 +199,17 @@ def make_parser():
     parser = command_parser(__doc__)
     parser.add_argument("--out", metavar="FOLDER", help="where all files go [default: NAME.study, "
                         "for a warrior NAME.red]")
-    parser.add_argument("--rounds", type=fight_count, default=20, metavar="R",
-                        help="fights of the tuning against each opponent [default: 20]")
+    add_number(parser, "--rounds", "R", 20, "fights of the tuning against each opponent",
+               high=MOST_FIGHTS)
     parser.add_argument("--seed", type=number_from(1, 65535), metavar="S",
                         help="the seed of a race, and the first position of a tuning, as SEED of "
                         "cwtune-series [default: 4321, or less in a small core]")
-    parser.add_argument("--exact", type=number_from(1, MOST_SETTINGS), default=1000, metavar="N",
-                        help="tune a template of at most N settings whole, and race in a larger "
-                        "one [default: 1000]")
-    parser.add_argument("--fresh", type=fight_count, default=100, metavar="F",
-                        help="fresh fights against each opponent in a heat, if the template is "
-                        "tuned whole [default: 100]")
-    parser.add_argument("--box", type=number_from(1), default=2, metavar="N",
-                        help="tune the settings up to N steps from a race's winner; 1 step if "
-                        "N steps hold more than --exact [default: 2]")
+    add_number(parser, "--exact", "N", 1000, "tune a template of at most N settings whole, and "
+               "race in a larger one", high=MOST_SETTINGS)
+    add_number(parser, "--fresh", "F", 100, "fresh fights against each opponent in a heat, if the "
+               "template is tuned whole", high=MOST_FIGHTS)
+    add_number(parser, "--box", "N", 2, "tune the settings up to N steps from a race's winner; "
+               "1 step if N steps hold more than --exact")
     parser.add_argument("--certify", action="store_true", help="tune the box around a race's "
                         "winner with all fights, check the certificate, and draw its totals")
     parser.add_argument("--by-kind", action="store_true",

@@ -40,8 +40,7 @@ class Scale(NamedTuple):
             return [self.low]
         least_step = (self.high - self.low) / 5
         power = 10 ** math.floor(math.log10(least_step))
-        step = next(digit * power for digit in (1, 2, 5, 10)
-                    if digit * power >= least_step * 0.999)
+        step = next(digit * power for digit in (1, 2, 5, 10) if digit * power >= least_step * 0.999)
         first, last = math.ceil(self.low / step - 1e-9), math.floor(self.high / step + 1e-9)
         return [multiple * step for multiple in range(first, last + 1)]
 
@@ -54,7 +53,6 @@ class Axis(NamedTuple):
     texts: list | None
 
     def scale(self):
-        """Returns the scale from left to right."""
         return Scale(min(self.values), max(self.values), LEFT + 10, RIGHT - 10)
 
     def shown(self, tick):
@@ -79,7 +77,6 @@ def label(x, y, words, style=""):
 
 
 def path(pen_moves, style):
-    """Returns the path that `pen_moves` draw, in the words of SVG."""
     return f'<path d="{pen_moves}" class="{style}"/>'
 
 
@@ -97,7 +94,6 @@ def tick_text(value):
 
 
 def shortened(words, most=MOST_LETTERS):
-    """Returns a text, or its beginning with dots if it is longer than `most`."""
     return words if len(words) <= most else words[: most - 1] + "…"
 
 
@@ -118,15 +114,11 @@ def draw_bar(x_scale, opponent, y, style):
     yield label(max(end, high) + 5, y + 9, f"{decimal(percent)}%")
 
 
-def legend_of_bars():
-    yield rect(0, 3, 12, 9, "other") + label(17, 11, "START") + rect(70, 3, 12, 9, "own")
-    yield label(87, 11, "winner") + path("M146 7.5h16M146 5v5M162 5v5", "stroke")
-    yield label(167, 11, "± one standard error")
-
-
 def draw_bars(start_opponents, winner_opponents):
-    """Draws the percents of START and of the winner against each opponent."""
-    x_scale, elements, y = Scale(0, 100, 0, 300), list(legend_of_bars()), 40
+    x_scale, y = Scale(0, 100, 0, 300), 40
+    elements = [rect(0, 3, 12, 9, "other"), label(17, 11, "START"), rect(70, 3, 12, 9, "own"),
+                label(87, 11, "winner"), path("M146 7.5h16M146 5v5M162 5v5", "stroke"),
+                label(167, 11, "± one standard error")]
     bottom = 22 + OPPONENT_HEIGHT * len(winner_opponents)
     for tick in (0, 25, 50, 75, 100):
         x = x_scale.coordinate(tick)
@@ -164,7 +156,6 @@ def points_of(axis, y_scale, heights):
 
 
 def curve(points):
-    """Returns a line through the points, broken where one has no height."""
     pen_moves, pen = [], "M"
     for x, y in points:
         if y is not None:
@@ -174,14 +165,12 @@ def curve(points):
 
 
 def dots(points):
-    """Yields a dot for each point, unless they are too many to be told apart."""
     known = [point for point in points if point[1] is not None]
     if len(known) <= MOST_DOTS:
         yield from (circle(x, y, 2.5, "dot") for x, y in known)
 
 
 def marks(points, start_index, winner_index):
-    """Yields the marks of START and of the winner. Their indices may be None."""
     for index, radius, style in [(start_index, 5.5, "mark-start"), (winner_index, 5, "own")]:
         if index is not None and points[index][1] is not None:
             yield circle(*points[index], radius, style)
@@ -196,7 +185,6 @@ def y_scale_of(heights, bottom):
 
 
 def draw_line(axis, totals, start_index, winner_index):
-    """Draws totals over the values of one constant. START and the winner may be None."""
     y_scale = y_scale_of(totals, 210)
     points = points_of(axis, y_scale, totals)
     elements = [*draw_axes(axis, y_scale), curve(points), *dots(points),
@@ -218,23 +206,15 @@ def draw_effect(number, effect, y_scale, winner_value, texts):
     axis = Axis(name, values, texts)
     points = points_of(axis, y_scale, means)
     winner_index = values.index(winner_value) if winner_value in values else None
-    elements = [*draw_axes(axis, y_scale), curve(points),
-                error_lines(y_scale, points, means, errors), *dots(points),
-                *marks(points, None, winner_index)]
+    error_lines = (f"M{x} {y_scale.coordinate(mean - error)}V{y_scale.coordinate(mean + error)}"
+                   for (x, _), mean, error in zip(points, means, errors) if mean is not None)
+    elements = [*draw_axes(axis, y_scale), curve(points), path("".join(error_lines), "stroke"),
+                *dots(points), *marks(points, None, winner_index)]
     return svg(f"effect{number}", f"Mean tuned totals of the values of {name}", 182, elements)
 
 
-def error_lines(y_scale, points, means, errors):
-    """Returns a line from a standard error below each mean to one above it."""
-    return path("".join(f"M{x} {y_scale.coordinate(mean - error)}"
-                        f"V{y_scale.coordinate(mean + error)}"
-                        for (x, _), mean, error in zip(points, means, errors)
-                        if mean is not None), "stroke")
-
-
 def draw_effects(effects, winner_values, lists):
-    """Draws the effects of all constants to one scale, so that they can be compared. Returns a
-    picture for each. `lists` has those of constants that are indices, by name."""
+    """Draws the effects of all constants to one scale. Returns a picture for each."""
     means = [pair for effect in effects for pair in zip(effect["means"], effect["errors"])]
     ends = [mean + sign * error for mean, error in means if mean is not None for sign in (-1, 1)]
     y_scale = y_scale_of(ends, 140)

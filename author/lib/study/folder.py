@@ -87,8 +87,7 @@ class Mark:
 
 
 class StudyFolder(OwnFolder):
-    """A folder that `cwtune-study` made. `mark` is what its mark says, and `stage_commands` are the
-    commands of the stage that runs."""
+    """A folder of `cwtune-study`, its `mark`, and the `stage_commands` of the stage that runs."""
 
     COMMAND, MARK, SCHEMA, THROWN, INSTEAD = "cwtune-study", "study.json", Mark, "it", "--out"
 
@@ -130,8 +129,7 @@ class StudyFolder(OwnFolder):
         return mark
 
     def stage(self, name, run_stage, *files):
-        """Returns the result of a stage. If it is not done, or a file is missing, `run_stage` does
-        it and writes `files`."""
+        """Returns the result of a stage. If it or a file is missing, `run_stage` makes both."""
         digests = {file: self.digest(file) for file in files}
         if name not in self.mark.stages or None in digests.values():
             self.stage_commands = []
@@ -150,8 +148,7 @@ class StudyFolder(OwnFolder):
 
     @contextlib.contextmanager
     def reading(self, name):
-        """Gives a block what a file of JSON says, an object. If the block cannot use it, the fault
-        names the file."""
+        """Gives a block the object of a JSON file, and names that if it cannot be used."""
         try:
             yield self.load(name, dict)
         except (LookupError, TypeError, ValueError, ArithmeticError):
@@ -159,7 +156,6 @@ class StudyFolder(OwnFolder):
                         2) from None
 
     def commands(self):
-        """Returns the commands that ran, with their seconds and what they said."""
         return [command for stage in self.mark.stages.values() for command in stage["commands"]]
 
     def write_log(self):
@@ -171,8 +167,7 @@ class StudyFolder(OwnFolder):
             errors="surrogateescape"))
 
     def log_command(self, words, output_name, seconds, messages=()):
-        """Adds a command to the log. The default program is logged as `cwtune`, without --program.
-        `messages` are the lines that it wrote on standard error."""
+        """Adds a command to the log, with the default program as `cwtune`."""
         if self.program == DEFAULT:
             words = ["cwtune" if word == self.program else word for word in words
                      if word != f"--program={self.program}"]
@@ -182,14 +177,12 @@ class StudyFolder(OwnFolder):
                                     "said": list(messages)})
 
     def log_note(self, text, seconds):
-        """Adds to the log what no command does."""
         self.stage_commands.append({"command": f"# {text}", "seconds": round(seconds, 2),
                                     "said": []})
 
     def run(self, words, output_name, logs_messages=True):
         """Runs a command in the folder, with its output in a file there. Its fault is this
-        command's. With `logs_messages` the log gets what it says on standard error, too. Returns
-        these lines."""
+        command's. Returns the lines of standard error, for the log, if it `logs_messages`."""
         began_at = time.monotonic()
         argv = words
         if words[0].startswith("cwtune-"):

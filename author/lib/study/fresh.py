@@ -33,7 +33,6 @@ class Heat:
         return f"fresh/{player}-{self.number}"
 
     def prepare(self, player):
-        """Notes when the run of a player begins."""
         self.began_at[player] = time.monotonic()
 
     def words(self, player):
@@ -46,7 +45,6 @@ class Heat:
         return self.path / f"{self.name(player)}.{kind}"
 
     def play(self, players):
-        """Plays all fights. Returns the points of each player."""
         shown = "the winner and START" if START in players else f"{len(players)} settings"
         tell(f"fresh fights, heat {self.number}: {shown}, "
              f"{self.fights * len(self.study.opponents)} each")
@@ -63,23 +61,20 @@ class Heat:
         return {player: self.points(player) for player in players}
 
     def points(self, player):
-        """Returns the points of a player, which are in its certificate."""
         points = Certificate(self.file(player, "cert")).points(0)
         digits = "".join(str(points[index]) for index in range(len(points)))
         return [digits[first:first + self.fights] for first in range(0, len(digits), self.fights)]
 
 
 def seed_of(args, number):
-    """Returns the first position of a heat: another one than that of the schedule and of the other
-    heats, if there are enough positions. A series that begins at the least position never leaves
-    it."""
+    """Returns the first position of a heat, one of its own if there are enough. A series that
+    begins at the least position never leaves it."""
     rules = rules_of(args)
     low, high = rules.distance + 1, rules.core - rules.distance
     return low + (args.seed + number - low) % (high - low + 1) if low <= high else rules.distance
 
 
 def play_heat(study, number, players, fights):
-    """Plays a heat as a stage of the study. Returns the points of each player."""
     folder, schedule = study.folder, f"fresh/{number}.csv"
     new_players = players if number == 1 else [player for player in players if player == START]
 
@@ -101,8 +96,7 @@ def total_of(points, weights):
 
 
 def halve(study, settings):
-    """Plays heats until two settings are left. Returns how many heats, and the points of each
-    setting in all of them."""
+    """Plays heats until two are left. Returns how many, and the points of each setting."""
     players, points = [str(setting) for setting in settings], {}
     for number in itertools.count(1):
         for player, new_points in play_heat(study, number, players, study.args.fresh).items():
@@ -116,8 +110,7 @@ def halve(study, settings):
 
 
 def find_winner(study, settings):
-    """Returns the winner, the points of the fights that picked it by setting, and those of the last
-    heat by player."""
+    """Returns the winner, the points by setting that picked it, and those of the last heat."""
     heats, points = halve(study, settings)
     fights_of = {player: len(texts[0]) for player, texts in points.items()}
     most_fights = max(fights_of.values())

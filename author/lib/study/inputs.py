@@ -1,5 +1,5 @@
 """Reads the words and files of `cwtune-study`, and refuses those that make no study."""
-import argparse, hashlib, json, math, os, pathlib
+import argparse, hashlib, itertools, json, math, os, pathlib
 from typing import NamedTuple
 
 from .. import vary
@@ -40,13 +40,6 @@ def sha256_of_text(text):
     return hashlib.sha256(text).hexdigest()
 
 
-class OpponentWord(NamedTuple):
-    """A word that names opponents: their files, and how much the fights against each count."""
-
-    paths: list
-    weight: int
-
-
 def sort_words(parser, args):
     """Sorts the words of the command into the warrior, the opponents and the ranges."""
     words, args.ranges = [], []
@@ -61,7 +54,7 @@ def sort_words(parser, args):
     if not words:
         parser.error("WARRIOR is missing: a template, or a warrior with words PLACE=VALUES")
     args.warrior, opponents = words[0], [opponents_named(parser, word) for word in words[1:]]
-    args.opponents = [path for word in opponents for path in word.paths]
+    args.opponents = [path for paths, _ in opponents for path in paths]
     if not opponents:
         parser.error("OPPONENT is missing: files, or a folder with files *.red")
     if len(args.opponents) > MOST_OPPONENTS:
@@ -78,22 +71,21 @@ def is_range(word):
 
 
 def opponents_named(parser, word):
-    """Returns the opponents that a word names: a file, or of a folder all *.red by their names;
-    with `=N` after it, their fights count N times."""
+    """Returns the files of a word, itself or a folder's *.red, and the N of `=N` after it, or 1."""
     path, _, weight = word.rpartition("=")
     if os.path.exists(word) or not os.path.exists(path):
         path, weight = word, "1"
     if not (weight.isdecimal() and 1 <= int(weight) <= MOST_WEIGHT):
         parser.error(f"{word}: the weight of {path} is not 1 to {MOST_WEIGHT}")
-    return OpponentWord(paths_of(path), int(weight))
+    return paths_of(path), int(weight)
 
 
 def weights_of(parser, opponents, by_kind):
     """Returns the weight of each opponent. With `by_kind`, the opponents of a word together weigh
     as much as those of another word with the same `=N`."""
-    whole = math.lcm(*(len(word.paths) for word in opponents)) if by_kind else 1
-    weights = [word.weight * whole // (len(word.paths) if by_kind else 1)
-               for word in opponents for _ in word.paths]
+    whole = math.lcm(*(len(paths) for paths, _ in opponents)) if by_kind else 1
+    weights = [weight * whole // (len(paths) if by_kind else 1)
+               for paths, weight in opponents for _ in paths]
     weights = [weight // math.gcd(*weights) for weight in weights] if by_kind else weights
     if max(weights) > MOST_WEIGHT:
         parser.error(f"--by-kind gives a fight the weight {max(weights)}, more than {MOST_WEIGHT}")
@@ -101,7 +93,6 @@ def weights_of(parser, opponents, by_kind):
 
 
 def paths_of(word):
-    """Returns the files that a word names: itself, or of a folder all *.red by their names."""
     if not os.path.isdir(word):
         return [word]
     names = sorted(name for name in os.listdir(word) if name.endswith(".red"))
@@ -123,7 +114,6 @@ def settle_options(parser, args):
 
 
 def read_inputs(parser, args):
-    """Reads the files that the words name, and refuses those that make no study."""
     sort_words(parser, args)
     settle_options(parser, args)
     args.program = os.path.abspath(args.program)
@@ -145,10 +135,8 @@ def read_inputs(parser, args):
 
 
 def refuse_start(args, grid):
-    """Refuses a template whose START does not assemble.
-
-    For this each constant has its START alone, as `cwtune` takes at most a million settings.
-    """
+    """Refuses a template whose START does not assemble. START is alone in it here, as `cwtune`
+    takes at most a million settings."""
     with temporary_file(args.warrior, grid.line_through(grid.start_values, ())) as path:
         refuse_text(args, f"START of {args.warrior}", "--setting=start", "--",
                     os.path.basename(path), cwd=os.path.dirname(path))
@@ -178,8 +166,5 @@ def opponents_of(args):
 def free_name(name, taken):
     """Returns the name, or if it is taken the first of NAME-2, NAME-3 that is free."""
     root, end = os.path.splitext(name)
-    number = 1
-    while name in taken:
-        number += 1
-        name = f"{root}-{number}{end}"
-    return name
+    numbered = (f"{root}-{number}{end}" for number in itertools.count(2))
+    return next(one for one in itertools.chain([name], numbered) if one not in taken)

@@ -23,8 +23,7 @@ FIRST_DARK = 4
 
 
 class Landscape(NamedTuple):
-    """Totals over one or two constants: their names, their ranges, the totals, and the lists of
-    constants that are indices, by name."""
+    """Totals over one or two constants, and the lists of those that are indices, by name."""
 
     names: list
     ranges: list
@@ -40,7 +39,6 @@ class Landscape(NamedTuple):
         return (0, *indices)[-2:]
 
     def known_totals(self):
-        """Returns the totals of the settings that assemble."""
         return [total for row in self.totals for total in row if total is not None]
 
     def least_and_greatest(self):
@@ -48,7 +46,6 @@ class Landscape(NamedTuple):
         return min(totals), max(totals)
 
     def title(self, row, column):
-        """Returns the values and the total of a square in words."""
         upwards, across = self.shown_ranges()
         return (f"{self.names[0]} {upwards[row]}, {self.names[1]} {across[column]}: "
                 f"{self.totals[row][column]}")
@@ -59,28 +56,23 @@ class Landscape(NamedTuple):
                 for name, values in zip(self.names, self.ranges)]
 
     def count(self):
-        """Returns the number of settings."""
         return sum(map(len, self.totals))
 
 
 def read_landscape(landscape, lists):
-    """Reads the landscape of a report. Of one constant the totals are a list with one list there; a
-    plain list, and a list for each value, are taken too."""
+    """Reads the landscape of a report, whose totals of one constant may be lists or numbers."""
     names, ranges, totals = (landscape[key] for key in ("axes", "values", "totals"))
     if len(names) == 1:
-        totals = [[total for row in totals
-                   for total in (row if isinstance(row, list) else [row])]]
+        totals = [[total for row in totals for total in (row if isinstance(row, list) else [row])]]
     return Landscape(names, ranges, totals, lists)
 
 
 def greatest(totals):
-    """Returns the greatest of the totals that are not None, or None."""
     return max((total for total in totals if total is not None), default=None)
 
 
 def thinned(landscape, most=MOST_SQUARES):
-    """Returns how many values of each constant become one, so that there are at most `most`
-    squares, and the landscape of the greatest totals."""
+    """Returns how many values become one, for at most `most` squares, and the greatest totals."""
     step, totals = 1, landscape.totals
     while -(-len(totals) // step) * -(-len(totals[0]) // step) > most:
         step += 1
@@ -93,15 +85,13 @@ def thinned(landscape, most=MOST_SQUARES):
 
 
 def is_outside(values, winner_values, landscape):
-    """Returns whether a setting is not on the picture: a value is not in the box, or one that is
-    held at the winner's differs."""
+    """Returns whether a value is not in the box, or one that is held there not the winner's."""
     held = [name for name in winner_values if name not in landscape.names]
     return landscape.place(values) is None or any(
         values[name] != winner_values[name] for name in held)
 
 
 def shade_of(total, least, most):
-    """Returns the shade of a total, from 0 for the least total to 6 for the greatest."""
     if most == least:
         return SHADES // 2
     return min(SHADES - 1, int(SHADES * (total - least) / (most - least)))
@@ -122,7 +112,6 @@ class Squares(NamedTuple):
                 round(TOP + (self.rows - 1 - row) * self.height, 2))
 
     def bottom(self):
-        """Returns the y at which the map ends."""
         return round(TOP + self.rows * self.height, 2)
 
 
@@ -143,7 +132,6 @@ def draw_square(squares, place, total, shade, title):
 
 
 def draw_squares(landscape, squares, titled):
-    """Yields the squares of a map, each with its title if `titled`."""
     least, most = landscape.least_and_greatest()
     for row, totals in enumerate(landscape.totals):
         for column, total in enumerate(totals):
@@ -166,7 +154,6 @@ def draw_mark(squares, place, style):
 
 
 def draw_ticks(squares, landscape):
-    """Yields the values along both sides: as many as can be read."""
     upwards, across = landscape.shown_ranges()
     every = -(-squares.columns * 40 // max(1, round(squares.columns * squares.width)))
     for column in range(0, squares.columns, every):
@@ -181,7 +168,6 @@ def draw_ticks(squares, landscape):
 
 
 def legend(landscape, top, with_start):
-    """Yields what the shades and the marks mean."""
     least, most = map(integer, landscape.least_and_greatest())
     yield charts.label(0, top + 11, f"tuned total {least}")
     left = 76 + 7 * len(least)
@@ -198,7 +184,6 @@ def legend(landscape, top, with_start):
 
 
 def draw_map(landscape, start_place, winner_place, titled):
-    """Draws a map of two constants. A place may be None."""
     rows, columns = len(landscape.totals), len(landscape.totals[0])
     width = min(60, (charts.RIGHT - charts.LEFT) / columns)
     squares = Squares(rows, columns, width, min(width, 306 / rows))

@@ -69,11 +69,8 @@ def body_row(cells, styles, is_marked):
 
 
 def table(caption, heads, rows, texts=1, groups=(), marked=()):
-    """Returns a table in its box.
-
-    Heads and cells are pieces. The first `texts` columns are words, the others numbers; `marked`
-    are the indices of rows that are brought out.
-    """
+    """Returns a table in its box, of pieces. The first `texts` columns are words, the others
+    numbers; `marked` are the indices of rows that are brought out."""
     group_ends = list(itertools.accumulate(span for _, span in groups))
     styles = ["text" if column < texts else "first" if column in group_ends else "number"
               for column in range(len(heads))]
@@ -93,7 +90,6 @@ def folded(summary, piece):
 
 
 def page(title, pieces):
-    """Returns the page of a list of pieces."""
     return ('<!DOCTYPE html>\n<html lang="en">\n<head>\n<meta charset="utf-8">\n'
             '<meta name="viewport" content="width=device-width, initial-scale=1">\n'
             f"<title>{escaped(title)}</title>\n<style>{STYLE}</style>\n</head>\n<body>\n<main>\n"

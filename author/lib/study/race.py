@@ -33,7 +33,6 @@ class RaceOfStudy:
         self.study, self.grid, self.args, self.folder = study, grid, study.args, study.folder
 
     def go(self):
-        """Goes through the stages. Returns what they found, by their names."""
         stage = self.folder.stage
         race = stage("race", self.race)
         results = {"race": race, "box": None, "challenge": None, "winner": race["winner"],
@@ -50,8 +49,7 @@ class RaceOfStudy:
 
     @contextlib.contextmanager
     def arena(self, name, *spent):
-        """Gives a block the arena, which has what was played by the file `name`. `spent` are the
-        results of the stages before."""
+        """Gives a block the arena, which goes on with the file `name` after stages `spent`."""
         paths = [str(self.folder.path / path) for path in self.study.opponents]
         with (temporary_folder() as folder, self.folder.open_to_append(name) as file,
               Arena(self.args, budget_of(self.args), self.grid, paths, self.args.weights,
@@ -63,8 +61,7 @@ class RaceOfStudy:
             yield arena
 
     def race(self):
-        """Races. Returns the winner, its `rise` and `points` as in an `Outcome`, the final, and
-        what the race used of the budget."""
+        """Races. Returns the `Outcome`, with how much of the budget was used."""
         share = RACED if self.rounds(budget_of(self.args).fights) else 1
         with self.arena("race.jsonl") as arena:
             race = Race(self.grid, arena, self.args.seed, share)
@@ -89,8 +86,7 @@ class RaceOfStudy:
         return math.prod(min(2 * reach + 1, len(values)) for values in self.grid.ranges)
 
     def rounds(self, fights):
-        """Returns how many fights the box plays against each opponent after a race of `fights`; 0
-        if there is room for too few. None is no limit."""
+        """Returns the box's fights against each opponent after a race; 0 if they are too few."""
         if self.args.certify or fights is None:
             return self.args.rounds
         plays = self.most_settings(self.reach()) * len(self.study.opponents)
@@ -98,8 +94,7 @@ class RaceOfStudy:
         return min(self.args.rounds, rounds) if rounds >= LEAST_ROUNDS else 0
 
     def tune_box(self, race):
-        """Tunes the box around the race's winner, in fights that the race did not play. Returns
-        its settings, and what that used of the budget; `check` is what the check said, if any."""
+        """Tunes the box around the winner, in new fights. Returns what that used of the budget."""
         folder, began_at, winner = self.folder, time.monotonic(), race["winner"]
         ranges, rounds = self.grid.box(winner, self.reach()), self.rounds(race["fights"])
         settings = math.prod(map(len, ranges))
@@ -119,9 +114,8 @@ class RaceOfStudy:
                 "check": tuned["check"] if self.args.certify else None}
 
     def challenge(self, race, box):
-        """Has the first of the box play against the race's winner. Returns the best of the box;
-        its points and the winner's in fights that did not pick it; and, if these show that it is
-        better, its points and START's in further fights."""
+        """Has the first of the box play against the winner. Returns the best; the points of both in
+        other fights; and, if it is better, its and START's in further ones."""
         winner, box_of = tuple(race["winner"]), Template(self.folder.path / "box.red")
         first = [box_of.values_of_settings[setting] for setting in self.study.first_settings()]
         others = [values for values in first if values != winner]

@@ -21,7 +21,6 @@ ERROR_NOTE = "± is one standard error."
 
 
 def html_of(report):
-    """Returns the page of a report, a string that UTF-8 can hold."""
     return page(f"{report['title']}: a study by cwtune", [
         *opening(report),
         *section("What is proved, and what is measured", "<ul>", *(
@@ -44,7 +43,6 @@ def paragraph(piece, style=""):
 
 
 def opening(report):
-    """Returns the title, and what was gained, in a sentence."""
     start, winner, gain = report["start"], report["winner"], report["gain"]
     title = f"<h1>{escaped(report['title'])}</h1>"
     if gain is None:
@@ -63,7 +61,6 @@ def opening(report):
 
 
 def tuned_items(report):
-    """Yields what is proved of a template that was tuned whole, and what is not."""
     left_out = f"{integer(report['refused'])} of them do not assemble; each other one"
     yield (f"<strong>Proved:</strong> the ranking of all {integer(report['settings'])} settings: "
            f"{left_out if report['refused'] else 'each'} played all "
@@ -75,7 +72,6 @@ def tuned_items(report):
 
 
 def raced_items(report):
-    """Yields what is proved after a race, and what is measured."""
     race, box, gain = report["race"], report["box"], report["gain"]
     yield (f"<strong>Measured:</strong> the winner. {integer(race['settings'])} of the template's "
            f"{integer(report['settings'])} settings raced, in {integer(race['fights'])} fights. A "
@@ -94,28 +90,16 @@ def raced_items(report):
                f"{decimal(race['rise'] - gain['percent'])} of these were luck.")
 
 
-def tuned_rows(sides, greatest):
-    """Returns the totals of both sides, and the same as a percent of the greatest total."""
-    totals = [side["tuned"] for side in sides]
-    percents = [DASH if total is None else f"{decimal(100 * total / greatest)}%"
-                for total in totals]
-    return [[f"tuned total, of {integer(greatest)}", *map(integer, totals)],
-            ["tuned percent", *percents]]
-
-
 def lists_of(report):
-    """Returns the lists of constants that are indices of a list in the author's text, by name, with
-    `-` for what is not written."""
+    """Returns the lists of constants that are indices of one, with `-` for what is not written."""
     return {constant["name"]: [text or "-" for text in constant["list"]]
             for constant in report["constants"] if constant.get("list")}
 
 
 def shown_values(report, values):
-    """Returns the values of a setting by the names of the constants. Of one that is an index of a
-    list it has what is in the list there."""
+    """Returns the values of a setting by names, and of an index what is in its list."""
     lists = lists_of(report)
-    return {name: lists[name][value] if name in lists else value
-            for name, value in values.items()}
+    return {name: lists[name][value] if name in lists else value for name, value in values.items()}
 
 
 def value_cells(report, values):
@@ -123,13 +107,16 @@ def value_cells(report, values):
 
 
 def comparison(report):
-    """Returns START beside the winner."""
     start, winner = sides = report["start"], report["winner"]
     rows = list(map(list, zip(map(escaped, winner["values"]),
                               *(value_cells(report, side["values"]) for side in sides))))
     notes = []
     if not report["race"]:
-        rows += tuned_rows(sides, report["schedule"]["greatest"])
+        greatest, totals = report["schedule"]["greatest"], [side["tuned"] for side in sides]
+        percents = [DASH if total is None else f"{decimal(100 * total / greatest)}%"
+                    for total in totals]
+        rows += [[f"tuned total, of {integer(greatest)}", *map(integer, totals)],
+                 ["tuned percent", *percents]]
         notes = [paragraph(f"The winner is setting {escaped(winner['setting'])}, of rank "
                            f"{escaped(winner['rank'])} in the tuning.", "soft")]
     if report["gain"]:
@@ -141,7 +128,6 @@ def comparison(report):
 
 
 def opponent_row(gain, sides):
-    """Returns the gain against an opponent, and the fresh fights of both, as cells."""
     lost = " (lost)" if gain["words"] == "a loss" else ""
     signed = ("+" if gain["percent"] >= 0 else "") + with_error(gain["percent"], gain["error"])
     percents = (f"{decimal(side['percent'])}%" for side in sides)
@@ -150,7 +136,6 @@ def opponent_row(gain, sides):
 
 
 def opponents(report):
-    """Returns the fresh fights against each opponent, the greatest gain first."""
     if not report["gain"]:
         return []
     start, winner = (report[side]["fresh"]["opponents"] for side in ("start", "winner"))
@@ -169,7 +154,6 @@ def opponents(report):
 
 
 def landscape(report):
-    """Returns the totals of the box, and what each constant does to them."""
     box = maps.read_landscape(report["landscape"], lists_of(report))
     start_values, winner_values = (report[side]["values"] for side in ("start", "winner"))
     is_small = box.count() <= MOST_CELLS
@@ -196,12 +180,10 @@ def landscape(report):
 
 
 def values_text(values):
-    """Returns names with their values, as constants or rules have them."""
     return ", ".join(f"{escaped(name)} {escaped(value)}" for name, value in values.items())
 
 
 def totals_table(box, is_small):
-    """Returns the totals of a box as a table, if it can be read."""
     if not is_small:
         return paragraph("The totals are in <code>report.json</code>.", "soft")
     names, ranges, totals = box.names, box.shown_ranges(), box.totals
@@ -239,7 +221,6 @@ def effects(report):
 
 
 def ranking_row(report, ranked, is_winner):
-    """Returns a setting of the ranking, as cells."""
     fresh = ranked["fresh"]
     return [escaped(ranked["rank"]) + (f" {WINNER}" if is_winner else ""),
             escaped(ranked["setting"]), *value_cells(report, ranked["values"]),
@@ -261,7 +242,6 @@ def ranking(report):
 
 
 def finalists(report):
-    """Returns the final of the race."""
     names, found = list(report["winner"]["values"]), report["race"]["finalists"]
     marked = [index for index, one in enumerate(found)
               if one["values"] == report["winner"]["values"]]
@@ -296,7 +276,6 @@ def constant_row(constant, texts):
 
 
 def facts(report):
-    """Returns what the study was made of, in words."""
     race, box = report["race"], report["box"]
     if race:
         fights = [f"{integer(race['fights'])} in the race"]
@@ -316,7 +295,6 @@ def facts(report):
 
 
 def digests(caption, files):
-    """Returns a table of files. Their digests are a size and a SHA-256."""
     rows = []
     for file in files:
         size, _, sha256 = str(file["digest"]).rpartition(" ")
@@ -325,13 +303,11 @@ def digests(caption, files):
 
 
 def commands(lines):
-    """Returns the commands, folded if they are many."""
     piece = source("Commands", "\n".join(lines))
     return folded(f"The {len(lines)} commands", piece) if len(lines) > MOST_COMMANDS else piece
 
 
 def making(report):
-    """Returns how the study was made, so that it can be made again."""
     heads = ["constant", "lowest", "highest", "step", "START", "winner", "values in the box"]
     rows = [constant_row(constant, lists_of(report).get(constant["name"]))
             for constant in report["constants"]]

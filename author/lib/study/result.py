@@ -19,17 +19,16 @@ class Box:
         self.cert = Certificate(folder / "best.cert")
         self.fights = read_schedule(folder / "schedule.csv")
         self.ranking = self.cert.ranked(self.fights)
+        self.schedule = {"fights": len(self.fights), "greatest": self.fights.greatest}
         # By setting, NaN for one that does not assemble.
         self.totals = landscape.Totals(self.template, self.cert, self.fights).totals
 
     def refused(self):
-        """Returns how many of the settings do not assemble."""
         return sum(not self.cert.assembles(setting) for setting in range(self.cert.count))
 
     def landscape(self, winner):
-        """Returns the totals over the first two constants, with the others as the winner has them:
-        for each value of the first a list of those of the second. Of one constant they are a list
-        with one list."""
+        """Returns the totals over the first two constants, the others held as the winner's: a list
+        for each value of the first. Of one constant they are a list with one list."""
         template = self.template
         held = template.values_of_settings[winner][2:]
         totals = [None if math.isnan(total) else total
@@ -41,7 +40,6 @@ class Box:
                 "totals": [totals[first:first + width] for first in range(0, len(totals), width)]}
 
     def effects(self):
-        """Returns the mean total of each value of each constant, with its standard error."""
         effects = []
         for constant, name in enumerate(self.template.names):
             values, means, errors = landscape.effect_of(self.template, self.totals, constant)
@@ -62,8 +60,7 @@ def fresh_fights(points, study):
 
 
 def gain(points, study):
-    """Returns the gain over START as the report has it, whole and by opponent. `points` are those
-    of the winner and of START; without them there is no gain."""
+    """Returns the gain over START, whole and by opponent, or None without points of both."""
     difference = points and gain_of(points, study.args.weights)
     if not difference:
         return None
@@ -89,8 +86,7 @@ def constants_of(grid, winner_values, box):
 
 
 def common_numbers(study, grid, box, winner_values, points):
-    """Returns what each report has. `points` are those of the winner and of START in the fights
-    that picked nothing, or None."""
+    """Returns what each report has. `points`: the winner's and START's that picked nothing."""
     folder, args = study.folder, study.args
     version = run_program(args.program, "--version").stdout.decode(errors="replace").strip()
     winner_points, start_points = points or (None, None)
@@ -112,18 +108,12 @@ def common_numbers(study, grid, box, winner_values, points):
 
 
 def ranking_of(box, points, study):
-    """Returns the first of the ranking, each with its fresh fights."""
     return [{"rank": rank, "setting": setting, "values": box.template.values_by_name(setting),
              "tuned": total, "fresh": fresh_fights(points[str(setting)], study)}
             for rank, (total, setting) in enumerate(box.ranking.full[:len(points)], 1)]
 
 
-def schedule_numbers(box):
-    return {"fights": len(box.fights), "greatest": box.fights.greatest}
-
-
 def tuned_numbers(study, results):
-    """Returns the report of a template that was tuned whole."""
     folder, winner = study.folder.path, int(results["winner"])
     grid, box, last_points = Grid(folder / "template.red"), Box(folder), results["last_points"]
     report = common_numbers(study, grid, box, box.template.values_by_name(winner),
@@ -135,19 +125,18 @@ def tuned_numbers(study, results):
     report["start"]["tuned"] = box.cert.total_of(start, box.fights)
     return report | {
         "race": None, "box": None, "refused": box.refused(), "ranking": ranking,
-        "schedule": schedule_numbers(box),
-        "landscape": box.landscape(winner), "effects": box.effects(), **results["tuning"]}
+        "schedule": box.schedule, "landscape": box.landscape(winner), "effects": box.effects(),
+        **results["tuning"]}
 
 
 def raced_numbers(study, results):
-    """Returns the report of a template in which settings raced."""
     folder, race = study.folder.path, results["race"]
     grid = Grid(folder / "template.red")
     box, found, challenge = results["box"], None, results["challenge"]
     if box:
         found = Box(folder)
         box = {**box, "refused": found.refused(), "first": found.ranking.exact,
-               "replaces": bool(challenge["points"]), "schedule": schedule_numbers(found)}
+               "replaces": bool(challenge["points"]), "schedule": found.schedule}
     winner_values = dict(zip(grid.names, results["winner"]))
     report = common_numbers(study, grid, found, winner_values, results["points"])
     finalists = [{**one, "values": dict(zip(grid.names, one["values"]))}
