@@ -31,6 +31,8 @@ REPORT = "vectors {}\ncandidates {}\nbest {}\nconstants {}\ntotal {}\nfights {}\
 # The exit status of a run that writes a line with such a first word.
 STATUSES = {"refused": 1, "rejected": 1, "error": 2, "failed": 3}
 SECONDS = 120
+# How often names are put in: their texts may have names, too.
+DEEPEST = 3
 PROGRESS_AT_TERMINAL = rb"\r\x1b\[\?7l[^\r\n]*\x1b\[K\x1b\[\?7h|\r\x1b\[K"
 PROGRESS = rb"(?m)^\d+% .*\n"
 
@@ -75,8 +77,8 @@ def valued(case):
 
 
 def fill(text, names):
-    """Puts in what names stand for, which may have names in turn, up to three deep."""
-    for _ in range(3):
+    """Puts in what names stand for, which may have names in turn."""
+    for _ in range(DEEPEST):
         text = string.Template(text).safe_substitute(names)
     return text
 
@@ -90,8 +92,10 @@ def words_of(case):
     """Returns the words of a case, parted."""
     if "words" not in case:
         raise Fault(f"{case['name']}: `words` is missing")
+    text, names = case["words"], case["shared_words"] | case["fill"]
     try:
-        text = string.Template(case["words"]).substitute(case["shared_words"] | case["fill"])
+        for _ in range(DEEPEST):
+            text = string.Template(text).substitute(names)
         return shlex.split(text)
     except KeyError as error:
         raise Fault(f"{case['name']}: no words for `${error.args[0]}`") from None
