@@ -11,7 +11,7 @@ from author.lib.words import program_word
 
 from .lib import cert_inputs, inputs
 from .lib.inputs import RULES
-from .lib.play import Place, end
+from .lib.play import Place, end, report
 from .lib.tally import compare, tally
 
 FILES = inputs.files("dat.red", "imp.red", "both.csv", "imps.red", "step.red", "tail.red",
@@ -25,7 +25,7 @@ OTHERS = [
     ["tune", "--core=400", "--distance", "50", "--length=50", "imps.red", "wide.csv", "CERT",
      "dat.red"],
 ]
-REPORT = "vectors 4\ncandidates 4\nbest 0\nconstants K=0\ntotal 4 of 6\nfights 2 of 8\n"
+REPORT = report(4, 4, 0, "K=0", "4 of 6", "2 of 8")
 OLD = "cwtune inputs 1\nof an older certificate\n"
 HOLDS = ("  a certificate holds only for its own template, schedule, opponents in order, rules and "
          "part\n")

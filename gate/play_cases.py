@@ -10,7 +10,7 @@ from author.lib.words import add_built, module_parser
 from author.lib.writing import naming
 
 from .lib import inputs
-from .lib.play import Place, end
+from .lib.play import Place, end, report
 from .lib.running import side_by_side
 from .lib.tally import tally
 
@@ -27,7 +27,6 @@ OPTIONAL = {
 MERGED = {**OPTIONAL, **NEEDED, "runs": None, "each": None}
 LONG = {"head": str, "text": str, "times": int, "tail": str}
 SHARED = {"files": dict, "folders": list, "words": dict, "usual": str, "case": list}
-REPORT = "vectors {}\ncandidates {}\nbest {}\nconstants {}\ntotal {}\nfights {}\n"
 # The exit status of a run that writes a line with such a first word.
 STATUSES = {"refused": 1, "rejected": 1, "error": 2, "failed": 3}
 SECONDS = 120
@@ -117,7 +116,7 @@ def filled(case):
     if "report" in case:
         if "out" in case or len(case["report"]) != 6:
             raise Fault(f"{case['name']}: `report` has six values, in place of `out`")
-        case = case | {"out": REPORT.format(*case["report"])}
+        case = case | {"out": report(*case["report"])}
     made = {key: fill(case[key], names) for key in FILLED if key in case}
     case = case | made | {"files": files, "words": words}
     return case | {"status": status_of(case)}

@@ -28,6 +28,12 @@ def end(status, out="", err="", files=None, **more):
     return End(status, as_bytes(out), as_bytes(err), files)
 
 
+def report(*values):
+    """Returns the report of a tuning, with these values in its lines."""
+    names = ["vectors", "candidates", "best", "constants", "total", "fights"]
+    return "".join(f"{name} {value}\n" for name, value in zip(names, values, strict=True))
+
+
 def as_bytes(text):
     return text.encode() if isinstance(text, str) else text
 
