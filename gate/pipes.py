@@ -67,16 +67,10 @@ def without(place, number, words):
     return place.run(words, preexec_fn=lambda: os.close(number))
 
 
-def broken_pipe():
-    """Returns the end for writing of a pipe that nobody reads."""
-    reader, writer = os.pipe()
-    os.close(reader)
-    return writer
-
-
 def to_broken_pipe(place, words, *names):
     """Runs with standard streams that nobody reads."""
-    writer = broken_pipe()
+    reader, writer = os.pipe()
+    os.close(reader)
     try:
         return from_file(place, "imps.fight", words, **dict.fromkeys(names, writer))
     finally:

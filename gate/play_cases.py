@@ -10,7 +10,7 @@ from author.lib.words import add_built, module_parser
 from author.lib.writing import naming
 
 from .lib import inputs
-from .lib.play import Place, end, report
+from .lib.play import Place, end, report, status_of
 from .lib.running import side_by_side
 from .lib.tally import tally
 
@@ -27,8 +27,6 @@ OPTIONAL = {
 MERGED = {**OPTIONAL, **NEEDED, "runs": None, "each": None}
 LONG = {"head": str, "text": str, "times": int, "tail": str}
 SHARED = {"files": dict, "folders": list, "words": dict, "usual": str, "case": list}
-# The exit status of a run that writes a line with such a first word.
-STATUSES = {"refused": 1, "rejected": 1, "error": 2, "failed": 3}
 SECONDS = 120
 # How often names are put in: their texts may have names, too.
 DEEPEST = 3
@@ -118,15 +116,8 @@ def filled(case):
             raise Fault(f"{case['name']}: `report` has six values, in place of `out`")
         case = case | {"out": report(*case["report"])}
     made = {key: fill(case[key], names) for key in FILLED if key in case}
-    case = case | made | {"files": files, "words": words}
-    return case | {"status": status_of(case)}
-
-
-def status_of(case):
-    """Returns the exit status of a case, which its verdict or its fault says."""
-    texts = "\n".join(case.get(key, "") for key in ("out", "err", "err_begins"))
-    said = re.search(rf"(?m)^({'|'.join(STATUSES)})\b", texts)
-    return case.get("status", STATUSES[said[1]] if said else 0)
+    said = status_of("\n".join(made.get(key, "") for key in ("out", "err", "err_begins")))
+    return {"status": said} | case | made | {"files": files, "words": words}
 
 
 def ways(case):
