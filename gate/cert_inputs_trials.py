@@ -11,7 +11,7 @@ from author.lib.words import program_word
 
 from .lib import cert_inputs, inputs
 from .lib.inputs import RULES
-from .lib.play import Place, end
+from .lib.play import Place, end, report
 from .lib.tally import compare, tally
 
 FILES = inputs.files("dat.red", "imp.red", "both.csv", "imps.red", "step.red", "tail.red",
@@ -25,7 +25,7 @@ OTHERS = [
     ["tune", "--core=400", "--distance", "50", "--length=50", "imps.red", "wide.csv", "CERT",
      "dat.red"],
 ]
-REPORT = "vectors 4\ncandidates 4\nbest 0\nconstants K=0\ntotal 4 of 6\nfights 2 of 8\n"
+REPORT = report(4, 4, 0, "K=0", "4 of 6", "2 of 8")
 OLD = "cwtune inputs 1\nof an older certificate\n"
 HOLDS = ("  a certificate holds only for its own template, schedule, opponents in order, rules and "
          "part\n")
@@ -40,14 +40,17 @@ class Trial(Place):
     def __init__(self, program, folder, version):
         wide = {"wide.csv": "opponent,position,first\n0,100,c\n"}
         super().__init__(program, folder, FILES | wide)
-        self.version = version
+        self.version, self.path = version, self.folder / "CERT.inputs"
 
     def inputs(self, words):
         """Runs a tuning. Returns CERT.inputs, and what it has to be."""
         self.run(words, keep=True)
         came = self.read("CERT.inputs")
-        wanted = cert_inputs.text_of(words, self.folder, self.version)
-        return came, wanted
+        return came, cert_inputs.text_of(words, self.folder, self.version)
+
+    def at_terminal(self, words):
+        """Returns what a terminal shows at the end of a run, progress aside."""
+        return self.run(words, terminal=True).err.decode().rpartition("\x1b[K")[2]
 
 
 def texts(place):
@@ -62,16 +65,16 @@ def replaced(place):
         place.write("CERT.inputs", old)
         came, wanted = place.inputs(TUNE)
         yield compare(f"{name} is replaced", wanted, came)
-    (place.folder / "CERT.inputs").chmod(0o640)
+    place.path.chmod(0o640)
     place.inputs(TUNE)
-    mode = (place.folder / "CERT.inputs").stat().st_mode & 0o777
+    mode = place.path.stat().st_mode & 0o777
     yield compare("permissions stay", 0o640, mode)
     place.write("elsewhere", OLD)
-    (place.folder / "CERT.inputs").unlink()
-    (place.folder / "CERT.inputs").symlink_to("elsewhere")
+    place.path.unlink()
+    place.path.symlink_to("elsewhere")
     came, wanted = place.inputs(TUNE)
     yield compare("a link is followed", (wanted, wanted), (came, place.read("elsewhere")))
-    (place.folder / "CERT.inputs").unlink()
+    place.path.unlink()
 
 
 def kept(place):
@@ -87,13 +90,13 @@ def kept(place):
     words = [*TUNE[:-2], "/dev/null", *TUNE[-2:]]
     words.remove("CERT")
     yield compare("a device has none", end(0, REPORT), place.run(words))
-    (place.folder / "CERT.inputs").unlink()
-    (place.folder / "CERT.inputs").mkdir()
+    place.path.unlink()
+    place.path.mkdir()
     yield compare("a folder stays", good, place.run(TUNE))
-    (place.folder / "CERT.inputs").rmdir()
+    place.path.rmdir()
     os.link(place.folder / "imp.red", place.folder / "CERT.inputs")
     yield compare("a file of the tuning stays", end(2, err=NAMED), place.run(TUNE))
-    (place.folder / "CERT.inputs").unlink()
+    place.path.unlink()
 
 
 def unwritable(place):
@@ -108,7 +111,7 @@ def unwritable(place):
 
 def checks(place):
     """Checks with other inputs, at a terminal."""
-    (place.folder / "CERT.inputs").unlink(missing_ok=True)
+    place.path.unlink(missing_ok=True)
     place.run(TUNE, keep=True)
     other = ["check", *RULES, "imps.red", "both.csv", "CERT", "imp.red", "dat.red"]
     for name, words, lines in [
@@ -123,8 +126,7 @@ def checks(place):
         ("another part", ["check", "--part=2/2", *TUNE[1:]],
          "  part 2/2, and the tuning had part 1/1\n"),
     ]:
-        came = place.run(words, terminal=True)
-        yield compare(f"{name} at a terminal", HOLDS + lines, shown(came.err))
+        yield compare(f"{name} at a terminal", HOLDS + lines, place.at_terminal(words))
         yield compare(f"{name} in a pipe", b"", place.run(words).err)
 
 
@@ -135,26 +137,20 @@ def rejections(place):
     text, said = place.read("CERT"), place.read("CERT.inputs")
     wrong = text.replace(b"0:3", b"0:1")
     place.write("CERT", wrong)
-    came = place.run(["check", *TUNE[1:]], terminal=True)
+    check = ["check", *TUNE[1:]]
     yield compare("a changed certificate", unknown.format("is of another certificate"),
-                  shown(came.err))
+                  place.at_terminal(check))
     digests = [cert_inputs.digest_of(it).encode() for it in (text, wrong)]
     place.write("CERT.inputs", said.replace(*digests))
-    came = place.run(["check", *TUNE[1:]], terminal=True)
-    yield compare("a wrong certificate with its digest", HOLDS + SAME.format(""), shown(came.err))
-    (place.folder / "CERT.inputs").unlink()
-    came = place.run(["check", *TUNE[1:]], terminal=True)
-    yield compare("without CERT.inputs", unknown.format("cannot be read"), shown(came.err))
+    yield compare("a wrong certificate with its digest", HOLDS + SAME.format(""),
+                  place.at_terminal(check))
+    place.path.unlink()
+    yield compare("without CERT.inputs", unknown.format("cannot be read"), place.at_terminal(check))
     tail = [*RULES, "tail.red", *TUNE[-4:]]
     place.run(["tune", *tail], keep=True)
-    came = place.run(["check", "--keep=3", *tail], terminal=True)
     yield compare("a ranking that the tuning did not find",
-                  HOLDS + SAME.format("its --keep or --floor was another, or "), shown(came.err))
-
-
-def shown(err):
-    """Returns what a terminal shows, progress aside."""
-    return err.decode().rpartition("\x1b[K")[2]
+                  HOLDS + SAME.format("its --keep or --floor was another, or "),
+                  place.at_terminal(["check", "--keep=3", *tail]))
 
 
 def main():

@@ -18,6 +18,7 @@ from typing import NamedTuple
 from author.lib.endings import run_tool
 from author.lib.words import program_word
 
+from .lib.play import status_of
 from .lib.tally import tally
 
 ROOT = pathlib.Path(__file__).resolve().parent.parent
@@ -29,7 +30,8 @@ BLOCK = re.compile(r"(?:^    .*\n)+|^```.*\n(?:.*\n)*?```\n", re.M)
 SAVED = re.compile(r"Save\s+this\s+as\s+`([^`]+)`")
 # A paragraph, which may be missing, and a table.
 TABLE = re.compile(r"((?:^[^|\n].*\n)*)\n((?:^\|.*\n)+)", re.M)
-STATUSES = {"refused": 1, "rejected": 1, "error": 2, "failed": 3}
+# The lines that a merge with conflicts leaves.
+UNSETTLED = re.compile(r"^(?:<{7}|={7}|>{7})(?: .*)?$", re.M)
 END = "end of a command"
 SECONDS = 600
 
@@ -41,10 +43,6 @@ class Run(NamedTuple):
     command: str
     printed: str
     files: dict = {}
-
-    def status(self):
-        words = re.findall(rf"(?m)^({'|'.join(STATUSES)})[: ]", self.printed)
-        return STATUSES[words[-1]] if words else 0
 
 
 def text_of(block):
@@ -162,20 +160,15 @@ def played(program, document, folder):
     write_files(folder, [saved, *(run.files for run in runs)])
     came = typed(program, runs, folder)
     for run, (out, status) in zip(runs, came):
-        right = is_printed(run.printed, out) and int(status) == run.status()
+        right = is_printed(run.printed, out) and int(status) == status_of(run.printed)
         yield f"{document.name}: {run.name}", [] if right else [f"came {out!r}, status {status}"]
     if len(came) < len(runs):
         yield f"{document.name}: {runs[len(came)].name}", ["ended the shell, or did not end"]
 
 
-def left_by_merge(text):
-    """Returns the lines that a merge with conflicts leaves where nobody has settled it."""
-    return re.findall(r"(?m)^(?:<{7}|={7}|>{7})(?: .*)?$", text)
-
-
 def trials(program):
     for document in DOCUMENTS:
-        yield f"{document.name}: no unsettled merge", left_by_merge(document.read_text("utf-8"))
+        yield f"{document.name}: no unsettled merge", UNSETTLED.findall(document.read_text("utf-8"))
     with tempfile.TemporaryDirectory() as name:
         folder = pathlib.Path(name)
         shutil.copytree(ROOT / "examples", folder / "examples")

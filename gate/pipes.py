@@ -14,7 +14,7 @@ from author.lib.words import program_word
 
 from .lib import inputs
 from .lib.inputs import RULES
-from .lib.play import SECONDS, Place, end, ended
+from .lib.play import SECONDS, Place, end, ended, report
 from .lib.tally import compare, tally
 
 FILES = {
@@ -44,7 +44,7 @@ NO_MEMORY = end(3, err="failed: OutOfMemory\n")
 NO_TEXT = end(1, err="refused: FightText line 1\n")
 TIE = end(0, "tie 1 turns 40\n")
 IMP = end(0, "ORG 0\nMOV.I $0, $1\n")
-REPORT = "vectors 1\ncandidates 1\nbest 0\nconstants -\ntotal 4 of 6\nfights 2 of 2\n"
+REPORT = report(1, 1, 0, "-", "4 of 6", "2 of 2")
 TUNED = end(0, REPORT, CERT=CERT)
 
 
@@ -67,16 +67,10 @@ def without(place, number, words):
     return place.run(words, preexec_fn=lambda: os.close(number))
 
 
-def broken_pipe():
-    """Returns the end for writing of a pipe that nobody reads."""
-    reader, writer = os.pipe()
-    os.close(reader)
-    return writer
-
-
 def to_broken_pipe(place, words, *names):
     """Runs with standard streams that nobody reads."""
-    writer = broken_pipe()
+    reader, writer = os.pipe()
+    os.close(reader)
     try:
         return from_file(place, "imps.fight", words, **dict.fromkeys(names, writer))
     finally:

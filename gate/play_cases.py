@@ -10,7 +10,7 @@ from author.lib.words import add_built, module_parser
 from author.lib.writing import naming
 
 from .lib import inputs
-from .lib.play import Place, end
+from .lib.play import Place, end, report, status_of
 from .lib.running import side_by_side
 from .lib.tally import tally
 
@@ -27,10 +27,9 @@ OPTIONAL = {
 MERGED = {**OPTIONAL, **NEEDED, "runs": None, "each": None}
 LONG = {"head": str, "text": str, "times": int, "tail": str}
 SHARED = {"files": dict, "folders": list, "words": dict, "usual": str, "case": list}
-REPORT = "vectors {}\ncandidates {}\nbest {}\nconstants {}\ntotal {}\nfights {}\n"
-# The exit status of a run that writes a line with such a first word.
-STATUSES = {"refused": 1, "rejected": 1, "error": 2, "failed": 3}
 SECONDS = 120
+# How often names are put in: their texts may have names, too.
+DEEPEST = 3
 PROGRESS_AT_TERMINAL = rb"\r\x1b\[\?7l[^\r\n]*\x1b\[K\x1b\[\?7h|\r\x1b\[K"
 PROGRESS = rb"(?m)^\d+% .*\n"
 
@@ -75,8 +74,8 @@ def valued(case):
 
 
 def fill(text, names):
-    """Puts in what names stand for, which may have names in turn, up to three deep."""
-    for _ in range(3):
+    """Puts in what names stand for, which may have names in turn."""
+    for _ in range(DEEPEST):
         text = string.Template(text).safe_substitute(names)
     return text
 
@@ -90,8 +89,10 @@ def words_of(case):
     """Returns the words of a case, parted."""
     if "words" not in case:
         raise Fault(f"{case['name']}: `words` is missing")
+    text, names = case["words"], case["shared_words"] | case["fill"]
     try:
-        text = string.Template(case["words"]).substitute(case["shared_words"] | case["fill"])
+        for _ in range(DEEPEST):
+            text = string.Template(text).substitute(names)
         return shlex.split(text)
     except KeyError as error:
         raise Fault(f"{case['name']}: no words for `${error.args[0]}`") from None
@@ -113,17 +114,10 @@ def filled(case):
     if "report" in case:
         if "out" in case or len(case["report"]) != 6:
             raise Fault(f"{case['name']}: `report` has six values, in place of `out`")
-        case = case | {"out": REPORT.format(*case["report"])}
+        case = case | {"out": report(*case["report"])}
     made = {key: fill(case[key], names) for key in FILLED if key in case}
-    case = case | made | {"files": files, "words": words}
-    return case | {"status": status_of(case)}
-
-
-def status_of(case):
-    """Returns the exit status of a case, which its verdict or its fault says."""
-    texts = "\n".join(case.get(key, "") for key in ("out", "err", "err_begins"))
-    said = re.search(rf"(?m)^({'|'.join(STATUSES)})\b", texts)
-    return case.get("status", STATUSES[said[1]] if said else 0)
+    said = status_of("\n".join(made.get(key, "") for key in ("out", "err", "err_begins")))
+    return {"status": said} | case | made | {"files": files, "words": words}
 
 
 def ways(case):

@@ -88,9 +88,9 @@ class Trial:
         place.write("s.csv", drawn_schedule(self.dice))
         self.seen, self.warriors, self.table = set(), drawn.warriors(), None
 
-    def run(self, command, *options, cert="CERT"):
+    def run(self, command, *options):
         """Returns the status of the program, and what it prints."""
-        job = self.place.start([command, *RULES, *options, "t.red", "s.csv", cert, *OPPONENTS])
+        job = self.place.start([command, *RULES, *options, "t.red", "s.csv", "CERT", *OPPONENTS])
         out, err = job.communicate()
         return job.returncode, out.decode() + err.decode()
 

@@ -13,7 +13,7 @@ from author.lib.words import program_word
 from . import pipes
 from .lib import inputs
 from .lib.inputs import RULES
-from .lib.play import Place, end, shown
+from .lib.play import Place, end, report, shown
 from .lib.tally import compare, tally
 
 FILES = {
@@ -26,8 +26,8 @@ FILES = {
     "four.csv": "opponent,position,first\n" + "0,4000,c\n" * 4,
     "forty.red": ";@tune K 0 39 1 0\nMOV 0, 1\nDAT K\n",
 }
-REPORT = "vectors 2\ncandidates 2\nbest 0\nconstants K=0\ntotal 4 of 6\nfights 2 of 4\n"
-ONE = "vectors 1\ncandidates 1\nbest 0\nconstants K=1\ntotal 4 of 6\nfights 2 of 2\n"
+REPORT = report(2, 2, 0, "K=0", "4 of 6", "2 of 4")
+ONE = report(1, 1, 0, "K=1", "4 of 6", "2 of 2")
 CERT = FILES["two.cert"]
 PART = "cwcert,1,1\nbest,0,4\ncap,0,0:3 1:1\n"
 BEGUN = "0% 0 of 2 settings, 0 fights"

@@ -202,10 +202,8 @@ def show_fights(programs):
 
 def show_texts(programs):
     """Assembles the texts that are known to differ. Returns how many came otherwise."""
-    wrong = 0
-    for known in TEXTS:
-        wrong += is_other(known, (programs.assemble(known.text), programs.listing(known.text)))
-    return wrong
+    return sum(is_other(known, (programs.assemble(known.text), programs.listing(known.text)))
+               for known in TEXTS)
 
 
 def is_other(known, came):

@@ -6,7 +6,7 @@ By default the program is the one that is built here, each crate of which has to
 takes one that was built before, if it has the digest; then nothing is proved, and the release says
 so, unless --proved gives the file PROVED of a release with this program.
 """
-import gzip, hashlib, io, pathlib, re, shutil, subprocess, tarfile, tempfile
+import gzip, hashlib, pathlib, re, shutil, subprocess, tarfile, tempfile
 from typing import NamedTuple
 
 from author.lib.endings import Fault, run_tool
@@ -165,8 +165,7 @@ def files_of(tree):
 
 def checksums(tree):
     """Returns the checksums of the files of a tree, as `sha256sum -c` reads them."""
-    return "".join(f"{hashlib.sha256(path.read_bytes()).hexdigest()}  {path.relative_to(tree)}\n"
-                   for path in files_of(tree))
+    return "".join(f"{sha256(path)}  {path.relative_to(tree)}\n" for path in files_of(tree))
 
 
 def pack(folder, build):
@@ -177,17 +176,15 @@ def pack(folder, build):
         (tree / "README").write_text(TAR_README)
         (tree / "SHA256SUMS").write_text(checksums(tree))
         title = f"cwtune-{version}-linux-x86_64"
-        packed = io.BytesIO()
-        with (gzip.GzipFile(fileobj=packed, mode="wb", mtime=0) as file,
-              tarfile.open(fileobj=file, mode="w") as tar):
+        tar = folder / f"{title}.tar.gz"
+        with (whole_file(tar, "wb") as packed,
+              gzip.GzipFile("", "wb", fileobj=packed, mtime=0) as file,
+              tarfile.open(fileobj=file, mode="w") as entries):
             for path in files_of(tree):
-                tar.add(path, f"{title}/{path.relative_to(tree)}", filter=without_maker)
-    tar = folder / f"{title}.tar.gz"
-    with whole_file(tar, "wb") as file:
-        file.write(packed.getvalue())
-    checksum = folder / f"{title}.tar.gz.sha256"
+                entries.add(path, f"{title}/{path.relative_to(tree)}", filter=without_maker)
+    checksum = folder / f"{tar.name}.sha256"
     with whole_file(checksum) as file:
-        file.write(f"{hashlib.sha256(packed.getvalue()).hexdigest()}  {tar.name}\n")
+        file.write(f"{sha256(tar)}  {tar.name}\n")
     return [tar, checksum]
 
 

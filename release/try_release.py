@@ -6,7 +6,7 @@ The manual pages and completions have to name each command and option. Without `
 PATH the Debian package is not judged. Prints what failed, and as its last line `N passed, N
 failed`; the exit status is 1 if a trial failed.
 """
-import contextlib, hashlib, importlib, pathlib, re, shutil, subprocess, tarfile, tempfile
+import contextlib, importlib, pathlib, re, shutil, subprocess, tarfile, tempfile
 
 from author.lib.endings import Fault, run_tool
 from author.lib.words import program_word
@@ -86,8 +86,7 @@ def faults_of_use(prefix, zsh=dist.ZSH):
 
 def trial_of_tar(work):
     tar, checksum = dist.pack(work, built())
-    digest = hashlib.sha256(tar.read_bytes()).hexdigest()
-    if checksum.read_text() != f"{digest}  {tar.name}\n":
+    if checksum.read_text() != f"{dist.sha256(tar)}  {tar.name}\n":
         yield "its checksum is another one"
     again, _ = dist.pack(work / "again", built())
     if again.read_bytes() != tar.read_bytes():
@@ -178,19 +177,15 @@ def faults_of_pages(program, folder):
                for name, page in manual.Help(program).commands.items()}
     wanted = {manual.NAME: [word for words in options.values() for word in words]}
     for name, module in manual.COMMANDS.items():
-        wanted[name] = options_of(module)
+        actions = importlib.import_module(f"author.lib.{module}").make_parser()._actions
+        options = [option for it in actions for option in it.option_strings]
+        wanted[name] = [option[2:] for option in options if option.startswith("--")]
     wrong = []
     for name, words in wanted.items():
         for file in manual.file_names(name):
             text = (folder / file).read_text("utf-8").replace("\\-", "-")
             wrong += [f"{file} lacks {word}" for word in words if word not in text]
     return wrong
-
-
-def options_of(module):
-    """Returns the long options of a command for authors, by its parser."""
-    actions = importlib.import_module(f"author.lib.{module}").make_parser()._actions
-    return [word[2:] for it in actions for word in it.option_strings if word.startswith("--")]
 
 
 def trials_of_pages(program):

@@ -14,18 +14,17 @@ check` on a certificate.
 Nothing here has to be trusted: `cwtune check` says whether what it writes is right.
 
 It is one file on purpose: it shares no code with the commands of `author/`, and runs wherever
-Python does. So `RULES` and `MEANING` are copies of what `author/lib/` has.
+Python does. So `RULES` is a copy of what `author/lib/` has.
 """
 import argparse, collections, csv, io, itertools, pathlib, re, subprocess, sys, tempfile
 
 Fight = collections.namedtuple("Fight", "opponent position first weight")
 HEADER = ["opponent", "position", "first"]
-WORDS = {"program": "cwtune, or with --pmars a server build of pMARS",
-         "template": "a Redcode text with range lines", "schedule": "the fights of the tuning"}
-MEANING = {"core": "the core size", "cycles": "the most cycles of a fight",
-           "tasks": "the most tasks of a warrior", "length": "the most instructions of a warrior",
-           "distance": "the least distance of two warriors"}
-RULES = {"core": 8000, "cycles": 80000, "tasks": 8000, "length": 100, "distance": 100}
+# The rules, each with its usual number and what it is.
+RULES = {"core": (8000, "the core size"), "cycles": (80000, "the most cycles of a fight"),
+         "tasks": (8000, "the most tasks of a warrior"),
+         "length": (100, "the most instructions of a warrior"),
+         "distance": (100, "the least distance of two warriors")}
 MOST_FIGHTS, MOST_WEIGHT, MOST_NUMBER = 10000, 1000, 2**32 - 1
 # A field may have any length.
 csv.field_size_limit(sys.maxsize)
@@ -323,17 +322,15 @@ class Tuning:
         listed = [i for i, _ in items]
         if listed != sorted(set(listed)):
             raise Fault(v + 2, "RepeatedFight")
-        if self.load(v) is None or (listed and listed[-1] >= len(self.fights)):
-            raise Fault(v + 2, "WrongPoints")
-        if any(self.fight(v, i) != points for i, points in items):
+        exist = self.load(v) is not None and all(i < len(self.fights) for i in listed)
+        if not exist or any(self.fight(v, i) != points for i, points in items):
             raise Fault(v + 2, "WrongPoints")
         if v != self.best and self.beats(self.cap(items), v):
             raise Fault(v + 2, "CapTooHigh")
 
     def check_same(self, v, u, rows):
-        if u == v or u >= len(rows) or rows[u][0] != "cap" or self.load(v) is None:
-            raise Fault(v + 2, "NotSame")
-        if self.load(u) != self.load(v):
+        if (u == v or u >= len(rows) or rows[u][0] != "cap" or self.load(v) is None
+                or self.load(u) != self.load(v)):
             raise Fault(v + 2, "NotSame")
         if self.beats(self.cap(rows[u][1]), v):
             raise Fault(v + 2, "CapTooHigh")
@@ -341,7 +338,9 @@ class Tuning:
 
 def read_words():
     parser = argparse.ArgumentParser(description=__doc__.split("\n\n")[0])
-    for name, meaning in WORDS.items():
+    for name, meaning in [("program", "cwtune, or with --pmars a server build of pMARS"),
+                          ("template", "a Redcode text with range lines"),
+                          ("schedule", "the fights of the tuning")]:
         parser.add_argument(name, metavar=name.upper(), help=meaning)
     parser.add_argument("opponents", nargs="+", metavar="OPPONENT",
                         help="the opponents, in the tuning's order")
@@ -351,9 +350,9 @@ def read_words():
                         help="the cache of that search [default: 4096]")
     parser.add_argument("--report", metavar="FILE", help="write the report to FILE too")
     parser.add_argument("--check", metavar="CERT", help="check CERT instead")
-    for name, value in RULES.items():
+    for name, (value, meaning) in RULES.items():
         parser.add_argument(f"--{name}", type=int, default=value, metavar="N",
-                            help=f"{MEANING[name]} [default: {value}]")
+                            help=f"{meaning} [default: {value}]")
     return parser.parse_args()
 
 

@@ -1,9 +1,8 @@
 """What the file CERT.inputs beside a certificate has to say, as docs/FORMATS.md describes it."""
 import hashlib, os, pathlib
 
-RULES = ("core", "cycles", "tasks", "length", "distance")
-HILLS = {"94nop": (8000, 80000, 8000, 100, 100), "tiny": (800, 8000, 800, 20, 20),
-         "nano": (80, 800, 80, 5, 5), "lp": (8000, 80000, 8, 200, 200)}
+from author.lib.program import HILLS
+
 SUFFIX = ".inputs"
 
 
@@ -33,8 +32,8 @@ def read_words(words):
 def text_of(words, folder, version):
     """Returns the text for a command `tune` that ran in a folder, which has all of its files."""
     options, (template, schedule, cert, *opponents) = read_words(words)
-    hill = HILLS[options.get("hill", "94nop")]
-    rules = [options.get(name, number) for name, number in zip(RULES, hill)]
+    hill = HILLS[options.get("hill", "94nop")]._asdict()
+    rules = [options.get(name, number) for name, number in hill.items()]
     method = "all" if "all" in options else f"cache {options.get('cache', 4096)}"
     digest = lambda name: digest_of(pathlib.Path(folder, name).read_bytes())
     files = [("template", template), ("schedule", schedule)]

@@ -1,10 +1,12 @@
 """Runs the program in a folder, and says how the run ended and which files it changed."""
-import contextlib, os, pathlib, pty, subprocess, tempfile
+import contextlib, os, pathlib, pty, re, subprocess, tempfile
 from typing import NamedTuple
 
 from . import cert_inputs
 
 SECONDS = 60
+# The exit status of a run that writes a line with such a first word.
+STATUSES = {"refused": 1, "rejected": 1, "error": 2, "failed": 3}
 # Of a longer file the size is compared, and not the text.
 LONGEST = 1 << 24
 
@@ -26,6 +28,19 @@ def end(status, out="", err="", files=None, **more):
     """Returns an `End`; texts may be `str`. `CERT="..."` is short for a file of that name."""
     files = {name: as_bytes(text) for name, text in {**(files or {}), **more}.items()}
     return End(status, as_bytes(out), as_bytes(err), files)
+
+
+def status_of(text):
+    """Returns the exit status of a run that writes a text, by its last line with a first word of
+    STATUSES."""
+    words = re.findall(rf"(?m)^({'|'.join(STATUSES)})[: ]", text)
+    return STATUSES[words[-1]] if words else 0
+
+
+def report(*values):
+    """Returns the report of a tuning, with these values in its lines."""
+    names = ["vectors", "candidates", "best", "constants", "total", "fights"]
+    return "".join(f"{name} {value}\n" for name, value in zip(names, values, strict=True))
 
 
 def as_bytes(text):

@@ -11,6 +11,8 @@ from typing import NamedTuple
 from author.lib import tuning_files
 from author.lib.tuning_files import Fights
 
+from .play import report
+
 
 def cap_of(points, fights):
     """Returns the greatest total of a setting with these points, a dict by fight."""
@@ -120,9 +122,9 @@ class Search:
             total, best = -self.ranking[0][0], self.ranking[0][1]
             constants = self.table.constants[best]
         fights = self.table.fights
-        return (f"vectors {len(self.rows)}\ncandidates {candidates}\nbest {best}\n"
-                f"constants {constants}\ntotal {total} of {fights.greatest}\n"
-                f"fights {self.played} of {candidates * len(fights)}\n{self.rank_lines()}")
+        played = f"{self.played} of {candidates * len(fights)}"
+        return report(len(self.rows), candidates, best, constants, f"{total} of {fights.greatest}",
+                      played) + self.rank_lines()
 
     def rank_lines(self):
         """Returns the lines of the ranking, none if only the best setting is asked for."""

@@ -14,16 +14,16 @@ from ..lib.play import end
 from ..lib.running import side_by_side
 from ..lib.tally import tally
 from . import once_each
-from .runs import FILES, all_runs, library_of, refuse_each
+from .runs import FILES, all_runs, library_of, refuse_each, run
 
 REFUSED = end(3, err="failed: OutOfMemory\n")
 
 
 def refuse_each_of(program, library, words, text, expected):
     """Refuses each request of a run in turn. Returns how many there were, and what was wrong."""
-    run, requests = (functools.partial(call, program, library, words, FILES, text)
-                     for call in (once_each.run, once_each.requests))
-    return refuse_each(run, requests, expected, [REFUSED])
+    calls = (functools.partial(call, program, library, words, FILES, text)
+             for call in (run, once_each.requests))
+    return refuse_each(*calls, expected, [REFUSED])
 
 
 def main():

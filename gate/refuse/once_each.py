@@ -4,11 +4,9 @@ One more setting, row, `same` row or opponent costs one more assembly, with up t
 the explanations of a terminal and without, and a run makes one arena, whatever its number of
 settings. `memory.py` takes the trials: names, and for each a list of what was wrong.
 """
-import os
-
 from author.lib.endings import Fault
 
-from ..lib.play import play
+from .runs import run, with_rules
 
 RULES = "--core=4000 --cycles=20 --tasks=4 --length=4 --distance=4".split()
 IMP = "MOV 0, 1\n"
@@ -35,17 +33,6 @@ KINDS = {
 # the only requests of at least LARGE bytes.
 ARENAS = [CHECK, TUNE.format("many.red"), TUNE.format("--all many.red"), "fight dat.red dat.red"]
 LARGE = 30_000
-
-
-def with_rules(words):
-    name, *others = words.split()
-    return [name, *RULES, *others]
-
-
-def run(program, library, words, files, text="", **variables):
-    """Runs with the library and its variables. Returns the end."""
-    env = dict(os.environ, LD_PRELOAD=library, **{key: str(it) for key, it in variables.items()})
-    return play(program, words, files, text=text, env=env)
 
 
 def requests(program, library, words, files, text="", least=0):
@@ -81,14 +68,14 @@ def one_more(program, library, kind, before):
     for count in 13, 63:
         opponents = ["other.red"] * (count if kind.startswith("an opponent") else 0)
         files = many(count, before, after, row)
-        every = [*with_rules(words), *opponents]
+        every = [*with_rules(words, RULES), *opponents]
         status = 1 if "none.red" in words else 0
         counts.append(requests_of_end(program, library, every, files, status))
     return (counts[1] - counts[0]) / 50
 
 
 def trials(program, library):
-    alone = [requests(program, library, with_rules("asm a.red"), {"a.red": before + IMP})
+    alone = [requests(program, library, with_rules("asm a.red", RULES), {"a.red": before + IMP})
              for before in ("", LONG)]
     if alone[0] >= alone[1]:
         yield "requests are seen", [f"came {alone}"]
@@ -98,12 +85,12 @@ def trials(program, library):
         # What the lines of LONG add to it, in assemblies of them.
         times = (long - short) / (alone[1] - alone[0])
         yield f"one more: {kind}", [] if 0.5 < times < 1.5 else [f"costs {times} assemblies"]
-    fight = with_rules("fight one.red one.red")
+    fight = with_rules("fight one.red one.red", RULES)
     came = [requests(program, library, [word.replace("=20", cycles) for word in fight],
                      {"one.red": IMP}) for cycles in ("=10000", "=40000")]
     yield "turns take no memory", [] if came[0] == came[1] else [f"requests: {came}"]
     for words in ARENAS:
-        came = [requests_of_end(program, library, with_rules(words),
+        came = [requests_of_end(program, library, with_rules(words, RULES),
                                 many(count, "", IMP, "same,{},0\n"), least=LARGE)
                 for count in (1, 60)]
         yield f"arenas: {words}", [] if came == [2, 2] else [f"large requests: {came}"]

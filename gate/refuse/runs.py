@@ -1,11 +1,11 @@
 """Short runs of every command with their ends: what memory.py, writes.py and two_devices.py run."""
-import pathlib, subprocess, tomllib
+import os, pathlib, subprocess, tomllib
 
 from author.lib.endings import Fault
 
 from ..lib import inputs
 from ..lib.inputs import RULES
-from ..lib.play import end
+from ..lib.play import end, play, report
 
 HERE = pathlib.Path(__file__).resolve().parent
 OLD_CERT = "cwcert,1,1\nbest,0,0\ncap,0,-\n"
@@ -60,12 +60,6 @@ TEXTS = [
 ]
 
 
-def report(*values):
-    """Returns the report with these values in its lines."""
-    names = ["vectors", "candidates", "best", "constants", "total", "fights"]
-    return "".join(f"{name} {value}\n" for name, value in zip(names, values))
-
-
 # Here the end has the certificate, if one is written.
 TUNINGS = [
     ("tune one.red both.csv CERT dat.red imp.red",
@@ -87,10 +81,10 @@ TUNINGS = [
 ]
 
 
-def with_rules(words):
+def with_rules(words, rules=RULES):
     """Returns the words of a command with the rules after its name."""
     name, *others = words.split()
-    return [name, *RULES, *others]
+    return [name, *rules, *others]
 
 
 def version():
@@ -106,6 +100,12 @@ def all_runs():
     runs.append(("settings step.red", ["settings", "step.red"], "", settings))
     runs.append(("--version", ["--version"], "", end(0, version())))
     return runs + [(words, with_rules(words), "", wanted) for words, wanted in TEXTS + TUNINGS]
+
+
+def run(program, library, words, files, text="", **variables):
+    """Runs with the library and its variables. Returns the end."""
+    env = {**os.environ, "LD_PRELOAD": library, **{key: str(it) for key, it in variables.items()}}
+    return play(program, words, files, text=text, env=env)
 
 
 def refuse_each(run, count, expected, refused):

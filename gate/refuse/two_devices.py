@@ -3,14 +3,14 @@
 On two devices they are two files, and the older certificate is replaced; on one device they are one
 file, which is not overwritten. Needs `cc` and a system with LD_PRELOAD.
 """
-import os, tempfile
+import tempfile
 
 from author.lib.endings import run_tool
 from author.lib.words import program_word
 
-from ..lib.play import end, play
+from ..lib.play import end
 from ..lib.tally import compare, tally
-from .runs import FILES, TUNINGS, library_of, with_rules
+from .runs import FILES, TUNINGS, library_of, run, with_rules
 
 WORDS, WANTED = TUNINGS[0]
 NAMED = "error: CERT is another word's file, too, and is not overwritten: CERT\n"
@@ -18,13 +18,11 @@ NAMED = "error: CERT is another word's file, too, and is not overwritten: CERT\n
 
 def trials(program):
     with tempfile.TemporaryDirectory() as work:
-        library = {"LD_PRELOAD": library_of("two_devices.c", work)}
-        for name, changes, expected in [
-            ("two devices", {**library, "DEVICES": "1"}, WANTED),
-            ("one device", library, end(2, err=NAMED)),
-        ]:
-            came = play(program, with_rules(WORDS), FILES, env={**os.environ, **changes})
-            yield compare(name, expected, came)
+        library = library_of("two_devices.c", work)
+        for name, variables, expected in [("two devices", {"DEVICES": 1}, WANTED),
+                                          ("one device", {}, end(2, err=NAMED))]:
+            yield compare(name, expected,
+                          run(program, library, with_rules(WORDS), FILES, **variables))
 
 
 def main():

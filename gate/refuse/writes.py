@@ -8,25 +8,19 @@ standard output. CERT.inputs is written after the report; a step of it that fail
 how the run ends. Only a kill leaves an unfinished file. The last line says how many steps failed,
 too. Needs `cc` and a system with LD_PRELOAD.
 """
-import os, signal, tempfile
+import signal, tempfile
 
 from author.lib.endings import run_tool
 from author.lib.words import program_word
 
-from ..lib.play import Place, end, play
+from ..lib.play import Place, end
 from ..lib.running import side_by_side
 from ..lib.tally import tally
-from .runs import FILES, TUNINGS, all_runs, library_of, with_rules
+from .runs import FILES, TUNINGS, all_runs, library_of, run, with_rules
 
 BESIDE, BESIDE_INPUTS = "CERT.unfinished-1", "CERT.inputs.unfinished-1"
 FAILURES = ["FAIL", "FULL", "NOTHING", "KILL"]
 WITHOUT_CERT = {name: text for name, text in FILES.items() if name != "CERT"}
-
-
-def run(program, library, words, text, files, **variables):
-    """Runs with the library, which makes steps of single bytes, and its variables."""
-    env = {**os.environ, "LD_PRELOAD": library, "SHORT": "1", **variables}
-    return play(program, words, files, text=text, env=env)
 
 
 def steps_of(cert):
@@ -87,7 +81,7 @@ def fail_each(program, library, words, text, wanted):
                 expected = expected_at(how, number, wanted)
                 if number > told + inputs:
                     expected = wanted
-                came = run(program, library, words, text, files, **{how: str(number)})
+                came = run(program, library, words, files, text, SHORT=1, **{how: number})
                 came.files.pop(BESIDE_INPUTS, None)
                 count += expected != wanted
                 if came != expected:
@@ -100,8 +94,8 @@ def explain_flush(program, library):
     words, wanted = TUNINGS[0]
     said = ("  one.red has no range line, so it has one setting\nfailed: Write\n"
             "found: best 0 total 4\n  CERT: Input/output error (os error 5)\n")
-    came = run(program, library, [*with_rules(words), "--explain"], "", FILES,
-               FAIL=str(steps_of(wanted.files["CERT"]) - 1))
+    came = run(program, library, [*with_rules(words), "--explain"], FILES, SHORT=1,
+               FAIL=steps_of(wanted.files["CERT"]) - 1)
     return [] if came == end(3, err=said) else [f"expected {said!r}, came {came}"]
 
 
