@@ -3,8 +3,9 @@
 Plays the series of all pairs of a folder of bench by three programs in turn, as bench.measure does:
 by `cwtune`, by pMARS, and by limit.cc, a simulator with every trick and no proof. A line for each
 pair says how many times as fast as pMARS the other two are. Then come the geometric means, and the
-instructions that were executed most in the first fights of the pairs: the share of the turns, and
-whether the hot loop has an arm for it (docs/HOT_LOOP.md). Needs clang++.
+instructions, by their canonical modifiers, that were executed most in the first fights of the
+pairs: the share of the turns, and whether the hot loop has an arm for it (docs/HOT_LOOP.md). Needs
+clang++.
 """
 import collections, itertools, math, pathlib, shutil, subprocess, tempfile
 

@@ -27,9 +27,9 @@ class Pair:
     """Two warriors, each a name and a load file, and what is measured of their series.
 
     `cwtune_seconds` and `pmars_seconds` are the least that each program took, `points` the
-    candidate's points, `ties` how many fights are ties, `executed` how often each instruction was
-    executed in the first fight, and `unclassed` the share of its turns whose instruction has no
-    class of its own. `folder` has the schedule as `s.csv`.
+    candidate's points, `ties` how many fights are ties, `executed` how often each instruction, by
+    its canonical modifier, was executed in the first fight, and `unclassed` the share of its turns
+    whose instruction has no class of its own. `folder` has the schedule as `s.csv`.
     """
 
     def __init__(self, candidate, opponent, programs, folder):

@@ -30,7 +30,8 @@ def classes():
 class Fight:
     """A fight of two load files, the first of which moves first.
 
-    Has the core, the two queues, the turns, and how often each instruction was executed.
+    Has the core, the two queues, the turns, and how often each instruction, by its canonical
+    modifier, was executed.
     """
 
     def __init__(self, rules, loads, position):

@@ -40,13 +40,17 @@ class Trial(Place):
     def __init__(self, program, folder, version):
         wide = {"wide.csv": "opponent,position,first\n0,100,c\n"}
         super().__init__(program, folder, FILES | wide)
-        self.version, self.path = version, self.folder / "CERT.inputs"
+        self.version, self.inputs_path = version, self.folder / "CERT.inputs"
 
     def inputs(self, words):
         """Runs a tuning. Returns CERT.inputs, and what it has to be."""
         self.run(words, keep=True)
         came = self.read("CERT.inputs")
         return came, cert_inputs.text_of(words, self.folder, self.version)
+
+    def remove_inputs(self):
+        """Removes CERT.inputs, which a program at fault may not have written."""
+        self.inputs_path.unlink(missing_ok=True)
 
     def at_terminal(self, words):
         """Returns what a terminal shows at the end of a run, progress aside."""
@@ -65,16 +69,17 @@ def replaced(place):
         place.write("CERT.inputs", old)
         came, wanted = place.inputs(TUNE)
         yield compare(f"{name} is replaced", wanted, came)
-    place.path.chmod(0o640)
+    place.write("CERT.inputs", OLD)
+    place.inputs_path.chmod(0o640)
     place.inputs(TUNE)
-    mode = place.path.stat().st_mode & 0o777
+    mode = place.inputs_path.exists() and place.inputs_path.stat().st_mode & 0o777
     yield compare("permissions stay", 0o640, mode)
     place.write("elsewhere", OLD)
-    place.path.unlink()
-    place.path.symlink_to("elsewhere")
+    place.remove_inputs()
+    place.inputs_path.symlink_to("elsewhere")
     came, wanted = place.inputs(TUNE)
     yield compare("a link is followed", (wanted, wanted), (came, place.read("elsewhere")))
-    place.path.unlink()
+    place.remove_inputs()
 
 
 def kept(place):
@@ -90,13 +95,13 @@ def kept(place):
     words = [*TUNE[:-2], "/dev/null", *TUNE[-2:]]
     words.remove("CERT")
     yield compare("a device has none", end(0, REPORT), place.run(words))
-    place.path.unlink()
-    place.path.mkdir()
+    place.remove_inputs()
+    place.inputs_path.mkdir()
     yield compare("a folder stays", good, place.run(TUNE))
-    place.path.rmdir()
-    os.link(place.folder / "imp.red", place.folder / "CERT.inputs")
+    place.inputs_path.rmdir()
+    os.link(place.folder / "imp.red", place.inputs_path)
     yield compare("a file of the tuning stays", end(2, err=NAMED), place.run(TUNE))
-    place.path.unlink()
+    place.remove_inputs()
 
 
 def unwritable(place):
@@ -111,7 +116,7 @@ def unwritable(place):
 
 def checks(place):
     """Checks with other inputs, at a terminal."""
-    place.path.unlink(missing_ok=True)
+    place.remove_inputs()
     place.run(TUNE, keep=True)
     other = ["check", *RULES, "imps.red", "both.csv", "CERT", "imp.red", "dat.red"]
     for name, words, lines in [
@@ -134,7 +139,7 @@ def rejections(place):
     """Checks certificates that are not of the tuning, or show too little, at a terminal."""
     unknown = HOLDS + "  CERT.inputs {}, so it is not known which of these differs\n"
     place.run(TUNE, keep=True)
-    text, said = place.read("CERT"), place.read("CERT.inputs")
+    text, said = place.read("CERT"), place.read("CERT.inputs") or b""
     wrong = text.replace(b"0:3", b"0:1")
     place.write("CERT", wrong)
     check = ["check", *TUNE[1:]]
@@ -144,7 +149,7 @@ def rejections(place):
     place.write("CERT.inputs", said.replace(*digests))
     yield compare("a wrong certificate with its digest", HOLDS + SAME.format(""),
                   place.at_terminal(check))
-    place.path.unlink()
+    place.remove_inputs()
     yield compare("without CERT.inputs", unknown.format("cannot be read"), place.at_terminal(check))
     tail = [*RULES, "tail.red", *TUNE[-4:]]
     place.run(["tune", *tail], keep=True)

@@ -28,7 +28,7 @@ MERGED = {**OPTIONAL, **NEEDED, "runs": None, "each": None}
 LONG = {"head": str, "text": str, "times": int, "tail": str}
 SHARED = {"files": dict, "folders": list, "words": dict, "usual": str, "case": list}
 SECONDS = 120
-# How often names are put in: their texts may have names, too.
+# How deep names may be: their texts may have names, too.
 DEEPEST = 3
 PROGRESS_AT_TERMINAL = rb"\r\x1b\[\?7l[^\r\n]*\x1b\[K\x1b\[\?7h|\r\x1b\[K"
 PROGRESS = rb"(?m)^\d+% .*\n"
@@ -73,11 +73,13 @@ def valued(case):
             for number, text in enumerate(texts, 1)] if "values" in case else [case]
 
 
-def fill(text, names):
-    """Puts in what names stand for, which may have names in turn."""
-    for _ in range(DEEPEST):
-        text = string.Template(text).safe_substitute(names)
-    return text
+def fill(text, names, where):
+    """Puts in what names stand for, which may have names in turn, up to DEEPEST deep."""
+    for _ in range(DEEPEST + 1):
+        before, text = text, string.Template(text).safe_substitute(names)
+        if text == before:
+            return text
+    raise Fault(f"{where}: names are more than {DEEPEST} deep: {text[:200]!r}")
 
 
 def long_text(long):
@@ -89,11 +91,10 @@ def words_of(case):
     """Returns the words of a case, parted."""
     if "words" not in case:
         raise Fault(f"{case['name']}: `words` is missing")
-    text, names = case["words"], case["shared_words"] | case["fill"]
+    text = fill(case["words"], case["shared_words"] | case["fill"], case["name"])
     try:
-        for _ in range(DEEPEST):
-            text = string.Template(text).substitute(names)
-        return shlex.split(text)
+        # a name that is left stands for nothing
+        return shlex.split(string.Template(text).substitute())
     except KeyError as error:
         raise Fault(f"{case['name']}: no words for `${error.args[0]}`") from None
     except ValueError as error:
@@ -102,10 +103,10 @@ def words_of(case):
 
 def filled(case):
     """Returns the case with its words parted, its long files made, and names put in by `fill`."""
-    words, names = words_of(case), case["fill"]
+    words, put_in = words_of(case), lambda text: fill(text, case["fill"], case["name"])
     named = {os.path.normpath(word) for word in [*words, case.get("stdin_from", "")]}
     files = inputs.files(*named & inputs.FILES.keys())
-    files |= {name: fill(text, names) for name, text in case["files"].items()}
+    files |= {name: put_in(text) for name, text in case["files"].items()}
     for name, long in case["long"].items():
         check_keys(long, LONG, ["text", "times"], case["name"])
         files[name] = long_text(long)
@@ -115,7 +116,7 @@ def filled(case):
         if "out" in case or len(case["report"]) != 6:
             raise Fault(f"{case['name']}: `report` has six values, in place of `out`")
         case = case | {"out": report(*case["report"])}
-    made = {key: fill(case[key], names) for key in FILLED if key in case}
+    made = {key: put_in(case[key]) for key in FILLED if key in case}
     said = status_of("\n".join(made.get(key, "") for key in ("out", "err", "err_begins")))
     return {"status": said} | case | made | {"files": files, "words": words}
 

@@ -30,7 +30,7 @@ LEFT_OUT = shutil.ignore_patterns("tests", "look.sh", "__pycache__")
 TAR_README = """cwtune tunes Core War warriors. Begin with share/doc/cwtune/README.md.
 
     sha256sum --check --quiet SHA256SUMS    checks the files
-    share/doc/cwtune/PROVED                 says what was proved, with which kit, or that nothing was
+    share/doc/cwtune/PROVED                 says what was proved with which kit, or that nothing was
 """
 DEBIAN_CONTROL = """Package: cwtune
 Version: {version}

@@ -177,15 +177,19 @@ def faults_of_pages(program, folder):
                for name, page in manual.Help(program).commands.items()}
     wanted = {manual.NAME: [word for words in options.values() for word in words]}
     for name, module in manual.COMMANDS.items():
-        actions = importlib.import_module(f"author.lib.{module}").make_parser()._actions
-        options = [option for it in actions for option in it.option_strings]
-        wanted[name] = [option[2:] for option in options if option.startswith("--")]
+        wanted[name] = options_of(module)
     wrong = []
     for name, words in wanted.items():
         for file in manual.file_names(name):
             text = (folder / file).read_text("utf-8").replace("\\-", "-")
             wrong += [f"{file} lacks {word}" for word in words if word not in text]
     return wrong
+
+
+def options_of(module):
+    """Returns the long options of a command for authors, by its parser."""
+    actions = importlib.import_module(f"author.lib.{module}").make_parser()._actions
+    return [word[2:] for it in actions for word in it.option_strings if word.startswith("--")]
 
 
 def trials_of_pages(program):

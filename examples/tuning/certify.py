@@ -319,16 +319,18 @@ class Tuning:
         return self.best, self.total
 
     def check_cap(self, v, items):
+        """Checks that a cap row lists fights of setting v, with their points, and shows enough."""
         listed = [i for i, _ in items]
         if listed != sorted(set(listed)):
             raise Fault(v + 2, "RepeatedFight")
-        exist = self.load(v) is not None and all(i < len(self.fights) for i in listed)
-        if not exist or any(self.fight(v, i) != points for i, points in items):
+        are_there = self.load(v) is not None and all(i < len(self.fights) for i in listed)
+        if not are_there or any(self.fight(v, i) != points for i, points in items):
             raise Fault(v + 2, "WrongPoints")
         if v != self.best and self.beats(self.cap(items), v):
             raise Fault(v + 2, "CapTooHigh")
 
     def check_same(self, v, u, rows):
+        """Checks that settings v and u make one warrior, and that the cap row of u does for v."""
         if (u == v or u >= len(rows) or rows[u][0] != "cap" or self.load(v) is None
                 or self.load(u) != self.load(v)):
             raise Fault(v + 2, "NotSame")

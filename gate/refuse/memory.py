@@ -13,27 +13,27 @@ from author.lib.words import program_word
 from ..lib.play import end
 from ..lib.running import side_by_side
 from ..lib.tally import tally
-from . import once_each
-from .runs import FILES, all_runs, library_of, refuse_each, run
+from . import once_each, runs
+from .runs import FILES, all_runs, library_of, refuse_each
 
 REFUSED = end(3, err="failed: OutOfMemory\n")
 
 
 def refuse_each_of(program, library, words, text, expected):
     """Refuses each request of a run in turn. Returns how many there were, and what was wrong."""
-    calls = (functools.partial(call, program, library, words, FILES, text)
-             for call in (run, once_each.requests))
-    return refuse_each(*calls, expected, [REFUSED])
+    run, requests = (functools.partial(call, program, library, words, FILES, text)
+                     for call in (runs.run, once_each.requests))
+    return refuse_each(run, requests, expected, [REFUSED])
 
 
 def main():
-    program, runs = program_word("gate.refuse.memory", __doc__), all_runs()
+    program, tried = program_word("gate.refuse.memory", __doc__), all_runs()
     with tempfile.TemporaryDirectory() as work:
         library = library_of("memory.c", work)
-        came = side_by_side(lambda one: refuse_each_of(program, library, *one[1:]), runs)
+        came = side_by_side(lambda one: refuse_each_of(program, library, *one[1:]), tried)
         again = list(once_each.trials(program, library))
     total = sum(requests for requests, _ in came)
-    trials = [(name, wrong) for (name, *_), (_, wrong) in zip(runs, came)]
+    trials = [(name, wrong) for (name, *_), (_, wrong) in zip(tried, came)]
     return tally([*trials, *again], f"{total} requests refused: ")
 
 

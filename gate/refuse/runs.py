@@ -103,7 +103,8 @@ def all_runs():
 
 
 def run(program, library, words, files, text="", **variables):
-    """Runs with the library and its variables. Returns the end."""
+    """Runs with the library. Returns the end. `variables` are those that the library reads, as
+    SHORT=1: a byte a step."""
     env = {**os.environ, "LD_PRELOAD": library, **{key: str(it) for key, it in variables.items()}}
     return play(program, words, files, text=text, env=env)
 
