@@ -88,12 +88,11 @@ def long_text(long):
 
 
 def words_of(case):
-    """Returns the words of a case, parted."""
+    """Returns the words of a case, parted. No name may be left in them."""
     if "words" not in case:
         raise Fault(f"{case['name']}: `words` is missing")
     text = fill(case["words"], case["shared_words"] | case["fill"], case["name"])
     try:
-        # a name that is left stands for nothing
         return shlex.split(string.Template(text).substitute())
     except KeyError as error:
         raise Fault(f"{case['name']}: no words for `${error.args[0]}`") from None
@@ -103,7 +102,8 @@ def words_of(case):
 
 def filled(case):
     """Returns the case with its words parted, its long files made, and names put in by `fill`."""
-    words, put_in = words_of(case), lambda text: fill(text, case["fill"], case["name"])
+    words = words_of(case)
+    put_in = lambda text: fill(text, case["fill"], case["name"])
     named = {os.path.normpath(word) for word in [*words, case.get("stdin_from", "")]}
     files = inputs.files(*named & inputs.FILES.keys())
     files |= {name: put_in(text) for name, text in case["files"].items()}

@@ -2,7 +2,7 @@
 
 At a terminal a progress line is rewritten, in a pipe --progress prints a line a minute, and if
 standard input is a terminal, the program says what it waits for. What a terminal shows at the end
-of a run is played by `gate/cases/explanations.toml`. Expected values follow from
+of a run is played by the cases `explanations` and `help-lines`. Expected values follow from
 `docs/COMMANDS.md`.
 """
 import os, pty, re, select, tempfile, time
