@@ -44,6 +44,7 @@ class FreshPoints(NamedTuple):
         return 100 * sum(map(math.prod, zip(means, weights))) / sum(weights)
 
     def error(self):
+        """Returns the standard error of the mean, in percent."""
         weights = self.opponent_weights
         errors = map(math.prod, zip(map(error_of_mean, self.by_opponent), weights))
         return 100 / 3 * math.hypot(*errors) / sum(weights)
@@ -93,7 +94,7 @@ def gain_of(points, weights):
 
 
 def gain_numbers(difference):
-    """Returns a gain in percent, its error, and in words: none within two standard errors."""
+    """Returns a gain in percentage points, its error, and in words, by two standard errors."""
     percent, error = difference.mean(), difference.error()
     words = ("no difference that these fights show" if abs(percent) <= 2 * error
              else "a gain" if percent > 0 else "a loss")
@@ -116,8 +117,8 @@ class Holdout:
         self.ranking = self.cert.ranked(self.fights)
 
     def play(self, *asm_words):
-        """Returns what a warrior makes in the fresh fights, which it plays as the only setting of a
-        template. `asm_words` are the words of `cwtune asm` for it."""
+        """Returns what a warrior makes as the only setting of a template, at the same positions as
+        all others. `asm_words` are the words of `cwtune asm` for it."""
         args, rules, rounds = self.args, rules_of(self.args).words(), self.args.rounds
         load_file = output_of(args.program, "asm", *EXPLAIN, *rules, *asm_words)
         dice, low, high = random.Random(args.seed), args.distance, args.core - args.distance
@@ -139,7 +140,7 @@ class Holdout:
         return self.play(f"--setting={setting}", "--", self.args.template)
 
     def player(self, setting, rank=None):
-        """Returns the numbers of a setting. Its total is None if it was dropped."""
+        """Returns a setting's numbers: rank None if not exact, total None if it was dropped."""
         return {"setting": setting, "rank": rank if rank and rank <= self.ranking.exact else None,
                 "values": self.template.values_by_name(setting),
                 "total": self.cert.total_of(setting, self.fights),

@@ -131,7 +131,8 @@ class Arena:
                       for opponent, positions in enumerate(self.positions)) for number in numbers]
 
     def trial_blocks(self):
-        """Returns the first blocks, which START plays alone. They take about two seconds."""
+        """Returns the first blocks, in which START alone plays, to time the race. They take two
+        seconds at most, but in very slow fights."""
         return self.new_blocks(max(1, min(TRIAL_BLOCKS, TRIAL_FIGHTS // len(self.opponents))))
 
     def rates(self, contenders, blocks):
@@ -143,7 +144,8 @@ class Arena:
         return self.record_count < len(self.records)
 
     def play(self, contenders, blocks):
-        """Returns the points of contenders in blocks: a digit for each opponent, or None."""
+        """Returns a text per contender and block, a digit per opponent; None for a contender
+        that does not assemble."""
         settings = [list(contender.values) for contender in contenders]
         if not self.is_recorded():
             points = self.hosts.take(settings, blocks) or self.run(settings, blocks)

@@ -108,7 +108,7 @@ def with_strategy(lines, line):
 
 
 def last_that_begins(lines, word):
-    """Returns the index of the last line that begins so, of `;redcode` the first; else -1."""
+    """Returns the index of the last line with this beginning, of `;redcode` the first; or -1."""
     found = [index for index, line in enumerate(lines) if line[:len(word)].lower() == word]
     return (found[0] if word == ";redcode" else found[-1]) if found else -1
 
@@ -129,7 +129,7 @@ def setting_of(template, word):
 
 
 def total_of_start(cert, template, schedule):
-    """Returns the total of START, or None if that is not known."""
+    """Returns the total of START, None if it was dropped or the weights are not given."""
     if cert.version == 2 and schedule is None:
         return None
     return cert.total_of(template.start, cert.fights(schedule))
@@ -159,7 +159,8 @@ def checked_text(args, template, setting, totals):
 
 
 def text_put_back(args, template, setting, totals, load_file):
-    """Returns the text of --original with a setting's values; if it cannot, says why."""
+    """Returns the text of --original with a setting's values. If it cannot, notes why, and returns
+    None."""
     try:
         text = finished(original_lines(args, template, setting), template, setting, totals)
         if adapt(args.original, text, rules_of(args), args.program).load_file != load_file:

@@ -218,7 +218,7 @@ def name_of(test):
 
 
 def broke_off(fault):
-    """Returns that an exception ended a trial, and the last line of the trial."""
+    """Returns where a trial broke off. Any exception may come of a command that failed."""
     lines = [(pathlib.Path(frame.filename), frame.lineno)
              for frame in traceback.extract_tb(fault.__traceback__)]
     of_trials = [(path, number) for path, number in lines

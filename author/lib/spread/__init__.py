@@ -76,7 +76,7 @@ def method_of(args):
 
 
 def count_settings(args):
-    """Returns the settings, which the program counts, and its notes, which this shows."""
+    """Returns the number of settings, as the program counts, and its notes, which are shown."""
     completed = run_program(args.program, "settings", *explain_words(args), "--", args.template)
     if completed.returncode != 0:
         end_as(args.program, completed.returncode, completed.stderr)
@@ -129,7 +129,7 @@ def explaining_stop(folder, progress):
 
 
 def run_jobs(args, folder, progress):
-    """Runs the pieces that are not done, but those of a cluster. Returns the faults by number."""
+    """Runs the pieces left, unless a cluster did. Returns faults by number, None for no fault."""
     if not isinstance(folder, SpreadFolder):
         return {number: folder.fault(number) for number in progress.numbers_left()}
     faults = {}
@@ -219,7 +219,7 @@ def finish(args, folder, progress, notes):
 
 
 def write_inputs(args):
-    """Writes CERT.inputs beside a regular CERT, as `tune` does, or removes an older one."""
+    """Writes CERT.inputs beside a regular CERT; if that fails, removes an older one."""
     if not os.path.isfile(args.cert):
         return
     name, files = f"{args.cert}.inputs", [args.template, args.schedule, *args.opponent]

@@ -62,7 +62,7 @@ def reading(folder, number):
 
 
 def rows_of(folder, number, part):
-    """Yields the rows of a part, with settings of the whole template. Each has to have one."""
+    """Yields a row for each setting of a part, with its index in the whole template."""
     first, count = part.settings.start, len(part.settings)
     if not part.report:
         yield from (f"refused,{setting},-" for setting in part.settings)
