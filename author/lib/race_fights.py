@@ -68,10 +68,11 @@ class Positions:
 class Arena:
     """The fights of a race in the settings of a grid: `with` it, they can be played.
 
-    `opponents` are the paths of the opponents, and `weights` how much each counts. `records` is a
-    list of what was played, to which each play adds: given those of a race that was stopped, the
-    same race goes on where it was. `news` is what the lines of progress say, and `hosts` play ahead
-    what would take long here; `work` is a name by which they know what an earlier run left.
+    `opponents` are the paths of the opponents, and `weights` how much each counts; each weight is 1
+    or more. `records` is a list of what was played, to which each play adds: given those of a race
+    that was stopped, the same race goes on where it was. `news` is what the lines of progress say,
+    and `hosts` play ahead what would take long here; `work` is a name by which they know what an
+    earlier run left.
     """
 
     def __init__(self, args, budget, grid, opponents, weights, records, folder, work=None):

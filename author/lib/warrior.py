@@ -42,9 +42,11 @@ def own_lines(template, setting):
     value_of = template.values_by_name(setting)
     lines = [line.decode("latin-1") for line in template.lines]
     lines, _ = slots.author_lines(template.path, lines, value_of)
-    return [(slots.filled(line, {slot: slot.text_of(value_of[slot.name])
-                                 for slot in of_line or ()}), of_line or [])
-            for line, of_line in lines]
+    own = []
+    for line, of_line in lines:
+        texts = {slot: slot.text_of(value_of[slot.name]) for slot in of_line or ()}
+        own.append((slots.filled(line, texts), of_line or []))
+    return own
 
 
 def places_of(template, setting):
@@ -205,9 +207,13 @@ def main():
                 raise
             with temporary_file(path, start_of(read_text(path), path)) as alone:
                 print_text(args, alone)
-        if not (args.original or args.as_template) and (path != args.template or (
-                ADAPTED.encode() in map(bytes.rstrip, read_text(path).split(b"\n")))):
+        if not (args.original or args.as_template) and (path != args.template or has_mark(path)):
             note("this is the adapted text: --original FILE puts the values into yours")
+
+
+def has_mark(path):
+    """Returns whether `cwtune-vary` made a template of an adapted text."""
+    return ADAPTED.encode() in map(bytes.rstrip, read_text(path).split(b"\n"))
 
 
 def print_text(args, path):
