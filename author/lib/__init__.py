@@ -21,8 +21,9 @@ A spread has its options in spread/words. spread/parts and shares say what its j
 as spread/folder makes it. spread/jobs runs them here, and spread/hosts, with job.sh, on other
 hosts; progress shows how far they are, and report puts parts together.
 
-A race is in race, with race_settings, race_model, race_fights, race_hosts (with race_job.sh) and
-race_journal: its new settings, what they may make, its fights, hosts that play ahead, and a file.
+A race is in race. race_settings has its new settings, and race_model guesses what they make.
+race_fights plays, race_hosts, with race_job.sh, has hosts play ahead, and race_journal keeps what
+was played in a file.
 
 A study reads its inputs in study/inputs, and keeps its stages in study/folder. study/race has the
 stages of a template that is too large to be tuned whole; of others study/fresh plays the heats.

@@ -12,7 +12,7 @@ LONGEST_SUM = 200
 
 
 class CountedBlock(NamedTuple):
-    """A block that is in no other: its count as it is written, its copies, and their size."""
+    """A block in no other: its count as written, how many copies, and instructions of each."""
 
     count: Traced
     copies: int

@@ -55,7 +55,7 @@ def blanks(finder):
 
 
 def changes_of_joins(finder):
-    """Yields changes that join outer counters first, unless a name is spelled with its digits."""
+    """Yields changes that join outer counters first. If names spell digits, blocks are unrolled."""
     words = {token.text for line in finder.lines for token in tokens_of(code_of(line.text))}
     bases = {new.partition("&")[0] for found in finder.inverted.values() for _, _, new in found}
     spelled = {word for word in words for base in bases

@@ -13,6 +13,8 @@ from .regular import NotRegular, digest_of, read_regular
 from .schema import checked
 from .tuning_files import MOST_OPPONENTS
 
+# What follows CERT in the name of its file.
+SUFFIX = ".inputs"
 KINDS = ["template", "schedule", "opponent"]
 # More than such a file has, with the longest names.
 MOST_BYTES = 1 << 20
@@ -50,7 +52,7 @@ def inputs_of(text):
 
 def read(cert):
     """Returns which inputs a certificate is for, or a text that says why that is not known."""
-    name = f"{cert}.inputs"
+    name = f"{cert}{SUFFIX}"
     try:
         inputs = inputs_of(read_regular(MOST_BYTES, name))
     except FileNotFoundError:
@@ -100,7 +102,7 @@ def print_note(why_unused):
 
 def refuse_other_tuning(args, cert, part, method):
     """Refuses `cert` if its CERT.inputs, if it is there, is malformed or of another tuning."""
-    if not os.path.exists(f"{cert}.inputs"):
+    if not os.path.exists(f"{cert}{SUFFIX}"):
         return
     inputs = read(cert)
     if isinstance(inputs, str):

@@ -45,7 +45,8 @@ def open_streams():
 
 
 def encoded(error):
-    """Encodes a byte of a name as it is, and another character as a backslash and its number."""
+    """Encodes the first character that a stream cannot: a byte of a name as it is, and another one
+    as a backslash and its number. The stream calls it again for the rest."""
     first = UnicodeEncodeError(error.encoding, error.object, error.start, error.start + 1,
                                error.reason)
     try:
@@ -155,7 +156,7 @@ def ended_with(program, returncode):
 
 
 def end_as(program, returncode, stderr):
-    """Ends as a run of `cwtune` did: with what it wrote on standard error, and with its status."""
+    """Ends as a run of `cwtune` did: with its status and what it wrote, or a fault if nothing."""
     sys.stderr.buffer.write(stderr)
     if returncode < 0 or not stderr:
         raise ended_with(program, returncode)

@@ -13,7 +13,7 @@ them.
 
 Example: cwtune-holdout my.red my.cert
 """
-import functools, math, pathlib, random
+import math, pathlib, random
 from typing import NamedTuple
 
 from . import cert_inputs, tuning_files
@@ -44,6 +44,7 @@ class FreshPoints(NamedTuple):
         return 100 * sum(map(math.prod, zip(means, weights))) / sum(weights)
 
     def error(self):
+        """Returns the standard error of the mean, in percent."""
         weights = self.opponent_weights
         errors = map(math.prod, zip(map(error_of_mean, self.by_opponent), weights))
         return 100 / 3 * math.hypot(*errors) / sum(weights)
@@ -93,7 +94,7 @@ def gain_of(points, weights):
 
 
 def gain_numbers(difference):
-    """Returns a gain in percent, its error, and in words: none within two standard errors."""
+    """Returns a gain in percentage points, its error, and in words, by two standard errors."""
     percent, error = difference.mean(), difference.error()
     words = ("no difference that these fights show" if abs(percent) <= 2 * error
              else "a gain" if percent > 0 else "a loss")
@@ -114,32 +115,40 @@ class Holdout:
         self.fights = self.cert.fights(args.schedule)
         self.weights = weights_by_opponent(args.schedule, len(args.opponents))
         self.ranking = self.cert.ranked(self.fights)
+        self.points = {}
+
+    def schedule(self):
+        """Returns the text of the schedule of the fresh fights, the same in each call."""
+        args, dice = self.args, random.Random(self.args.seed)
+        low, high = args.distance, args.core - args.distance
+        return tuning_files.schedule_text(
+            tuning_files.Fight(opponent, dice.randint(low, high), "co"[index % 2])
+            for opponent in range(len(args.opponents)) for index in range(args.rounds))
 
     def play(self, *asm_words):
-        """Returns what a warrior makes in the fresh fights, which it plays as the only setting of a
-        template. `asm_words` are the words of `cwtune asm` for it."""
-        args, rules, rounds = self.args, rules_of(self.args).words(), self.args.rounds
+        """Returns what a warrior makes as the only setting of a template, at the same positions as
+        all others. `asm_words` are the words of `cwtune asm` for it."""
+        args, rules = self.args, rules_of(self.args).words()
         load_file = output_of(args.program, "asm", *EXPLAIN, *rules, *asm_words)
-        dice, low, high = random.Random(args.seed), args.distance, args.core - args.distance
-        fights = [tuning_files.Fight(opponent, dice.randint(low, high), "co"[index % 2])
-                  for opponent in range(len(args.opponents)) for index in range(rounds)]
         with temporary_folder() as folder:
             files = [pathlib.Path(folder, name) for name in ("t.red", "s.csv", "cert")]
             template, schedule, cert = files
             template.write_bytes(b";@tune ONE 0 0 1 0\n" + load_file)
-            schedule.write_text(tuning_files.schedule_text(fights))
+            schedule.write_text(self.schedule())
             output_of(args.program, "tune", *EXPLAIN, *rules, "--", *files, *args.opponents)
             points = tuning_files.Certificate(cert).points(0)
-        return FreshPoints([[points[index] for index in range(first, first + rounds)]
-                            for first in range(0, len(fights), rounds)], self.weights)
+        rounds = args.rounds
+        return FreshPoints([[points[opponent * rounds + index] for index in range(rounds)]
+                            for opponent in range(len(args.opponents))], self.weights)
 
-    @functools.cache
     def fresh_points(self, setting):
         """Returns what a setting makes in the fresh fights, which it plays once."""
-        return self.play(f"--setting={setting}", "--", self.args.template)
+        if setting not in self.points:
+            self.points[setting] = self.play(f"--setting={setting}", "--", self.args.template)
+        return self.points[setting]
 
     def player(self, setting, rank=None):
-        """Returns the numbers of a setting. Its total is None if it was dropped."""
+        """Returns a setting's numbers: rank None if not exact, total None if it was dropped."""
         return {"setting": setting, "rank": rank if rank and rank <= self.ranking.exact else None,
                 "values": self.template.values_by_name(setting),
                 "total": self.cert.total_of(setting, self.fights),

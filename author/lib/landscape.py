@@ -59,7 +59,7 @@ class Totals:
         counted = {index for index, fight in enumerate(fights)
                    if opponent in (None, fight.opponent)}
         # The other fights weigh nothing.
-        fights = tuning_files.Fights(fight._replace(weight=fight.weight * (index in counted))
+        fights = tuning_files.Fights(fight if index in counted else fight._replace(weight=0)
                                      for index, fight in enumerate(fights))
         for setting in watched(range(cert.count), cert.count, "totals"):
             points = cert.points(setting)

@@ -102,6 +102,7 @@ class OwnFolder:
 
     @contextlib.contextmanager
     def room(self, name):
+        """Gives a block the room of this name, or None if it is not there."""
         if not name:
             yield self.top
             return
@@ -155,7 +156,7 @@ class OwnFolder:
             yield file
 
     def open_to_append(self, name):
-        """Opens a file to append to. Refuses one that has a name elsewhere, too."""
+        """Opens a file to read and append. Refuses a hard link: the other name would change too."""
         with self.room_of(name) as (room, file_name):
             descriptor = os.open(file_name, os.O_RDWR | os.O_APPEND | os.O_CREAT | os.O_NOFOLLOW,
                                  0o666, dir_fd=room.descriptor)
@@ -170,6 +171,7 @@ class OwnFolder:
             file.write(text)
 
     def digest(self, name):
+        """Returns the size and the digest of a file, or None if it is not there."""
         try:
             with self.room_of(name) as (room, file_name):
                 return digest_of(**room.place(file_name))
@@ -187,7 +189,7 @@ class OwnFolder:
                     room.refuse_strange(pattern)
 
     def remove_all(self):
-        """Removes all but the mark, which has to say so before, since a kill may come."""
+        """Removes the command's files and rooms. The mark says so before: a kill may come."""
         for name, pattern in self.patterns():
             with self.room(name) as room:
                 if room:

@@ -142,7 +142,7 @@ def assembled_lines(text):
 
 
 def lines_of(text, adapted=None):
-    """Returns the lines with an opcode or a directive, each with the labels before it, too."""
+    """Returns the opcode and directive lines with their labels. `adapted` is None of own text."""
     lines, waiting, depth, numbers = [], [], 0, set()
     for row, line in assembled_lines(text):
         code = code_of(line)

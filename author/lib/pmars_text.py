@@ -443,7 +443,7 @@ def blank_at(text, at):
 
 
 def lines_of(texts):
-    """Returns what pMARS keeps of the lines, from a `;redcode` to the next, but empty ones."""
+    """Returns the lines that pMARS keeps, from `;redcode` to a second, without comments."""
     kept = []
     heads = [index for index, text in enumerate(texts) if is_head(text)]
     first = heads[0] + 1 if heads else 0

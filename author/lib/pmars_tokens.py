@@ -23,7 +23,8 @@ KIND_OF_SIGN = {**dict.fromkeys(MODES, "mode"), **dict.fromkeys(SIGNS, "sign"), 
 
 
 class Token(NamedTuple):
-    """A token, and where it is in the text that was read. At the end its kind is empty."""
+    """A token, and where it is in the text that was read. Its kind is name, number, sign, other or
+    one of KIND_OF_SIGN, and empty at the end."""
 
     kind: str
     text: str

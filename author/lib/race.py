@@ -122,7 +122,8 @@ class Race:
         return entered
 
     def play(self, contenders, count, limit):
-        """Plays new blocks, of `count` to come, in the part `limit`. Returns who assembles."""
+        """Plays the first of `count` new blocks, in the part `limit` of the race's budget. Returns
+        who played and assembles."""
         blocks, played = self.arena.new_blocks(min(count, BLOCKS_AT_ONCE)), []
         for first in range(0, len(contenders), SETTINGS_AT_ONCE):
             some = contenders[first:first + SETTINGS_AT_ONCE]
@@ -204,8 +205,8 @@ class Race:
         return ranked
 
     def knock_out(self, settings, counts, kept, limit):
-        """Plays settings in heats of fresh blocks, which alone count, `counts` of them in each heat
-        and `kept` in all. Returns the settings as new contenders, the best first."""
+        """Plays settings in heats of fresh blocks, which alone count: in each the best so far, by
+        `counts`, and `kept`. Returns the settings as new contenders, the best first."""
         players, out = [Contender(values) for values in settings], []
         for heat, count in enumerate(counts if len(players) > 1 else ()):
             out = [player for player in players[count:] if player.values != kept] + out
@@ -217,7 +218,8 @@ class Race:
         return players + out
 
     def measure(self, first, second, limit):
-        """Plays two settings in fresh blocks, in the part `limit`. Returns the points of both."""
+        """Plays two settings in fresh blocks, in the part `limit` of the race's budget. Returns
+        for each a text per opponent, with a digit for each block."""
         pair, points = [Contender(first), Contender(second)], ([], [])
         while self.arena.has_room(2 * BLOCKS_AT_ONCE, limit * self.share):
             blocks = self.arena.new_blocks(BLOCKS_AT_ONCE)

@@ -68,10 +68,11 @@ class Positions:
 class Arena:
     """The fights of a race in the settings of a grid: `with` it, they can be played.
 
-    `opponents` are the paths of the opponents, and `weights` how much each counts. `records` is a
-    list of what was played, to which each play adds: given those of a race that was stopped, the
-    same race goes on where it was. `news` is what the lines of progress say, and `hosts` play ahead
-    what would take long here; `work` is a name by which they know what an earlier run left.
+    `opponents` are the paths of the opponents, and `weights` how much each counts; each weight is 1
+    or more. `records` is a list of what was played, to which each play adds: given those of a race
+    that was stopped, the same race goes on where it was. `news` is what the lines of progress say,
+    and `hosts` play ahead what would take long here; `work` is a name by which they know what an
+    earlier run left.
     """
 
     def __init__(self, args, budget, grid, opponents, weights, records, folder, work=None):
@@ -131,7 +132,8 @@ class Arena:
                       for opponent, positions in enumerate(self.positions)) for number in numbers]
 
     def trial_blocks(self):
-        """Returns the first blocks, which START plays alone. They take about two seconds."""
+        """Returns the first blocks, in which START alone plays, to time the race. They take two
+        seconds at most, but in very slow fights."""
         return self.new_blocks(max(1, min(TRIAL_BLOCKS, TRIAL_FIGHTS // len(self.opponents))))
 
     def rates(self, contenders, blocks):
@@ -143,7 +145,8 @@ class Arena:
         return self.record_count < len(self.records)
 
     def play(self, contenders, blocks):
-        """Returns the points of contenders in blocks: a digit for each opponent, or None."""
+        """Returns a text per contender and block, a digit per opponent; None for a contender
+        that does not assemble."""
         settings = [list(contender.values) for contender in contenders]
         if not self.is_recorded():
             points = self.hosts.take(settings, blocks) or self.run(settings, blocks)

@@ -100,7 +100,7 @@ class Hosts:
         self.arena, self.points, self.seconds = arena, {}, 0.0
 
     def play_ahead(self, contenders, blocks, count, limit):
-        """Has hosts play `blocks`, and those to come of `count`, if that takes long here."""
+        """Has hosts play `blocks` and more, `count` in all within `limit`, if that is slow here."""
         arena, settings = self.arena, [contender.values for contender in contenders]
         if (not (arena.args.hosts and arena.plays_of_jobs) or arena.is_recorded()
                 or (settings[0], blocks[0]) in self.points):

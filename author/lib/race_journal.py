@@ -19,7 +19,7 @@ class Record(TypedDict):
 
 
 class Journal(list):
-    """The records of a race, in an open file: a line of JSON for each, but for one that was cut."""
+    """The records of a race, a line of JSON each in an open file. One that was cut is removed."""
 
     def __init__(self, file, shown):
         super().__init__()

@@ -99,7 +99,7 @@ CONTAINERS = {list: checked_list, tuple: checked_tuple, dict: checked_dict}
 
 
 def entries(schema, values, entry):
-    """Returns the entries that a schema names. Refuses values without one that has no default."""
+    """Returns the entries that a schema names. Refuses values that lack one without a default."""
     fields = dataclasses.fields(schema) if dataclasses.is_dataclass(schema) else ()
     optional = {field.name for field in fields if field.default is not dataclasses.MISSING}
     hints = typing.get_type_hints(schema, include_extras=True)

@@ -18,7 +18,7 @@ MOST_ASSEMBLED = 2000
 
 
 def scores_of(setting, cert, fights, template):
-    """Returns a setting's total, None if it was dropped, and scores, None if it is refused."""
+    """Returns a setting's total, None if dropped or refused, and scores, None if refused."""
     points = cert.points(setting)
     opponents = sorted({fight.opponent for fight in fights})
     return {"setting": setting, "values": template and template.values_by_name(setting),

@@ -84,7 +84,7 @@ def make_parser():
     return parser
 
 
-def playing_opponents(args, paths, folder):
+def readable_opponents(args, paths, folder):
     """Yields the paths of opponents. Of those that are adapted these are copies in a folder."""
     for index, (path, text, is_adapted) in enumerate(adapted_opponents(args, paths)):
         if is_adapted:
@@ -96,7 +96,7 @@ def playing_opponents(args, paths, folder):
 def seek(args, grid, opponents, weights):
     """Races. Returns the winner's values and the outcome; after Ctrl-C the best so far and None."""
     with (temporary_folder() as folder,
-          Arena(args, budget_of(args), grid, list(playing_opponents(args, opponents, folder)),
+          Arena(args, budget_of(args), grid, list(readable_opponents(args, opponents, folder)),
                 weights, [], folder) as arena):
         race = Race(grid, arena, args.seed)
         try:

@@ -110,7 +110,7 @@ def is_range_of(line, names):
 
 
 def after_code(path, lines, index, names, code):
-    """Returns the index after `code`, which a kept line before `index` has. Refuses other lines."""
+    """Returns the index after `code`, made of the kept line before `index`. Refuses other lines."""
     number = index
     while index < len(lines) and is_range_of(lines[index], names):
         index += 1

@@ -45,7 +45,7 @@ class Fights(list):
 
 
 class Settings(collections.abc.Sequence):
-    """The values of all settings in order, each made when it is asked for: there may be many."""
+    """The values of all settings, the first constant changing slowest; made when asked for."""
 
     def __init__(self, ranges):
         self.ranges, self.count = ranges, math.prod(map(len, ranges))
@@ -232,8 +232,8 @@ class Ranked(collections.abc.Sequence):
 
 class Ranking(NamedTuple):
     """What a certificate shows of the ranking. `full` has total and index of each setting that
-    played all fights, the best first; the caps of `dropped` settings beat none of the first
-    `exact`."""
+    played all fights, the best first. `dropped` counts the others, none of whose caps beats one of
+    the first `exact`."""
 
     full: Ranked
     dropped: int
@@ -250,7 +250,8 @@ class Certificate(AnyCertificate):
                         f"{self.total}")
 
     def fights(self, schedule):
-        """Returns the fights of `schedule`, or without it as many as the best setting played."""
+        """Returns the fights of `schedule`, or without it as many as the best setting played. Of
+        these only the weight, 1, is right."""
         if schedule:
             fights = read_schedule(schedule)
         elif self.version == 2:
@@ -319,7 +320,7 @@ def read_fight(record):
 
 
 def cap(listed, fights):
-    """Returns the greatest total with the points `listed` by fight; the total if all are."""
+    """Returns the cap of a setting with `listed`, pairs of fight and points: its total if all."""
     weights = fights.weights
     return fights.greatest - sum((3 - points) * weights[fight] for fight, points in listed)
 

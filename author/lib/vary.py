@@ -173,7 +173,7 @@ def source_of(parser, args):
 
 def checked(args, source):
     """Returns a text with what is open in it. Refuses openings whose START is another warrior.
-    START is alone for that, as `cwtune` takes at most a million settings."""
+    START is made the only setting, since `cwtune` takes at most a million."""
     varied = Varied(args.warrior, source, args.ranges)
     load_file = load_file_of_source(args, source)
     refuse_other_warrior("with range lines", varied.template(True), load_file, args.program,

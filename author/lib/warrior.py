@@ -42,9 +42,11 @@ def own_lines(template, setting):
     value_of = template.values_by_name(setting)
     lines = [line.decode("latin-1") for line in template.lines]
     lines, _ = slots.author_lines(template.path, lines, value_of)
-    return [(slots.filled(line, {slot: slot.text_of(value_of[slot.name])
-                                 for slot in of_line or ()}), of_line or [])
-            for line, of_line in lines]
+    own = []
+    for line, of_line in lines:
+        texts = {slot: slot.text_of(value_of[slot.name]) for slot in of_line or ()}
+        own.append((slots.filled(line, texts), of_line or []))
+    return own
 
 
 def places_of(template, setting):
@@ -108,7 +110,7 @@ def with_strategy(lines, line):
 
 
 def last_that_begins(lines, word):
-    """Returns the index of the last line that begins so, of `;redcode` the first; else -1."""
+    """Returns the index of the last line with this beginning, of `;redcode` the first; or -1."""
     found = [index for index, line in enumerate(lines) if line[:len(word)].lower() == word]
     return (found[0] if word == ";redcode" else found[-1]) if found else -1
 
@@ -129,7 +131,7 @@ def setting_of(template, word):
 
 
 def total_of_start(cert, template, schedule):
-    """Returns the total of START, or None if that is not known."""
+    """Returns the total of START, None if it was dropped or the weights are not given."""
     if cert.version == 2 and schedule is None:
         return None
     return cert.total_of(template.start, cert.fights(schedule))
@@ -159,7 +161,8 @@ def checked_text(args, template, setting, totals):
 
 
 def text_put_back(args, template, setting, totals, load_file):
-    """Returns the text of --original with a setting's values; if it cannot, says why."""
+    """Returns the text of --original with a setting's values. If it cannot, notes why, and returns
+    None."""
     try:
         text = finished(original_lines(args, template, setting), template, setting, totals)
         if adapt(args.original, text, rules_of(args), args.program).load_file != load_file:
@@ -204,9 +207,13 @@ def main():
                 raise
             with temporary_file(path, start_of(read_text(path), path)) as alone:
                 print_text(args, alone)
-        if not (args.original or args.as_template) and (path != args.template or (
-                ADAPTED.encode() in map(bytes.rstrip, read_text(path).split(b"\n")))):
+        if not (args.original or args.as_template) and (path != args.template or has_mark(path)):
             note("this is the adapted text: --original FILE puts the values into yours")
+
+
+def has_mark(path):
+    """Returns whether `cwtune-vary` made a template of an adapted text."""
+    return ADAPTED.encode() in map(bytes.rstrip, read_text(path).split(b"\n"))
 
 
 def print_text(args, path):

@@ -13,18 +13,18 @@ def rewrite(line=""):
 class Pace:
     """Writes a line on standard error now and then: at least `pause` seconds after the last one."""
 
-    def __init__(self, pause=15):
-        self.pause, self.told_at = pause, time.monotonic()
+    def __init__(self, pause=15, told_at=None):
+        self.pause, self.told_at = pause, time.monotonic() if told_at is None else told_at
 
-    def is_due(self):
-        """Returns whether a line may be written now, which is then the last one."""
+    def begins_pause(self):
+        """Returns whether the pause is over. If so, another one begins."""
         if time.monotonic() - self.told_at < self.pause:
             return False
         self.told_at = time.monotonic()
         return True
 
     def tell(self, line):
-        if self.is_due():
+        if self.begins_pause():
             tell(line)
 
 
@@ -37,7 +37,7 @@ def watched(items, count, what):
     """Yields the items, of which there are `count`, and now and then shows how many were."""
     shown = False
     for index, item in enumerate(items):
-        if index % 1024 == 1023 and PACE.is_due():
+        if index % 1024 == 1023 and PACE.begins_pause():
             (rewrite if AT_TERMINAL else tell)(f"{what}: {index + 1} of {count}")
             shown = AT_TERMINAL
         yield item

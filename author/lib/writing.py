@@ -67,11 +67,12 @@ def open_new(folder, name, mode):
 def remove_left(folder, pattern):
     """Removes what killed runs of this user have left in a folder. The pattern is of the names,
     with the process id of the maker as its last group: what a process still makes stays. One on
-    another host holds a lock."""
+    another host holds a lock. Without /proc no maker is seen, and only the locks protect."""
     with contextlib.suppress(OSError):
         for name in os.listdir(folder):
             match = re.fullmatch(pattern, name)
             pid = match and match.groups()[-1]
+            # A file with this process's id is of an earlier one.
             if match and (pid == str(os.getpid()) or not os.path.exists(f"/proc/{pid}")):
                 remove_unlocked(os.path.join(folder, name))
 

@@ -1,7 +1,7 @@
 """Tries the commands for authors on the examples: `python3 -m author.tests.run`, or `make tools`.
 
 `run` has the stored results (expected/), helps and closed streams, and plays the trials of
-the other modules, of which each says in its first line what it tries.
+the other modules, of which each says in its first sentence what it tries.
 
 Each has classes of `trial.Trial`, a `unittest.TestCase`. A trial is a method `test_..`; each thing
 that it compares is a subtest. What failed is named after its module and its trial, as

@@ -59,8 +59,8 @@ class Origins(Trial):
             self.same(f"{words} by CERT.inputs", (0, True, ""), (status, line in out, err))
         self.refused(OTHER_INPUTS)
         (self.folder / "s.csv").rename(self.folder / "moved.csv")
-        self.refused(usage_errors("cwtune-scores", {
-            "cert": "give SCHEDULE: the schedule of the tuning is not there"}))
+        self.refused(usage_errors("cwtune-scores", [
+            ("cert", "give SCHEDULE: the schedule of the tuning is not there")]))
         self.write("t.red", FILES["other.red"])
         self.refused([Refusal(HOLDOUT, 2, "error: t.red is not the template of the tuning")])
 
@@ -86,7 +86,7 @@ class Origins(Trial):
             self.same(why_unused, (0, GAIN, note(why_unused)), self.call(
                 f"{HOLDOUT} --core=800 --schedule s.csv dat.red imp.red"))
             for words, missing in [(HOLDOUT, "OPPONENT.."), ("cwtune-scores cert", "SCHEDULE")]:
-                self.refused(usage_errors(words, {"": f"give {missing}: {why_unused}"}))
+                self.refused(usage_errors(words, [("", f"give {missing}: {why_unused}")]))
 
     def test_writers(self):
         version_line = run_program(self.program, "--version").stdout.decode()

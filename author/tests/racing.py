@@ -26,10 +26,10 @@ REFUSALS = [
     Refusal("cwtune-seek none s.csv dat.red", 3, "failed: none: No such file or directory"),
     Refusal("cwtune-seek plane.red two.csv dat.red imp.red", 2,
             "error: two.csv has fights against more opponents than were given"),
-    *usage_errors(f"cwtune-seek {RACED}", {
-        "--fights=999": "argument --fights: 999 is not 1000 or more",
-        "--minutes=0": "argument --minutes: 0 is not 0.01 to 100000",
-        "--minutes=x": "argument --minutes: x is not a number of minutes"}),
+    *usage_errors(f"cwtune-seek {RACED}", [
+        ("--fights=999", "argument --fights: 999 is not 1000 or more"),
+        ("--minutes=0", "argument --minutes: 0 is not 0.01 to 100000"),
+        ("--minutes=x", "argument --minutes: x is not a number of minutes")]),
     Refusal(f"cwtune-seek --hosts=empty {RACED}", 2, "error: empty: no host in it"),
     Refusal(f"cwtune-seek --hosts=none {RACED}", 3, "failed: none: No such file or directory"),
     Refusal("cwtune-seek one.red s.csv dat.red imp.red", 1,

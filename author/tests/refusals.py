@@ -5,7 +5,7 @@ names of those that are refused say what is wrong with them.
 """
 import os
 
-from .trial import TUNING, Refusal, Trial, python_with_matplotlib, refusals, usage_errors
+from .trial import TUNING, Refusal, Trial, python_with_matplotlib, refusals_of, usage_errors
 
 # Files that are read as they should be.
 RIGHT = {
@@ -108,57 +108,62 @@ OF_WRONG_TEMPLATES = [
     *(Refusal(f"{words} 65537-bytes.red", 1,
               "refused: 65537-bytes.red: 65537 bytes, more than the 65536 of a template")
       for words in ["cwtune-files", "cwtune-scores step.cert schedule.csv --template"]),
-    *refusals("cwtune-scores step.cert schedule.csv --template", 1, {
-        "four-words.red": "refused: four-words.red: line 2 is not a range line: ;@tune NAME LOW "
-                          "HIGH STEP START, with START one of the values",
-        "constant-twice.red": "refused: constant-twice.red: two range lines of one constant",
-        "too-many-settings.red": "refused: too-many-settings.red: more than 1000000 settings"}),
+    *refusals_of("cwtune-scores step.cert schedule.csv --template", 1, [
+        ("four-words.red", "refused: four-words.red: line 2 is not a range line: ;@tune NAME LOW "
+                           "HIGH STEP START, with START one of the values"),
+        ("constant-twice.red", "refused: constant-twice.red: two range lines of one constant"),
+        ("too-many-settings.red", "refused: too-many-settings.red: more than 1000000 settings")]),
 ]
 OF_ANOTHER_SCHEDULE = [
     *(Refusal(words, 2, f"error: {cert} is not a certificate of the schedule {schedule}")
       for words, cert, schedule in [
-          *((f"cwtune-scores {cert} {schedule}", cert, schedule) for cert, schedule in [
-              ("step.cert", "other.csv"), ("step.cert", "weighted.csv"),
-              ("more-than-the-best.cert", "two.csv"), ("no-such-fight.cert", "two.csv")]),
+          ("cwtune-scores step.cert other.csv", "step.cert", "other.csv"),
+          ("cwtune-scores step.cert weighted.csv", "step.cert", "weighted.csv"),
+          ("cwtune-scores more-than-the-best.cert two.csv", "more-than-the-best.cert", "two.csv"),
+          ("cwtune-scores no-such-fight.cert two.csv", "no-such-fight.cert", "two.csv"),
           ("cwtune-landscape step.red step.cert x.png --schedule other.csv", "step.cert",
            "other.csv")]),
-    *(Refusal(words.format(cert), 2,
-              f"error: {cert}: its rows are not those of its best setting and total")
+    *(Refusal(words, 2, f"error: {cert}: its rows are not those of its best setting and total")
       for words, cert in [
-          ("cwtune-holdout --top 1 two.red {} x.red", "more-than-the-best.cert"),
-          ("cwtune-holdout --top 1 two.red {} x.red", "no-fights.cert"),
-          ("cwtune-landscape two.red {} x.png", "no-such-fight.cert"),
-          ("cwtune-landscape step.red {} x.png", "total-17-and-not-16.cert")]),
+          ("cwtune-holdout --top 1 two.red more-than-the-best.cert x.red",
+           "more-than-the-best.cert"),
+          ("cwtune-holdout --top 1 two.red no-fights.cert x.red", "no-fights.cert"),
+          ("cwtune-landscape two.red no-such-fight.cert x.png", "no-such-fight.cert"),
+          ("cwtune-landscape step.red total-17-and-not-16.cert x.png",
+           "total-17-and-not-16.cert")]),
 ]
 WRONG_WORDS = [
-    *usage_errors("cwtune-scores", {
-        "four-rules.cert": "give SCHEDULE: four-rules.cert.inputs is malformed",
-        "--json --csv step.cert schedule.csv": "argument --csv: not allowed with argument --json",
-        "step.cert schedule.csv --top -3": "argument --top: -3 is not 1 or more",
-        "step.cert schedule.csv --top x": "argument --top: invalid number value: 'x'"}),
-    *usage_errors("cwtune-series", {
-        "1234 -5 -2": "argument ROUNDS: -5 is not 1 to 10000",
-        "1234 5 65": "argument OPPONENTS: 65 is not 1 to 64",
-        "1234 5 2 --core 70000": "argument --core: 70000 is not 8 to 65535",
-        "1234 5 2 --distance 0": "argument --distance: 0 is not 1 to 32767",
-        "40 5 2 --core 79 --distance 40": "--distance is more than half of --core",
-        "100 5 2 --hill lp": "SEED 100 is not 200 to 7800, the positions that pMARS takes",
-        "1234 5 2 --hill x": "argument --hill: invalid choice: 'x' (choose from '94nop', 'tiny', "
-                             "'nano', 'lp')"}),
-    *usage_errors("cwtune-holdout two.red more-than-the-best.cert x.red", {
-        "--rounds 10001": "--rounds 10001 against 1 opponent: more than 10000 fights",
-        "--distance 4001": "--distance is more than half of --core"}),
-    *usage_errors("cwtune-landscape", {
-        "stone.red all-fights.cert x.png --axes STEP,STEP":
-            "--axes takes two of the constants STEP, FIRST, as in A,B",
-        "stone.red all-fights.cert x.png --opponent 1": "--opponent needs --schedule",
-        "stone.red all-fights.cert x.png --schedule schedule.csv --opponent 5":
-            "--opponent 5: the opponents of the schedule are 0, 1, 2, 3, 4",
-        "plain.red plain.cert x.png": "the template has no constants to draw",
-        **{f"step.red step.cert {words}{name}":
-           f"the picture's name has to end with .png or .svg: {name}"
-           for words, name in [("", "x.jpg"), ("", "x"), ("", "png"), ("x.svg --effects=", "y.jpg"),
-                               ("x.svg --effects=", "svg")]}}),
+    *usage_errors("cwtune-scores", [
+        ("four-rules.cert", "give SCHEDULE: four-rules.cert.inputs is malformed"),
+        ("--json --csv step.cert schedule.csv", "argument --csv: not allowed with argument --json"),
+        ("step.cert schedule.csv --top -3", "argument --top: -3 is not 1 or more"),
+        ("step.cert schedule.csv --top x", "argument --top: invalid number value: 'x'")]),
+    *usage_errors("cwtune-series", [
+        ("1234 -5 -2", "argument ROUNDS: -5 is not 1 to 10000"),
+        ("1234 5 65", "argument OPPONENTS: 65 is not 1 to 64"),
+        ("1234 5 2 --core 70000", "argument --core: 70000 is not 8 to 65535"),
+        ("1234 5 2 --distance 0", "argument --distance: 0 is not 1 to 32767"),
+        ("40 5 2 --core 79 --distance 40", "--distance is more than half of --core"),
+        ("100 5 2 --hill lp", "SEED 100 is not 200 to 7800, the positions that pMARS takes"),
+        ("1234 5 2 --hill x", "argument --hill: invalid choice: 'x' (choose from '94nop', 'tiny', "
+                              "'nano', 'lp')")]),
+    *usage_errors("cwtune-holdout two.red more-than-the-best.cert x.red", [
+        ("--rounds 10001", "--rounds 10001 against 1 opponent: more than 10000 fights"),
+        ("--distance 4001", "--distance is more than half of --core")]),
+    *usage_errors("cwtune-landscape", [
+        ("stone.red all-fights.cert x.png --axes STEP,STEP",
+         "--axes takes two of the constants STEP, FIRST, as in A,B"),
+        ("stone.red all-fights.cert x.png --opponent 1", "--opponent needs --schedule"),
+        ("stone.red all-fights.cert x.png --schedule schedule.csv --opponent 5",
+         "--opponent 5: the opponents of the schedule are 0, 1, 2, 3, 4"),
+        ("plain.red plain.cert x.png", "the template has no constants to draw"),
+        ("step.red step.cert x.jpg", "the picture's name has to end with .png or .svg: x.jpg"),
+        ("step.red step.cert x", "the picture's name has to end with .png or .svg: x"),
+        ("step.red step.cert png", "the picture's name has to end with .png or .svg: png"),
+        ("step.red step.cert x.svg --effects=y.jpg",
+         "the picture's name has to end with .png or .svg: y.jpg"),
+        ("step.red step.cert x.svg --effects=svg",
+         "the picture's name has to end with .png or .svg: svg")]),
 ]
 NOT_ASSEMBLED = [
     Refusal("cwtune-vary two-equs.red STEP=1:9", 1,
@@ -179,11 +184,11 @@ NOT_CWTUNE = [
 WRONG_MERGES = [
     Refusal("cwtune-spread --merge 3 two.red two.csv x.cert plain.red", 2,
             "error: --merge 3: the template has fewer than 3 settings"),
-    *usage_errors("cwtune-spread two.red two.csv x.cert x.red", {
-        "--merge 1000001": "argument --merge: 1000001 is not 1 to 1000000",
-        **{f"--check-only --merge 2 {option} 2":
-           f"argument --check-only --merge: not allowed with argument {option}"
-           for option in ["--shares", "--work"]}}),
+    *usage_errors("cwtune-spread two.red two.csv x.cert x.red", [
+        ("--merge 1000001", "argument --merge: 1000001 is not 1 to 1000000"),
+        *((f"--check-only --merge 2 {option} 2",
+           f"argument --check-only --merge: not allowed with argument {option}")
+          for option in ["--shares", "--work"])]),
 ]
 REFUSALS = [*CANNOT_BE_READ, *OF_ANOTHER_KIND, *NO_BEST_SETTING, *OF_WRONG_TEMPLATES,
             *OF_ANOTHER_SCHEDULE, *WRONG_WORDS, *NOT_ASSEMBLED, *NOT_CWTUNE, *WRONG_MERGES]

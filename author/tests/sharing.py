@@ -101,9 +101,9 @@ class Sharing(SpreadTrial):
                       self.spread(*CHECK_ONLY))
             job.send_signal(signal.SIGCONT)
             self.same("the first one ends as it does alone", 0, job.wait(SECONDS))
-        self.refused(usage_errors(f"cwtune-spread {' '.join(CHECK_ONLY)}", {
-            option: f"argument --check-only: not allowed with argument {option.partition('=')[0]}"
-            for option in ["--all", "--parts=3"]}))
+        self.refused(usage_errors(f"cwtune-spread {' '.join(CHECK_ONLY)}", [
+            ("--all", "argument --check-only: not allowed with argument --all"),
+            ("--parts=3", "argument --check-only: not allowed with argument --parts")]))
 
     def test_with_a_tuning(self):
         """Checks what a tuning in parts found, and kills it between tuning and check."""

@@ -98,7 +98,8 @@ class SpreadTrial(Trial):
             removed(self.folder / name)
 
     def kill_by_chance(self, seed, moments, seconds, *words, kind="parts"):
-        """Kills `cwtune-spread` at some moments, and compares what it says. Yields after each."""
+        """Kills `cwtune-spread` within `seconds` after each of `moments`, counts of done pieces.
+        Yields after each, and then compares what it said."""
         dice, kills = random.Random(seed), []
         for pieces in moments:
             signal_number = dice.choice([signal.SIGKILL, signal.SIGINT, signal.SIGTERM])

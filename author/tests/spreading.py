@@ -11,16 +11,16 @@ from .spread_trial import (DECOY, OPPONENTS, RANKED, SCHEDULE, SMALL, TWELVE, Sp
                            left_over, without_fights)
 from .trial import SECONDS, usage_errors, wait_until
 
-WRONG_OPTIONS = usage_errors(f"cwtune-spread {' '.join(SMALL)}", {
-    **{f"{name}={number}": f"argument {name}: {number} is not 1 or more"
-       for name, number in [("--jobs", 0), ("--jobs", -1), ("--parts", 0), ("--parts", -3)]},
-    **{f"--keep={number}": f"argument --keep: {number} is not 1 to 1000"
-       for number in [0, 1001, -2]},
-    **{f"{option} {other}=2": f"argument {option[:7]}: not allowed with argument {other}"
-       for option, other in [("--merge=2", "--parts"), ("--merge=2", "--hosts")]},
-    "--all --cache=5": "argument --cache: not allowed with argument --all",
-    **{f"{name}=2": f"argument {name}: needs --check or --check-only"
-       for name in ["--shares", "--work"]}})
+WRONG_OPTIONS = usage_errors(f"cwtune-spread {' '.join(SMALL)}", [
+    *((f"{name}={number}", f"argument {name}: {number} is not 1 or more")
+      for name, number in [("--jobs", 0), ("--jobs", -1), ("--parts", 0), ("--parts", -3)]),
+    *((f"--keep={number}", f"argument --keep: {number} is not 1 to 1000")
+      for number in [0, 1001, -2]),
+    ("--merge=2 --parts=2", "argument --merge: not allowed with argument --parts"),
+    ("--merge=2 --hosts=2", "argument --merge: not allowed with argument --hosts"),
+    ("--all --cache=5", "argument --cache: not allowed with argument --all"),
+    *((f"{name}=2", f"argument {name}: needs --check or --check-only")
+      for name in ["--shares", "--work"])])
 
 
 class Spreading(SpreadTrial):

@@ -36,7 +36,7 @@ class StudyTrial(Trial):
         return json.loads(self.read(f"{name}.study/report.json"))
 
     def own_lines(self, name, index):
-        """Returns which lines of a winner are not the warrior's, but STRATEGY at `index`."""
+        """Returns the winner's lines that are not the warrior's, but for STRATEGY at `index`."""
         lines = self.read(f"{name}.study/winner.red").decode().split("\n")
         own = self.read(f"{name}.red").decode().split("\n")
         if not lines.pop(index).startswith(";strategy cwtune: ") or len(lines) != len(own):

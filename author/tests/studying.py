@@ -6,7 +6,7 @@ import fcntl, json, os, random, shutil, signal, subprocess, time
 from author.lib import grid, tuning_files
 
 from .study_trial import FEW, OPPONENTS, PLANE, TEMPLATE, WARRIOR, StudyTrial
-from .trial import AUTHOR, SECONDS, Refusal, refusals, usage_errors, wait_until
+from .trial import AUTHOR, SECONDS, Refusal, refusals_of, usage_errors, wait_until
 
 STAGES = ["inputs", "schedule", "template", "best", "fresh 1", "fresh 2", "fresh 3", "fresh 4",
           "fresh 5", "winner", "report"]
@@ -15,32 +15,33 @@ FOREIGN = "error: mine is not a folder of this cwtune-study, and is not touched{
 FORM = ("is not of the form PLACE=LOW:HIGH:STEP or PLACE=VALUE,VALUE, as STEP=5:4000:10 or "
         "throw.b=-40,-25, without blanks")
 REFUSALS = [
-    *usage_errors("cwtune-study", {
-        "t.red": "OPPONENT is missing: files, or a folder with files *.red",
-        "STEP=1:2 K=1:2": "WARRIOR is missing: a template, or a warrior with words PLACE=VALUES",
-        **{f"w.red all {word}": f"{word} {FORM}" for word in ["STEP=1", "s1-b=1:9"]},
-        "w.red all s1.mode=<,>":
-            "s1.mode=<,>: there is no field mode; there are a b a-mode b-mode modifier opcode",
-        "w.red all STEP=1:9 STEP=1:9": "STEP has two ranges",
-        f"t.red {'all ' * 22}": "66 opponents; at most 64",
-        "--rounds=4000 t.red all": "--rounds 4000 against 3 opponents: more than 10000 fights",
-        "--fresh=4000 t.red all": "--fresh 4000 against 3 opponents: more than 10000 fights",
-        "--fresh=0 t.red all": "argument --fresh: 0 is not 1 to 10000",
-        "--seed=4 t.red all": "--seed 4 is not 5 to 75, the positions that pMARS takes",
-        "--distance=41 t.red all": "--distance is more than half of --core"}),
-    *refusals("cwtune-study", 1, {
-        "w.red all": "refused: w.red: no range line: give words PLACE=VALUES too (`cwtune-vary "
-                     "w.red` lists the places)",
-        "t.red all STEP=1:9:2": "refused: t.red: it has range lines, so it is a template already",
-        "three-words.red all": "refused: three-words.red: line 1 is not a range line: ;@tune NAME "
-                               "LOW HIGH STEP START, with START one of the values",
-        "no-start.red all": "refused: START of no-start.red does not assemble: Asm line 3 Value "
-                            "DivisionByZero",
-        "t.red long.red": "refused: long.red does not assemble: Asm line 0 Warrior TooLong"}),
-    *refusals("cwtune-study", 2, {
-        "t.red empty": "error: empty: no file *.red in this folder",
-        "--out=\udcff t.red all": "error: the name of the folder is not UTF-8, which cwtune wants",
-        "--out=t.red t.red all": "error: t.red is a file, and is not touched"}),
+    *usage_errors("cwtune-study", [
+        ("t.red", "OPPONENT is missing: files, or a folder with files *.red"),
+        ("STEP=1:2 K=1:2", "WARRIOR is missing: a template, or a warrior with words PLACE=VALUES"),
+        *((f"w.red all {word}", f"{word} {FORM}") for word in ["STEP=1", "s1-b=1:9"]),
+        ("w.red all s1.mode=<,>",
+         "s1.mode=<,>: there is no field mode; there are a b a-mode b-mode modifier opcode"),
+        ("w.red all STEP=1:9 STEP=1:9", "STEP has two ranges"),
+        (f"t.red {'all ' * 22}", "66 opponents; at most 64"),
+        ("--rounds=4000 t.red all", "--rounds 4000 against 3 opponents: more than 10000 fights"),
+        ("--fresh=4000 t.red all", "--fresh 4000 against 3 opponents: more than 10000 fights"),
+        ("--fresh=0 t.red all", "argument --fresh: 0 is not 1 to 10000"),
+        ("--seed=4 t.red all", "--seed 4 is not 5 to 75, the positions that pMARS takes"),
+        ("--distance=41 t.red all", "--distance is more than half of --core")]),
+    *refusals_of("cwtune-study", 1, [
+        ("w.red all", "refused: w.red: no range line: give words PLACE=VALUES too (`cwtune-vary "
+                      "w.red` lists the places)"),
+        ("t.red all STEP=1:9:2", "refused: t.red: it has range lines, so it is a template already"),
+        ("three-words.red all", "refused: three-words.red: line 1 is not a range line: ;@tune NAME "
+                                "LOW HIGH STEP START, with START one of the values"),
+        ("no-start.red all", "refused: START of no-start.red does not assemble: Asm line 3 Value "
+                             "DivisionByZero"),
+        ("t.red long.red", "refused: long.red does not assemble: Asm line 0 Warrior TooLong")]),
+    *refusals_of("cwtune-study", 2, [
+        ("t.red empty", "error: empty: no file *.red in this folder"),
+        ("--out=\udcff t.red all",
+         "error: the name of the folder is not UTF-8, which cwtune wants"),
+        ("--out=t.red t.red all", "error: t.red is a file, and is not touched")]),
     *(Refusal(f"cwtune-study {words}", 3, f"failed: {name}: No such file or directory")
       for words, name in [("t.red none.red", "none.red"), ("t.red none.red=2", "none.red=2"),
                           ("none.red all", "none.red"), ("--out=none/x t.red all", "none/x")]),

@@ -36,15 +36,17 @@ class Refusal(NamedTuple):
     line: str
 
 
-def refusals(command, status, lines):
-    """Returns the refusals of a command, given their lines by the words after it."""
-    return [Refusal(f"{command} {words}".rstrip(), status, line) for words, line in lines.items()]
+def refusals_of(command, status, pairs):
+    """Returns the refusals of a command, given as pairs: the words after it, and the line."""
+    return [Refusal(f"{command} {words}".rstrip(), status, line) for words, line in pairs]
 
 
-def usage_errors(command, messages):
-    """Returns the refusals of command lines that are wrong in themselves, given as `refusals`."""
-    return refusals(command, 2, {words: f"{command.split()[0]}: error: {message}"
-                                 for words, message in messages.items()})
+def usage_errors(command, pairs):
+    """Returns the refusals of command lines that are wrong in themselves, given as pairs: the words
+    after the command, and the message."""
+    name = command.split()[0]
+    return refusals_of(command, 2, [(words, f"{name}: error: {message}")
+                                    for words, message in pairs])
 
 
 def command(name, *words, python=sys.executable):
@@ -149,8 +151,8 @@ class Trial(unittest.TestCase, Place):
     def same(self, name, expected, came):
         self.wrong(*compare(name, expected, came))
 
-    def refused(self, all_refused, **options):
-        for words, status, line in all_refused:
+    def refused(self, refusals, **options):
+        for words, status, line in refusals:
             self.same(words, (status, "", f"{line}\n"), self.call(words, **options))
 
     def write(self, name, text):
@@ -218,7 +220,7 @@ def name_of(test):
 
 
 def broke_off(fault):
-    """Returns that an exception ended a trial, and the last line of the trial."""
+    """Returns where a trial broke off. Any exception may come of a command that failed."""
     lines = [(pathlib.Path(frame.filename), frame.lineno)
              for frame in traceback.extract_tb(fault.__traceback__)]
     of_trials = [(path, number) for path, number in lines

@@ -1,7 +1,7 @@
 """Plays `cwtune-vary` with the program."""
 import subprocess
 
-from .trial import SECONDS, Refusal, Trial, command, refusals, usage_errors
+from .trial import SECONDS, Refusal, Trial, command, refusals_of, usage_errors
 
 TEXT = """;redcode-94
 ;name Two Numbers
@@ -139,10 +139,11 @@ TEXTS = {"two.red": TEXT, "label.red": "K EQU 1\nMOV K, 1/K\nDAT 1/(K-1)\n",
          "ranges.red": ";@tune K 0 1 1 0\nMOV 0, 1\n",
          "none.red": ";redcode\nK = 5\nMOV 0, K\n"}
 WRONG_RANGES = [
-    *refusals("cwtune-vary", 1, {
-        "label.red K=1:2": "refused: label.red does not assemble: Asm line 3 Value DivisionByZero",
-        "none.red": "refused: none.red does not assemble: Asm line 2 Expand Text BadByte",
-        "ranges.red": "refused: ranges.red: it has range lines, so it is a template already"}),
+    *refusals_of("cwtune-vary", 1, [
+        ("label.red K=1:2",
+         "refused: label.red does not assemble: Asm line 3 Value DivisionByZero"),
+        ("none.red", "refused: none.red does not assemble: Asm line 2 Expand Text BadByte"),
+        ("ranges.red", "refused: ranges.red: it has range lines, so it is a template already")]),
     *(Refusal(f"cwtune-vary two.red {word}", 1, f"refused: two.red{fault}") for word, fault in [
         ("both=1:9", ", line 6: STEP+1 is not a plain number, so both can have no range; it has "
                      "both.1=1"),
@@ -158,9 +159,9 @@ WRONG_RANGES = [
         ("both.2=1:9", ", line 6: both has 1 number, and no both.2")]),
     Refusal("cwtune-vary two.red STEP=1:9 4.1=2:5", 2,
             "error: two.red, line 4: STEP and STEP.1 are in one place"),
-    *usage_errors("cwtune-vary two.red", {
-        "STEP=1:9 STEP=2:5": "STEP has two ranges",
-        **{word: f"argument PLACE=VALUES: {word}{fault}" for word, fault in [
+    *usage_errors("cwtune-vary two.red", [
+        ("STEP=1:9 STEP=2:5", "STEP has two ranges"),
+        *((word, f"argument PLACE=VALUES: {word}{fault}") for word, fault in [
             *((word, FORM) for word in ["STEP=1", "STEP=a:b", "STEP", "STEP=1,", "bomb.b.0=1:2"]),
             *((word, f": there is no field {field}; there are a b a-mode b-mode modifier opcode")
               for word, field in [("bomb.c=1:2", "c"), ("bomb.mode=<,>", "mode")]),
@@ -168,7 +169,7 @@ WRONG_RANGES = [
             ("STEP=1:99999", ": values are -65535 to 65535"),
             ("bomb.a-mode=#,q", f": q is no mode; there are {MODES}"),
             ("bomb.modifier=ab,", ": nothing is no modifier; there are a b ab ba f x i"),
-            ("bomb.opcode=ldp", f": ldp is no opcode; there are {OPCODES}")]}}),
+            ("bomb.opcode=ldp", f": ldp is no opcode; there are {OPCODES}")])]),
 ]
 
 

@@ -5,7 +5,7 @@ from author.lib import tuning_files, warrior
 from author.lib.program import assemble
 
 from .origins import note
-from .trial import TUNING, Trial, refusals, usage_errors
+from .trial import TUNING, Trial, refusals_of, usage_errors
 
 FIGHT = "opponent,position,first\n0,4000,c\n"
 # Templates with range lines at unusual places, and how many settings they have.
@@ -23,14 +23,16 @@ CHAIN = b"".join([b";@tune K 3 4 1 3\n",
                   *(b"e%d EQU e%d\n" % (number, number + 1) for number in range(1, 16)),
                   b"e16 EQU K\nDAT e1\n"])
 WRONG_WORDS = [
-    *refusals("cwtune-warrior", 2, {
-        "stone.red step.cert": "error: the certificate is of 21 settings, and the template has 273",
-        "step.red --setting 21": "error: the template has 21 settings, from 0"}),
-    *usage_errors("cwtune-warrior step.red", {
-        "": "CERT is missing: give it, or --setting W",
-        "step.cert --setting 0": "give CERT or --setting, and not both",
-        **{f"--setting {word}": f"argument --setting: {word} is neither an index from 0 nor `start`"
-           for word in ["x", "-1"]}}),
+    *refusals_of("cwtune-warrior", 2, [
+        ("stone.red step.cert",
+         "error: the certificate is of 21 settings, and the template has 273"),
+        ("step.red --setting 21", "error: the template has 21 settings, from 0")]),
+    *usage_errors("cwtune-warrior step.red", [
+        ("", "CERT is missing: give it, or --setting W"),
+        ("step.cert --setting 0", "give CERT or --setting, and not both"),
+        *((f"--setting {word}",
+           f"argument --setting: {word} is neither an index from 0 nor `start`")
+          for word in ["x", "-1"])]),
 ]
 
 

@@ -56,6 +56,13 @@ def refuse_faults(args):
         end_as(args.program, completed.returncode, completed.stderr)
 
 
+def refuse_endless(paths):
+    """Refuses what is there and can keep a reader waiting for ever."""
+    for path in paths:
+        if os.path.exists(path) and not (os.path.isfile(path) or os.path.isdir(path)):
+            raise NotRegular(path)
+
+
 def explain_words(args):
     return ["--explain"] if args.explain or EXPLAIN else []
 
@@ -76,7 +83,7 @@ def method_of(args):
 
 
 def count_settings(args):
-    """Returns the settings, which the program counts, and its notes, which this shows."""
+    """Returns the number of settings, as the program counts, and its notes, which are shown."""
     completed = run_program(args.program, "settings", *explain_words(args), "--", args.template)
     if completed.returncode != 0:
         end_as(args.program, completed.returncode, completed.stderr)
@@ -129,7 +136,7 @@ def explaining_stop(folder, progress):
 
 
 def run_jobs(args, folder, progress):
-    """Runs the pieces that are not done, but those of a cluster. Returns the faults by number."""
+    """Runs the pieces left, unless a cluster did. Returns faults by number, None for no fault."""
     if not isinstance(folder, SpreadFolder):
         return {number: folder.fault(number) for number in progress.numbers_left()}
     faults = {}
@@ -219,10 +226,11 @@ def finish(args, folder, progress, notes):
 
 
 def write_inputs(args):
-    """Writes CERT.inputs beside a regular CERT, as `tune` does, or removes an older one."""
+    """Writes CERT.inputs beside a regular CERT; if that fails, removes an older one."""
     if not os.path.isfile(args.cert):
         return
-    name, files = f"{args.cert}.inputs", [args.template, args.schedule, *args.opponent]
+    name = f"{args.cert}{cert_inputs.SUFFIX}"
+    files = [args.template, args.schedule, *args.opponent]
     try:
         printed = run_program(args.program, "--version").stdout.decode()
         version = printed.removeprefix("cwtune ").strip()
@@ -267,10 +275,7 @@ def main():
     parser = make_parser()
     args = parser.parse_args()
     refuse_idle(parser, args)
-    for path in [args.template, args.schedule, *args.opponent, *[args.cert] * args.check_only]:
-        # It could keep a reader waiting for ever.
-        if os.path.exists(path) and not (os.path.isfile(path) or os.path.isdir(path)):
-            raise NotRegular(path)
+    refuse_endless([args.template, args.schedule, *args.opponent, *[args.cert] * args.check_only])
     if not args.check_only:
         refuse_faults(args)
         return tune(args, *count_settings(args))

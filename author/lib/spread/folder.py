@@ -39,7 +39,7 @@ class Copy(NamedTuple):
 
 @dataclasses.dataclass
 class Mark:
-    """What `spread.json` says: of what pieces, how many, and the fingerprint `of` the inputs."""
+    """What `spread.json` says: `parts` pieces, `count` settings, the fingerprint `of` inputs."""
 
     by: str
     piece: str
@@ -75,7 +75,7 @@ class ClusterPieces(Pieces):
         return read_regular(MOST_REPORT_BYTES, f"{self.given_path}.{number}.{kind}").decode()
 
     def fault_in(self, kind, otherwise):
-        """Returns the fault that a job wrote to a file, or what to say if it wrote none."""
+        """Returns the fault that a job wrote, `otherwise` if it wrote none, or where to look."""
         path = f"{self.given_path}.{kind}"
         try:
             lines = pathlib.Path(path).read_text(errors="replace").splitlines()
@@ -106,8 +106,8 @@ class SpreadFolder(Pieces, OwnFolder):
     SENT_KINDS = []
 
     def __init__(self, args, given_path, copies, options, piece_count, setting_count):
-        """Opens or makes the folder, of the files `copies` and by kind of what else pieces depend
-        on. A folder that is not new keeps the counts of its mark."""
+        """Opens or makes the folder. `copies` are its input files, `options` what else its pieces
+        depend on, by kind. A folder that is not new keeps the counts of its mark."""
         super().__init__(given_path)
         self.copies, self.input_options, self.pid = copies, options, os.getpid()
         self.work = self.path  # what hosts keep of it is known by this name
@@ -151,7 +151,7 @@ class SpreadFolder(Pieces, OwnFolder):
         return digests | self.input_options
 
     def fill(self, piece_count, setting_count):
-        """Makes the folder anew, and returns its mark, which is written once all is there."""
+        """Makes the folder anew, its mark empty until all copies are there. Returns the mark."""
         mark = Mark(self.maker(), self.PIECE)
         self.write_mark(mark)
         self.remove_all()
@@ -196,7 +196,7 @@ class SpreadFolder(Pieces, OwnFolder):
             json.dump(result, file)
 
     def read_done(self, number):
-        """Returns what is written of a piece, None if it is not done or was cut."""
+        """Returns what is written of a piece, None if not done or cut. Refuses another form."""
         try:
             return self.load(f"{number}.done", self.RESULT)
         except (FileNotFoundError, NotJson):

@@ -68,7 +68,7 @@ def read_hosts(path):
 
 
 def tell_left_out(reasons):
-    """Says which hosts are left out and why, of many how many more, of none twice."""
+    """Says once of each host left out why; of many, only how many more there are."""
     lines = [f"note: {host.replace(f'{SSH_OPTIONS} ', '')} is left out: {reason}"
              for host, reason in reasons.items() if host not in TOLD]
     TOLD.update(reasons)

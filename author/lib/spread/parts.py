@@ -49,7 +49,7 @@ class Part(NamedTuple):
         return int(self.report["total"].split()[0])
 
     def ranked(self):
-        """Returns total and constants by setting of the whole: of what is ranked, or the best."""
+        """Returns total and constants by setting of the whole template: all ranked, or the best."""
         if not self.has_best():
             return {}
         best = self.report["best"], self.report["total"].split()[0], self.report["constants"]

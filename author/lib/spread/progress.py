@@ -14,8 +14,8 @@ class Progress:
     of what is done: at a terminal, and with `in_log` every PAUSE seconds elsewhere."""
 
     def __init__(self, folder, in_log):
-        self.folder, self.in_log, self.shown, self.pace = folder, in_log, "", Pace(PAUSE)
-        self.pace.told_at = -PAUSE  # the first line comes at once
+        self.folder, self.in_log, self.shown = folder, in_log, ""
+        self.pace = Pace(PAUSE, told_at=-PAUSE)  # the first line comes at once
         numbers = range(1, folder.piece_count + 1)
         self.results = {number: folder.result(number) for number in numbers}
         self.began_at, self.settings_before = time.monotonic(), self.settings_done()
@@ -33,7 +33,7 @@ class Progress:
             if line != self.shown:
                 rewrite(line)
             self.shown = line
-        elif self.in_log and self.pace.is_due():
+        elif self.in_log and self.pace.begins_pause():
             tell(self.line())
 
     def clear(self):

@@ -33,9 +33,13 @@ def ranks_of(parts, keep):
     ranked = {}
     for part in parts:
         ranked |= part.ranked()
-    first = sorted((-total, setting, constants) for setting, (total, constants) in ranked.items())
-    return [f"rank {rank} setting {setting} total {-less}" + f" {constants}" * (constants != "-")
-            for rank, (less, setting, constants) in enumerate(first[:keep], 1)]
+    first = sorted(ranked, key=lambda setting: (-ranked[setting][0], setting))[:keep]
+    return [rank_line(rank, setting, *ranked[setting]) for rank, setting in enumerate(first, 1)]
+
+
+def rank_line(rank, setting, total, constants):
+    values = f" {constants}" if constants != "-" else ""
+    return f"rank {rank} setting {setting} total {total}{values}"
 
 
 def report_lines(parts, setting_count):
@@ -62,7 +66,7 @@ def reading(folder, number):
 
 
 def rows_of(folder, number, part):
-    """Yields the rows of a part, with settings of the whole template. Each has to have one."""
+    """Yields a row for each setting of a part, with its index in the whole template."""
     first, count = part.settings.start, len(part.settings)
     if not part.report:
         yield from (f"refused,{setting},-" for setting in part.settings)

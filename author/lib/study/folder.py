@@ -129,7 +129,7 @@ class StudyFolder(OwnFolder):
         return mark
 
     def stage(self, name, run_stage, *files):
-        """Returns the result of a stage. If it or a file is missing, `run_stage` makes both."""
+        """Returns the result of a stage. Unless it and `files` exist, `run_stage` makes them."""
         digests = {file: self.digest(file) for file in files}
         if name not in self.mark.stages or None in digests.values():
             self.stage_commands = []
@@ -148,7 +148,7 @@ class StudyFolder(OwnFolder):
 
     @contextlib.contextmanager
     def reading(self, name):
-        """Gives a block the object of a JSON file, and names that if it cannot be used."""
+        """Gives a block the object of a JSON file. The fault of the block names the file."""
         try:
             yield self.load(name, dict)
         except (LookupError, TypeError, ValueError, ArithmeticError):
@@ -182,7 +182,7 @@ class StudyFolder(OwnFolder):
 
     def run(self, words, output_name, logs_messages=True):
         """Runs a command in the folder, with its output in a file there. Its fault is this
-        command's. Returns the lines of standard error, for the log, if it `logs_messages`."""
+        command's. With `logs_messages` it logs and returns the lines of standard error."""
         began_at = time.monotonic()
         argv = words
         if words[0].startswith("cwtune-"):

@@ -67,8 +67,8 @@ class Heat:
 
 
 def seed_of(args, number):
-    """Returns the first position of a heat, one of its own if there are enough. A series that
-    begins at the least position never leaves it."""
+    """Returns the first position of a heat: not the tuning's nor another heat's, if there are
+    enough. A series that begins at the least position never leaves it."""
     rules = rules_of(args)
     low, high = rules.distance + 1, rules.core - rules.distance
     return low + (args.seed + number - low) % (high - low + 1) if low <= high else rules.distance
@@ -96,7 +96,7 @@ def total_of(points, weights):
 
 
 def halve(study, settings):
-    """Plays heats until two are left. Returns how many, and the points of each setting."""
+    """Plays heats until two settings are left. Returns how many heats, and points by setting."""
     players, points = [str(setting) for setting in settings], {}
     for number in itertools.count(1):
         for player, new_points in play_heat(study, number, players, study.args.fresh).items():
@@ -110,7 +110,7 @@ def halve(study, settings):
 
 
 def find_winner(study, settings):
-    """Returns the winner, the points by setting that picked it, and those of the last heat."""
+    """Returns the winner, the points that picked it by setting, and those of the last heat."""
     heats, points = halve(study, settings)
     fights_of = {player: len(texts[0]) for player, texts in points.items()}
     most_fights = max(fights_of.values())

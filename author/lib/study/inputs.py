@@ -71,7 +71,7 @@ def is_range(word):
 
 
 def opponents_named(parser, word):
-    """Returns the files of a word, itself or a folder's *.red, and the N of `=N` after it, or 1."""
+    """Returns the files of a word, a folder's *.red or itself, and its weight: N of `=N`, or 1."""
     path, _, weight = word.rpartition("=")
     if os.path.exists(word) or not os.path.exists(path):
         path, weight = word, "1"
@@ -135,8 +135,8 @@ def read_inputs(parser, args):
 
 
 def refuse_start(args, grid):
-    """Refuses a template whose START does not assemble. START is alone in it here, as `cwtune`
-    takes at most a million settings."""
+    """Refuses a template whose START does not assemble. START is made the only setting, since
+    `cwtune` takes at most a million."""
     with temporary_file(args.warrior, grid.line_through(grid.start_values, ())) as path:
         refuse_text(args, f"START of {args.warrior}", "--setting=start", "--",
                     os.path.basename(path), cwd=os.path.dirname(path))

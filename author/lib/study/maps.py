@@ -72,7 +72,7 @@ def greatest(totals):
 
 
 def thinned(landscape, most=MOST_SQUARES):
-    """Returns how many values become one, for at most `most` squares, and the greatest totals."""
+    """Returns the step of thinning to `most` squares, and the landscape of greatest totals."""
     step, totals = 1, landscape.totals
     while -(-len(totals) // step) * -(-len(totals[0]) // step) > most:
         step += 1
@@ -85,7 +85,7 @@ def thinned(landscape, most=MOST_SQUARES):
 
 
 def is_outside(values, winner_values, landscape):
-    """Returns whether a value is not in the box, or one that is held there not the winner's."""
+    """Returns whether a value is not in the box, or is not the winner's where that is held."""
     held = [name for name in winner_values if name not in landscape.names]
     return landscape.place(values) is None or any(
         values[name] != winner_values[name] for name in held)

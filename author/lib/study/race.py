@@ -61,7 +61,7 @@ class RaceOfStudy:
             yield arena
 
     def race(self):
-        """Races. Returns the `Outcome`, with how much of the budget was used."""
+        """Races. Returns a dict: the outcome, the final, and what the race used of the budget."""
         share = RACED if self.rounds(budget_of(self.args).fights) else 1
         with self.arena("race.jsonl") as arena:
             race = Race(self.grid, arena, self.args.seed, share)
@@ -86,7 +86,8 @@ class RaceOfStudy:
         return math.prod(min(2 * reach + 1, len(values)) for values in self.grid.ranges)
 
     def rounds(self, fights):
-        """Returns the box's fights against each opponent after a race; 0 if they are too few."""
+        """Returns the box's fights against each opponent, 0 if they are too few. `fights` are those
+        of the race, None if it has no limit of them."""
         if self.args.certify or fights is None:
             return self.args.rounds
         plays = self.most_settings(self.reach()) * len(self.study.opponents)
@@ -94,7 +95,7 @@ class RaceOfStudy:
         return min(self.args.rounds, rounds) if rounds >= LEAST_ROUNDS else 0
 
     def tune_box(self, race):
-        """Tunes the box around the winner, in new fights. Returns what that used of the budget."""
+        """Tunes the box in new fights. Returns its size, its share of the budget, and the check."""
         folder, began_at, winner = self.folder, time.monotonic(), race["winner"]
         ranges, rounds = self.grid.box(winner, self.reach()), self.rounds(race["fights"])
         settings = math.prod(map(len, ranges))

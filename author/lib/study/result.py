@@ -86,7 +86,7 @@ def constants_of(grid, winner_values, box):
 
 
 def common_numbers(study, grid, box, winner_values, points):
-    """Returns what each report has. `points`: the winner's and START's that picked nothing."""
+    """Returns what each report has. `points` picked nothing: the winner's and START's, or None."""
     folder, args = study.folder, study.args
     version = run_program(args.program, "--version").stdout.decode(errors="replace").strip()
     winner_points, start_points = points or (None, None)
