@@ -2,9 +2,7 @@
 //!
 //! `make test` counts the large requests for memory of these tests (gate/refuse/growth.py): each
 //! makes one arena.
-use crate::fixtures::{
-    ACCEPTED, ONE_IMP, ONE_IMP_CERT, TWO_FIGHTS, both_opponents, inputs_under,
-};
+use crate::fixtures::{ACCEPTED, ONE_IMP, ONE_IMP_CERT, TWO_FIGHTS, both_opponents, inputs_under};
 use rc_instr::{Outlet, Rules, RulesError};
 use std::test::Fail;
 use tune_cert::check;

@@ -67,7 +67,10 @@ fn inputs_are_looked_at(rt: HostRuntime) -> Result<(), Fail> {
     let inputs = inputs_of(rt.alloc(), THREE_UNEQUAL)?;
     use_up(rt.alloc())?;
     assert_eq!(rt; inputs.rules(), &small_rules()?);
-    assert_eq!(rt; (inputs.template().count(), inputs.opponents().len()), (3, 2));
+    assert_eq!(rt;
+        (inputs.template().count(), inputs.opponents().len()),
+        (3, 2)
+    );
     assert_eq!(rt; inputs.schedule().fights().len(), 2);
     assert_eq!(rt; (fight_count(&inputs), fight_weight(&inputs, 1)), (2, 1));
     assert_eq!(rt; (greatest_total(&inputs), cert_version(&inputs)), (6, 1));
