@@ -1,6 +1,7 @@
 /* Refuses the request for memory whose number, from 1, is in REFUSE. With REFUSE_COUNT set, prints
  * the number of requests on standard error at the end. Requests of fewer bytes than REFUSE_LEAST
- * are neither counted nor refused. Loaded before the C library. */
+ * are neither counted nor refused. With REFUSE_AFTER set, all are refused that come after the first
+ * of at least as many bytes. Loaded before the C library. */
 #define _GNU_SOURCE
 #include <dlfcn.h>
 #include <errno.h>
@@ -18,17 +19,22 @@ static long number_in(const char *name)
 
 static int is_refused(size_t size)
 {
-    static long number = -1, least;
+    static long number = -1, least, after;
+    static int is_used_up;
     if (number < 0) {
         number = number_in("REFUSE");
         least = number_in("REFUSE_LEAST");
+        after = number_in("REFUSE_AFTER");
     }
     if (size < (size_t)least)
         return 0;
     seen++;
-    if (seen == number)
+    if (is_used_up || seen == number) {
         errno = ENOMEM;
-    return seen == number;
+        return 1;
+    }
+    is_used_up = after && size >= (size_t)after;
+    return 0;
 }
 
 void *malloc(size_t size)

@@ -8,14 +8,14 @@ use rc_instr::{Rules, read_loadfile};
 use std::alloc::{AllocError, Global};
 use std::test::Fail;
 
-const AT_EIGHT: Fight = Fight {
+pub(crate) const AT_EIGHT: Fight = Fight {
     opponent: 0,
     position: 8,
     first: Side::Candidate,
     weight: 1,
 };
 
-const TWO_FIGHTS: &[u8] = b"opponent,position,first\n0,8,c\n1,11,o\n";
+pub(crate) const TWO_FIGHTS: &[u8] = b"opponent,position,first\n0,8,c\n1,11,o\n";
 
 #[test]
 fn a_schedule_is_read(rt: HostRuntime) -> Result<(), Fail> {

@@ -1,5 +1,6 @@
 //! Tests of `mars_core` (`steps`, `machine`) and `mars_fight` (`fights`); `memory` has those of
-//! calls that allocate, and `warriors` what several modules share.
+//! calls that allocate, `no_memory` those of calls that do not, and `warriors` what several modules
+//! share.
 //!
 //! They show that each public call can succeed, and what neither a clause says nor a run of the
 //! program shows, such as the texts of faults. What a run shows is a case in `gate/cases/`. They
@@ -13,6 +14,8 @@ mod fights;
 mod machine;
 #[cfg(test)]
 mod memory;
+#[cfg(test)]
+mod no_memory;
 #[cfg(test)]
 mod steps;
 #[cfg(test)]

@@ -28,7 +28,7 @@ pub(crate) struct Played {
 }
 
 // Loads two warriors, the opponent at address 8, runs a fight, and resets the arena.
-fn play_and_reset<C: Cells>(
+pub(crate) fn play_and_reset<C: Cells>(
     arena: &mut Arena<C>,
     candidate: &Warrior,
     opponent: &Warrior,

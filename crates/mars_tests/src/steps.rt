@@ -19,15 +19,15 @@ fn first_instruction(rt: &HostRuntime, core: u32, text: &[u8]) -> Result<Instruc
 
 // What a step leaves: a cell, the candidate's first task, and how many cells a reset sets.
 #[derive(Clone, Copy)]
-struct Step {
+pub(crate) struct Step {
     cell: Instruction,
-    task: Option<u32>,
+    pub(crate) task: Option<u32>,
     reset: u32,
 }
 
 // Loads two warriors, makes one step of the candidate, and resets the arena. Returns what the step
 // left, with the cell at `at`.
-fn step_and_reset<C: Cells>(
+pub(crate) fn step_and_reset<C: Cells>(
     arena: &mut Arena<C>,
     candidate: &Warrior,
     opponent: &Warrior,

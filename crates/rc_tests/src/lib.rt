@@ -1,6 +1,6 @@
 //! Tests of `rc_instr` (`instructions`), `rc_text` (`tokens`), `rc_expand` (`expansion`) and
-//! `rc_asm` (`memory`); `fault_texts` has what the faults of all four print, and `fixtures` what
-//! these share.
+//! `rc_asm` (`memory`); `fault_texts` has what the faults of all four print, `no_memory` calls that
+//! take none, and `fixtures` what these share.
 //!
 //! They show that each public call can succeed, and what neither a clause says nor a run of the
 //! program shows, such as the texts of faults. What a run shows is a case in `gate/cases/`. They
@@ -18,5 +18,7 @@ mod fixtures;
 mod instructions;
 #[cfg(test)]
 mod memory;
+#[cfg(test)]
+mod no_memory;
 #[cfg(test)]
 mod tokens;

@@ -9,8 +9,8 @@ use std::test::Fail;
 
 // Gives every name the value `number`; if that is `None`, no name has a value.
 #[derive(Drop)]
-struct OneValue {
-    number: Option<i64>,
+pub(crate) struct OneValue {
+    pub(crate) number: Option<i64>,
 }
 
 impl Names for OneValue {
@@ -21,7 +21,7 @@ impl Names for OneValue {
     }
 }
 
-fn tokens_of(alloc: Global, text: &[u8]) -> Result<Vec<Token>, Fail> {
+pub(crate) fn tokens_of(alloc: Global, text: &[u8]) -> Result<Vec<Token>, Fail> {
     let mut lexer = Lexer::new(text);
     let mut tokens = Vec::new(alloc);
     while let Some(token) = lexer.next_token()? {

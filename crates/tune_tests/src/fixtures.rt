@@ -217,9 +217,13 @@ pub(crate) fn texts_of<'a>(
     }
 }
 
-// Reads the inputs of a tuning of `text`.
+// Reads the inputs of a tuning of `text` under `small_rules`.
 pub(crate) fn inputs_of(alloc: Global, text: &[u8]) -> Result<Inputs, Fail> {
-    let rules = small_rules()?;
+    inputs_under(alloc, text, small_rules()?)
+}
+
+// Reads the inputs of a tuning of `text`.
+pub(crate) fn inputs_under(alloc: Global, text: &[u8], rules: Rules) -> Result<Inputs, Fail> {
     let template = Template::read(alloc, text)?;
     let opponents = two_opponents(alloc, &rules)?;
     let schedule = Schedule::read(alloc, TWO_FIGHTS, 2, &rules)?;
