@@ -1,6 +1,6 @@
 -- Classes of instructions. Each below `first_of_modes` is a frequent opcode with its canonical
--- modifier and its modes, the most frequent first; docs/HOT_LOOP.md says how these were chosen. Each
--- of the others says the modes of both operands, and nothing else. classes.py writes the tables.
+-- modifier and its modes; docs/HOT_LOOP.md says how these were chosen. Each of the others says the
+-- modes of both operands, and nothing else. classes.py writes the tables.
 use Rattle.std.specs.Prelude.{◌≡◌, ℕ, ◌+◌, ◌*◌, ◌/◌, ◌<◌, ◌≤◌, ◌==◌, if◌then◌else◌}
 use Rattle.rc_instr.specs.Instruction.{opcode_number, modifier_number, mode_number}
 use Rattle.rc_instr.specs.declared.instruction.Instruction.{Instruction}

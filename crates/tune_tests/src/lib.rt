@@ -2,8 +2,8 @@
 //! `tune_cert` (`certificates`, `statements` and `demands`), `tune_search` (`searches` and
 //! `floors`) and `tune_runs` (`runs`). `watchers` shows what searches and checks tell, and `shares`
 //! what checks of shares say; `memory` has the tests of calls that allocate, `no_memory` those of
-//! calls that do not, `arenas` those of calls that make one arena, and `fixtures` and `writers` what
-//! several modules use.
+//! calls that do not, `arenas` those of calls that make one arena, and `fixtures` and `writers`
+//! what several modules use.
 //!
 //! They show that each public call can succeed, and what neither a clause says nor a run of the
 //! program shows, such as the texts of faults. What a run shows is a case in `gate/cases/`. They
