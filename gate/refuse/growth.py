@@ -1,14 +1,13 @@
 """Runs the tests of calls that allocate, with each of their requests for memory refused in turn.
 
-The tests are those of the modules `memory` in the test programs that the gate builds; each program
-has to have some. With nothing refused each has to pass. With a request refused it has to pass too,
-or to end because a call returned `OutOfMemory` (at line or record 0, never another fault), or
-because a request of the test itself was refused. The last line says how many requests were refused,
-too.
+The tests are those of the modules `memory` in the test programs that the gate builds. With nothing
+refused each has to pass. With a request refused it has to pass too, or to end because a call
+returned `OutOfMemory` (at line or record 0, never another fault), or because a request of the test
+itself was refused. The last line says how many requests were refused, too.
 
 The tests of the modules `no_memory` have to pass up to their last line with every request refused
-after their largest one. Those of the modules `arenas` have to make one arena each. Needs `cc` and a
-system with LD_PRELOAD.
+after their largest one. Those of the modules `arenas` have to make one arena each. Each program has
+to have tests of one of the three. Needs `cc` and a system with LD_PRELOAD.
 """
 import functools, pathlib, subprocess, tempfile
 
@@ -21,8 +20,7 @@ from ..lib.tally import tally
 from .runs import library_of, refuse_each
 
 PROGRAMS = [f"crates/{crate}/out/{crate}_tests"
-            for crate in ["rc_tests", "mars_tests", "tune_tests"]]
-MODULE, NO_MEMORY, ARENAS = "memory::", "no_memory::", "arenas::"
+            for crate in ["rc_tests", "mars_tests", "tune_tests", "command_tests"]]
 # The bytes of the largest request of a test in `no_memory`; and those of an arena's core, and of
 # its snapshot's, in one of `arenas`, at least.
 LARGEST, LARGE = 1 << 24, 30_000
@@ -48,7 +46,7 @@ def tests_of(program, module):
     """Returns the names of a program's tests in a module."""
     listed = subprocess.run([program, "--list"], capture_output=True, text=True, check=True).stdout
     names = [line.rpartition(": ")[0] for line in listed.splitlines() if line.endswith(": test")]
-    return [name for name in names if f"::{module}" in f"::{name}"]
+    return [name for name in names if f"::{module}::" in f"::{name}"]
 
 
 def run(library, program, test, **variables):
@@ -65,21 +63,18 @@ def refuse_each_of(library, program, test):
 
 
 def refuse_all_of(library, program, test):
-    """Refuses all requests of a test after its largest one. Returns what was wrong."""
+    """Refuses all requests of a test after its largest one. Returns 0, and what was wrong."""
     came = [run(library, program, test), run(library, program, test, REFUSE_AFTER=LARGEST)]
-    return [] if came == [PASSED, ENDED] else [f"came {came}"]
+    return 0, [] if came == [PASSED, ENDED] else [f"came {came}"]
 
 
 def count_arenas_of(library, program, test):
-    """Counts the large requests of a test. Returns what was wrong."""
+    """Counts the large requests of a test. Returns 0, and what was wrong."""
     came = run(library, program, test, REFUSE_COUNT=1, REFUSE_LEAST=LARGE)
-    return [] if came == (0, "2\n") else [f"large requests: {came}"]
+    return 0, [] if came == (0, "2\n") else [f"large requests: {came}"]
 
 
-def once_each(library, programs, module, call):
-    """Returns the trials of the tests in a module, each run by `call`."""
-    tests = [(program, name) for program in programs for name in tests_of(program, module)]
-    return zip(tests, side_by_side(lambda test: call(library, *test), tests))
+TRIED = {"memory": refuse_each_of, "no_memory": refuse_all_of, "arenas": count_arenas_of}
 
 
 def main():
@@ -88,18 +83,16 @@ def main():
                         default=[ROOT / program for program in PROGRAMS],
                         help="test programs [default: those that the gate builds]")
     programs = [program_of(program, "rt test") for program in parser.parse_args().programs]
-    found = {program: tests_of(program, MODULE) for program in programs}
-    tests = [(program, name) for program, names in found.items() for name in names]
+    tests = [(call, program, name) for program in programs for module, call in TRIED.items()
+             for name in tests_of(program, module)]
     with tempfile.TemporaryDirectory() as work:
         library = library_of("memory.c", work)
-        came = side_by_side(lambda test: refuse_each_of(library, *test), tests)
-        more = [*once_each(library, programs, NO_MEMORY, refuse_all_of),
-                *once_each(library, programs, ARENAS, count_arenas_of)]
+        came = side_by_side(lambda test: test[0](library, *test[1:]), tests)
     total = sum(requests for requests, _ in came)
-    trials = [(f"tests of {pathlib.Path(program).name}", [] if names else [f"none in {MODULE}"])
-              for program, names in found.items()]
-    trials += [(test, wrong) for (_, test), (_, wrong) in zip(tests, came)]
-    trials += [(test, wrong) for (_, test), wrong in more]
+    tried = {program for _, program, _ in tests}
+    trials = [(f"tests of {pathlib.Path(program).name}", [] if program in tried else ["none"])
+              for program in programs]
+    trials += [(name, wrong) for (_, _, name), (_, wrong) in zip(tests, came)]
     return tally(trials, f"{total} requests refused: ")
 
 

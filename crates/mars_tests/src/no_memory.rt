@@ -6,11 +6,13 @@ use crate::fights::{AT_EIGHT, TWO_FIGHTS};
 use crate::machine::{Played, play_and_reset, rules_of};
 use crate::steps::step_and_reset;
 use crate::warriors::{DAT, IMP};
+use csv::ByteRecord;
 use mars_core::{Arena, PackedCells, PlainCells, Side};
 use mars_fight::{Schedule, keeps_distance, play};
 use rc_instr::read_loadfile;
 use std::alloc::{AllocError, Global};
 use std::test::Fail;
+use tables::{Records, four_fields, three_fields};
 
 // Makes a request that is larger than all others.
 fn use_up(alloc: Global) -> Result<(), AllocError> {
@@ -75,5 +77,17 @@ fn schedules_are_looked_at(rt: HostRuntime) -> Result<(), Fail> {
     assert!(rt; schedule.fits(&rules, 2) && schedule.plain());
     assert_eq!(rt; (schedule.fights().len(), schedule.greatest()), (2, 6));
     assert!(rt; keeps_distance(&rules, 8));
+    ask(rt.alloc())
+}
+
+#[test]
+fn fields_are_looked_at(rt: HostRuntime) -> Result<(), Fail> {
+    let mut records = Records::new(rt.alloc(), b"1,2,3\n1,2,3,4\n");
+    let mut three = ByteRecord::new(rt.alloc());
+    let mut four = ByteRecord::new(rt.alloc());
+    assert!(rt; records.read(&mut three)? && records.read(&mut four)?);
+    use_up(rt.alloc())?;
+    assert!(rt; three_fields(&three).is_some() && four_fields(&three).is_none());
+    assert!(rt; three_fields(&four).is_none() && four_fields(&four).is_some());
     ask(rt.alloc())
 }

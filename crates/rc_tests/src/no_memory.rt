@@ -3,7 +3,7 @@
 //! `make test` also runs these tests with every request for memory refused that comes after
 //! `use_up` (gate/refuse/growth.py). They then end at their last line, which makes a request.
 use crate::tokens::{OneValue, tokens_of};
-use rc_expand::{NameTable, spells};
+use rc_expand::{Constants, NameTable, expand, spells};
 use rc_instr::{
     Code, Instruction, Mode, Modifier, Opcode, Outlet, Rules, Warrior, after, decimal_at,
     decimal_of, default_modifier, modifier_named, opcode_named, padded_decimal,
@@ -85,6 +85,23 @@ fn values_are_found(rt: HostRuntime) -> Result<(), Fail> {
     for token in &tokens {
         assert_eq!(rt; table.get(text, token).copied(), Some(7));
     }
+    ask(rt.alloc())
+}
+
+#[test]
+fn lines_are_looked_at(rt: HostRuntime) -> Result<(), Fail> {
+    let constants = Constants {
+        names: &[],
+        values: &[],
+    };
+    let text = b"x y DAT 1\nz NOP\n".as_slice();
+    let expanded = expand(rt.alloc(), text, &constants, &Rules::standard())?;
+    use_up(rt.alloc())?;
+    let mut labels = 0usize;
+    for line in expanded.lines.as_slice() {
+        labels = labels.saturating_add(line.labels.as_slice().len());
+    }
+    assert_eq!(rt; labels, 3);
     ask(rt.alloc())
 }
 

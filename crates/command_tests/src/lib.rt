@@ -1,0 +1,6 @@
+//! Tests of `command_words` and `command_runs`: `no_memory` has those of calls that do not
+//! allocate. What a run of the program shows is a case in `gate/cases/`.
+#![tactic(auto)]
+
+#[cfg(test)]
+mod no_memory;
