@@ -20,20 +20,6 @@ missed x n h = elim h [
   | inr b ↦ elim b [ inl c ↦ rw c (omega arith) | inr d ↦ rw d (omega arith) ]
 ]
 
--- what is missed is little
-pub missed_few : (x n : ℕ) → ArePoints x → n ≤ MOST_WEIGHT → (3 - x) * n ≤ 3 * MOST_WEIGHT
-missed_few x n h few = elim h [
-  | inl a ↦ rw a (omega arith)
-  | inr b ↦ elim b [ inl c ↦ rw c (omega arith) | inr d ↦ rw d (omega arith) ]
-]
-
--- and so is what is made
-pub made_few : (x n : ℕ) → ArePoints x → n ≤ MOST_WEIGHT → x * n ≤ 3 * MOST_WEIGHT
-made_few x n h few = elim h [
-  | inl a ↦ rw a (omega arith)
-  | inr b ↦ elim b [ inl c ↦ rw c (omega arith) | inr d ↦ rw d (omega arith) ]
-]
-
 -- the cap after one more fight, in sums
 after_one : (c s m g a b t s' m' : ℕ) → c ≡ s + (g - m) → s' ≡ s + b → m' ≡ m + t → a + b ≡ t → m' ≤ g → c - a ≡ s' + (g - m')
 after_one c s m g a b t s' m' p q r u l = omega arith

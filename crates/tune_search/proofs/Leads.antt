@@ -47,10 +47,6 @@ dropped : (method : Method) (aim : Aim) (c v : ℕ) (ranking : List Best) → dr
 dropped (Dropping capacity) aim c v ranking h = not_true _ h
 dropped PlayingAll aim c v ranking h = absurd (cc)
 
--- what is beaten trails the one that beat it
-overtaken : (c u t z d v : ℕ) → beats c u t z ≡ false → beats d v t z ≡ true → beats c u d v ≡ false
-overtaken c u t z d v a b = grind (arith, nat_tests)
-
 pub not_copied : (s u v z : ℕ) → (u == s) && (z == u) && nat_lt v u ≡ false → u ≡ s → z ≡ u → u ≤ v
 not_copied s u v z h a b = grind (arith, nat_tests)
 

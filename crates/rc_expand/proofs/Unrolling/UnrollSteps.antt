@@ -8,7 +8,3 @@ use Rattle.rc_expand.specs.Unroll.{UnrolledSoFarView, Step, copies_from}
 pub copies_step : (f : ℕ → Step) (count done : ℕ) (u : UnrolledSoFarView) → done < count
     → copies_from f (count - done) (done + 1) u ≡ and_then (copies_from f (count - (done + 1)) (done + 1 + 1)) (f (done + 1) u)
 copies_step f count done u h = let e : count - done ≡ suc (count - (done + 1)) = omega arith in ap (λ n. copies_from f n (done + 1) u) e
-
--- no copy is left
-pub copies_done : (f : ℕ → Step) (count done : ℕ) (u : UnrolledSoFarView) → count ≤ done → copies_from f (count - done) (done + 1) u ≡ Ok u
-copies_done f count done u h = let e : count - done ≡ 0 = omega arith in ap (λ n. copies_from f n (done + 1) u) e
