@@ -1,11 +1,9 @@
 -- A word is its opcode's or modifier's, and no other's.
-use Rattle.std.proofs.Common.{arith, cond, ◌≡◌, ◌≢◌, ℕ, get_or, Bool, true, false, List, [], ◌∷◌, ◌++◌, take, drop, map, length, Some, None, refl, sym, ◌∙◌, ap}
-use Rattle.std.specs.Prelude.{◌==◌, codes}
-use Rattle.std.specs.Char.{to_ascii_uppercase}
+use Rattle.std.proofs.Common.{arith, cond, ◌≡◌, ◌≢◌, ℕ, get_or, Bool, true, false, List, [], ◌∷◌, ◌++◌, take, drop, length, Some, None, refl, ◌∙◌, ap}
+use Rattle.std.specs.Prelude.{◌==◌}
 use Rattle.std.specs.List.{find, list_all}
 use Rattle.std.specs.Str.{bytes_eq}
-use Rattle.std.proofs.lemmas.Bool.{ne_eqb, and_parts, both_ways, false_from_ne_true}
-use Rattle.std.proofs.lemmas.List.{length-map}
+use Rattle.std.proofs.lemmas.Bool.{and_parts, both_ways, false_from_ne_true}
 use Rattle.std.proofs.lemmas.Slice.Eq.{bytes_eq-Decides}
 use Rattle.rc_instr.specs.Words.{opcode_text, modifier_text, opcodes, modifiers, opcode_of, modifier_of, opcode_named, modifier_named}
 use Rattle.rc_instr.specs.declared.instruction.Opcode.{Opcode}

@@ -3,7 +3,7 @@ use Rattle.std.proofs.Common.{◌≡◌, inl, inr, ℕ, ◌+◌, ◌-◌, ◌<�
 use Rattle.std.specs.List.{slice_get}
 use Rattle.std.proofs.lemmas.Option.{slice_get_within}
 use Rattle.tables.specs.Records.{Fields}
-use Rattle.tune_problem.specs.Parts.{part, whole, part_first, part_end}
+use Rattle.tune_problem.specs.Parts.{whole, part_first, part_end}
 use Rattle.tune_problem.specs.Problem.{Problem, IsProblem}
 use Rattle.tune_problem.specs.Valid.{IsVersionOf, IsValid}
 use Rattle.tune_problem.specs.declared.cert.Cert.{Cert}
@@ -15,17 +15,16 @@ use Rattle.tune_cert.proofs.ShareBounds.{whole_bounds}
 use Rattle.tune_cert.specs.CertText.{stated}
 use Rattle.tune_cert.specs.Spelling.{Spells, record_of, cert_of_records}
 use Rattle.tune_cert.specs.Checks.{refers, alone_reason, same_reason, row_reason, reason_at, first_wrong, rows_failure, share_settings, failure_by, is_version_of, has_row_count, is_best_row}
-use Rattle.tune_cert.specs.Shares.{IsValidInShare}
 use Rattle.tune_cert.specs.Verdict.{IsVerdictOf, HasRowCount, IsBestRow, IsWrongRow, IsRejected, IsCheckedBefore, IsFirstRow, IsFirst, IsRightVerdict}
 use Rattle.tune_cert.specs.declared.verdict.Reason.{Reason}
 use Rattle.tune_cert.specs.declared.verdict.Reason.TheVariants.{Malformed, RowCount, BestRow, WrongPoints, RepeatedFight, CapTooHigh, NotSame, NotRefused, Version}
 use Rattle.tune_cert.specs.declared.verdict.Verdict.{Verdict}
 use Rattle.tune_cert.specs.declared.verdict.Verdict.TheVariants.{Accepted, Rejected}
-use Rattle.tune_cert.proofs.Statements.{one_spelled, none_malformed, cert_read, cert_spelled, cert_malformed}
+use Rattle.tune_cert.proofs.Statements.{one_spelled, none_malformed, cert_spelled, cert_malformed}
 use Rattle.tune_cert.proofs.RightRows.{IsOfRow, row_some}
 use Rattle.tune_cert.proofs.FirstWrong.{IsFound, none_each, found, two_walks_some, reason_here, wrong_row, Chain, at_version, at_count, at_best, at_rows, chain_some}
-use Rattle.tune_cert.proofs.PlainChecks.{verdict_by, verdict_on_read, one_judged, verdict_is, is_verdict}
-use Rattle.tune_cert.proofs.ValidShares.{first_failure, version_right, right_version, count_right, right_count, best_right, right_best, valid_if_none, none_if_valid, valid_in_shares, valid_of_shares, valid_if_whole}
+use Rattle.tune_cert.proofs.PlainChecks.{verdict_by, verdict_on_read, one_judged, verdict_is}
+use Rattle.tune_cert.proofs.ValidShares.{first_failure, version_right, right_version, count_right, right_count, best_right, right_best, valid_if_none, none_if_valid, valid_in_shares, valid_if_whole}
 
 -- ---- the first wrong row
 

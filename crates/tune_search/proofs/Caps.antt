@@ -6,7 +6,6 @@ use Rattle.std.proofs.lemmas.List.Sums.{sum_by_more, sum_by-take-le}
 use Rattle.std.proofs.lemmas.List.Sorted.{sum_by-IsPermutation}
 use Rattle.std.proofs.lemmas.Grind.{common_steps}
 use Rattle.rc_instr.specs.Warrior.{WarriorView}
-use Rattle.mars_fight.specs.Limits.{MOST_WEIGHT}
 use Rattle.mars_fight.specs.Play.{ArePoints}
 use Rattle.tune_problem.specs.Problem.{Problem}
 use Rattle.tune_problem.specs.Optimum.{all_fights, score_of, most_of, greatest_of, cap_of}

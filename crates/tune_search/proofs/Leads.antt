@@ -3,7 +3,7 @@ use Rattle.std.proofs.Common.{◌≡◌, ℕ, suc, ◌<◌, ◌≤◌, arith, Bo
 use Rattle.std.proofs.lemmas.Bool.Decides.{nat_tests, leb_tells}
 use Rattle.rc_instr.specs.Warrior.{WarriorView}
 use Rattle.tune_problem.specs.Problem.{Problem}
-use Rattle.tune_problem.specs.Optimum.{beats, cap_of}
+use Rattle.tune_problem.specs.Optimum.{cap_of}
 use Rattle.tune_search.specs.Order.{aim_at, drops, enough}
 use Rattle.tune_search.specs.Visits.{visits_before, ranking_after, ranking_before, setting_visited}
 use Rattle.tune_problem.specs.declared.watcher.Best.{Best}

@@ -1,8 +1,7 @@
 -- Numbers in a row, one more.
-use Rattle.std.proofs.Common.{◌≡◌, ℕ, zero, suc, ◌+◌, arith, [], ◌∷◌, ◌++◌, ◌∙◌, ap, sym, add-one, zero-add, map, List}
+use Rattle.std.proofs.Common.{◌≡◌, ℕ, zero, suc, ◌+◌, arith, [], ◌∷◌, ◌++◌, ◌∙◌, ap, add-one, zero-add}
 use Rattle.std.specs.List.{range_with_len, sum_by}
 use Rattle.std.proofs.lemmas.List.Sums.{sum_by-append, sum_by-cons}
-use Rattle.std.proofs.lemmas.List.FromFn.{map-range_with_len_more}
 
 up : (a n : ℕ) → range_with_len a (suc n) ≡ range_with_len a n ++ (a + n) ∷ []
 up a zero = let e : a ≡ a + 0 = omega arith in ap (λ k. k ∷ []) e

@@ -1,6 +1,5 @@
 -- The copies of a block, one after the other.
-use Rattle.std.proofs.Common.{◌≡◌, ℕ, suc, ◌+◌, ◌-◌, ◌≤◌, ◌<◌, ap, arith}
-use Rattle.std.specs.Prelude.{Ok}
+use Rattle.std.proofs.Common.{◌≡◌, ℕ, suc, ◌+◌, ◌-◌, ◌<◌, ap, arith}
 use Rattle.rc_instr.specs.Results.{and_then}
 use Rattle.rc_expand.specs.Unroll.{UnrolledSoFarView, Step, copies_from}
 
