@@ -15,7 +15,7 @@ use Rattle.tune_runs.specs.DuelRun.{duel, position_meant, WritesDuel}
 use Rattle.tune_runs.specs.FightRun.{WritesFight}
 use Rattle.tune_runs.specs.SettingRun.{setting_output}
 use Rattle.tune_runs.specs.SettingsRun.{WritesSettings}
-use Rattle.tune_runs.specs.TuneRun.{Texts, part_texts, WritesTuningFor}
+use Rattle.tune_runs.specs.TuneRun.{part_texts, WritesTuningFor}
 use Rattle.tune_runs.specs.CheckRun.{WritesCheck}
 use Rattle.tune_search.specs.declared.method.Method.{Method}
 use Rattle.tune_runs.specs.declared.given.WhichSetting.{WhichSetting}

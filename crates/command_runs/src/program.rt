@@ -1,5 +1,5 @@
 //! The program, apart from `main`: words and three streams in, an exit status out.
-ghost use Rattle.std.specs.Prelude.{◌≡◌, ◌≢◌, ◌⊎◌, map, false, string_bytes, IfErr};
+ghost use Rattle.std.specs.Prelude.{◌≡◌, ◌≢◌, map, false, string_bytes, IfErr};
 ghost use Rattle.std.specs.IoError.{error_kind};
 ghost use Rattle.std.specs.declared.io.ErrorKind.{ErrorKind as ErrorKindView};
 ghost use Rattle.command_words.specs.Help.{MentionsHelp};

@@ -1,5 +1,5 @@
 //! What the words of the command line ask for. The library `clap` parses them.
-ghost use Rattle.std.specs.Prelude.{◌≡◌, ◌≤◌, map, IfOk, IfSome, IsNone, string_bytes};
+ghost use Rattle.std.specs.Prelude.{◌≡◌, map, IfOk, string_bytes};
 ghost use Rattle.command_words.specs.CommandLine.{AsksForFight, command_of, command_word};
 
 use crate::clap_commands::{

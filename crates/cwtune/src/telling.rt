@@ -29,16 +29,12 @@ const MOST_FURTHER_BYTES: usize = 3;
 
 // Writes the explanation `WHAT MOST`, as in `indices of settings are 0 to 118`.
 pub(crate) fn tell_greatest<V: Write>(err: &mut Outlet<V>, what: &str, most: u64) {
-    let mut buffer = Buffer::new();
-    let number = buffer.format(most);
-    tell(err, &["  ", what, " ", number, "\n"]);
+    tell(err, &["  ", what, " ", Buffer::new().format(most), "\n"]);
 }
 
 // Writes a limit, and the number that breaks it.
 pub(crate) fn tell_broken_limit<V: Write>(err: &mut Outlet<V>, limit: &str, number: u64) {
-    let mut buffer = Buffer::new();
-    let number = buffer.format(number);
-    tell(err, &["  ", limit, ", not ", number, "\n"]);
+    tell(err, &["  ", limit, ", not ", Buffer::new().format(number), "\n"]);
 }
 
 // Writes a name and what the system said of it, or nothing if memory ran out: `fail` has said that
@@ -79,9 +75,7 @@ pub(crate) fn tell_source<V: Write>(err: &mut Outlet<V>, file: &str, text: &[u8]
         tell(err, &["  ", file, "\n"]);
         return;
     }
-    let mut buffer = Buffer::new();
-    let place = buffer.format(number);
-    tell(err, &["  ", file, ", line ", place, ": "]);
+    tell(err, &["  ", file, ", line ", Buffer::new().format(number), ": "]);
     tell_shown(err, line_at(text, number - 1));
     tell(err, &["\n"]);
 }

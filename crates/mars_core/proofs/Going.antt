@@ -14,11 +14,6 @@ pub record IsGoing (limit : ℕ) (start : State) (first : Side) (k : ℕ) (core 
   pub state : seen_from first core mine theirs ≡ play_of limit start first k
   pub goes_on : (j : ℕ) → j < k → is_over (play_of limit start first j) ≡ false
 
--- in the same core
-pub goes_on_in : (limit : ℕ) (start : State) (first : Side) (k : ℕ) (core core' : List Instruction) (mine theirs : List ℕ) → core' ≡ core →
-    IsGoing limit start first k core mine theirs → IsGoing limit start first k core' mine theirs
-goes_on_in limit start first k core core' mine theirs e h = subst (λ (c : List Instruction). IsGoing limit start first k c mine theirs) (sym e) h
-
 or_true : (b : Bool) → b || true ≡ true
 or_true true = refl
 or_true false = refl

@@ -70,10 +70,6 @@ counted : (b : Bool) (n k : ℕ) → (b ≡ false → k ≡ n + 1) → (b ≡ tr
 counted true n k first again = again refl
 counted false n k first again = first refl
 
-pub mark_counted : (p : ℕ → Bool) (words : List ℕ) (at n k : ℕ) → at < length words → (p (get_or words at 0) ≡ false → k ≡ n + 1) →
-    (p (get_or words at 0) ≡ true → k ≡ n) → k ≡ marks_after (map p words) at n
-mark_counted p words at n k l first again = rw (mark_at p words at l) (counted (p (get_or words at 0)) n k first again)
-
 -- words beside a closed journal
 pub all_counted : (words : List ℕ) → map (counts_as_marked false) words ≡ replicate (length (map unpacked words)) true
 all_counted [] = refl

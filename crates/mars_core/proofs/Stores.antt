@@ -193,8 +193,4 @@ fresh_store m journal l r = let n = length-replicate m empty_word in record {
   classed = all_empty m;
 }
 
--- a store without cells
-pub no_store : (words journal : List ℕ) → words ≡ [] → journal ≡ [] → IsStore words journal 0
-no_store words journal e f = rw (e, f) (fresh_store 0 [] (omega arith) refl)
-
 pub ruleset stores = (room_left, stored_again, stored_first, fresh_store, word_classed)

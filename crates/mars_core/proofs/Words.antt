@@ -81,11 +81,3 @@ raises_b_last w m v e l s h =
 pub raises_b : (w m v : ℕ) → w / 281474976710656 + 1 < m → m ≤ 65535 → v ≡ w + 281474976710656 → RaisesB w m v
 raises_b w m v l s h =
     changed_b w v (w / 281474976710656 + 1) (sum_of m (w / 281474976710656) 1) (sym (raised_some m _ l)) (omega arith) (omega (arith, h, l))
-
-pub ruleset a_lowered = (lowers_a_zero, lowers_a)
-
-pub ruleset b_lowered = (lowers_b_zero, lowers_b)
-
-pub ruleset a_raised = (raises_a_last, raises_a)
-
-pub ruleset b_raised = (raises_b_last, raises_b)

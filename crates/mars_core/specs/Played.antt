@@ -30,7 +30,7 @@ pub record CanPlay (m : ℕ) (core : List Instruction) (mine theirs : Queue) (cy
 
 -- The result of a fight: its turns, at most two for each cycle; the state after them, in a core of
 -- m cells again; and queues with the room that they had.
-pub record IsPlayed (m : ℕ) (core : List Instruction) (mine theirs : Queue) (cycles turns : ℕ) (core_new : List Instruction) (my_new their_new : Queue) : Type 0 where
+pub record Plays (m : ℕ) (core : List Instruction) (mine theirs : Queue) (cycles turns : ℕ) (core_new : List Instruction) (my_new their_new : Queue) : Type 0 where
   pub turns_are : AreTurns core mine theirs cycles turns
   pub state_is : TurnsLeave core mine theirs turns core_new my_new their_new
   pub within : turns ≤ 2 * cycles

@@ -4,7 +4,7 @@ ghost use Rattle.rc_instr.specs.Instruction.{empty_cell};
 ghost use Rattle.rc_instr.specs.declared.instruction.Instruction.{Instruction};
 ghost use Rattle.rc_instr.specs.Warrior.{IsBelow};
 ghost use Rattle.mars_core.specs.Core.{cell_at, filled_in, loaded_at, IsCore};
-ghost use Rattle.mars_core.specs.Played.{CanPlay, IsPlayed};
+ghost use Rattle.mars_core.specs.Played.{CanPlay, Plays};
 ghost use Rattle.mars_core.specs.Queue.{stretch};
 ghost use Rattle.mars_core.specs.Store.{marks_after};
 
@@ -96,7 +96,7 @@ pub trait Cells: Store {
     ) -> u32
         requires can_play { CanPlay size (Self.items self.old) (Self.Queue.held mine.old) (Self.Queue.held theirs.old) cycles }
         requires few { cycles ≤ stretch }
-        ensures played { IsPlayed size (Self.items self.old) (Self.Queue.held mine.old) (Self.Queue.held theirs.old) cycles result (Self.items self.new) (Self.Queue.held mine.new) (Self.Queue.held theirs.new) }
+        ensures played { Plays size (Self.items self.old) (Self.Queue.held mine.old) (Self.Queue.held theirs.old) cycles result (Self.items self.new) (Self.Queue.held mine.new) (Self.Queue.held theirs.new) }
         ensures marks { Self.marks self.new ≤ Self.marks self.old + 3 * result };
 
     /// Marks every cell. Until the next `restore` no write has to be recorded.

@@ -1,6 +1,6 @@
 //! The loop of a fight: the sides take turns until one of them has no task.
 ghost use Rattle.std.specs.Prelude.{◌≡◌, ◌<◌, ◌+◌, ◌*◌, ◌≤◌, length};
-ghost use Rattle.mars_core.specs.Played.{CanPlay, IsPlayed};
+ghost use Rattle.mars_core.specs.Played.{CanPlay, Plays};
 ghost use Rattle.mars_core.specs.Queue.{stretch};
 
 use crate::cells::{Cells, Store};
@@ -22,7 +22,7 @@ pub(crate) fn take_turns<C: Store>(
 ) -> (C, C::Queue, C::Queue, u32)
     requires can_play { CanPlay size (C.items cells) (C.Queue.held mine) (C.Queue.held theirs) cycles }
     requires few { cycles ≤ stretch }
-    ensures played { IsPlayed size (C.items cells) (C.Queue.held mine) (C.Queue.held theirs) cycles result.3 (C.items result.0) (C.Queue.held result.1) (C.Queue.held result.2) }
+    ensures played { Plays size (C.items cells) (C.Queue.held mine) (C.Queue.held theirs) cycles result.3 (C.items result.0) (C.Queue.held result.1) (C.Queue.held result.2) }
     ensures marks { C.marks result.0 ≤ C.marks cells + 3 * result.3 }
 {
     if mine.is_empty() || theirs.is_empty() {
@@ -50,7 +50,7 @@ fn alternate_turns<C: Store>(
     requires few { cycles ≤ stretch }
     requires mine { 0 < length (C.Queue.held mine).items }
     requires theirs { 0 < length (C.Queue.held theirs).items }
-    ensures played { IsPlayed size (C.items cells) (C.Queue.held mine) (C.Queue.held theirs) cycles (2 * result.3 + result.4) (C.items result.0) (C.Queue.held result.1) (C.Queue.held result.2) }
+    ensures played { Plays size (C.items cells) (C.Queue.held mine) (C.Queue.held theirs) cycles (2 * result.3 + result.4) (C.items result.0) (C.Queue.held result.1) (C.Queue.held result.2) }
     ensures marks { C.marks result.0 ≤ C.marks cells + 3 * (2 * result.3 + result.4) }
 {
     mine.make_room();
@@ -79,7 +79,7 @@ fn play_on<C: Cells>(
     cycles: u32,
 ) -> u32
     requires { CanPlay size (C.items cells.old) (C.Queue.held mine.old) (C.Queue.held theirs.old) cycles }
-    ensures played { IsPlayed size (C.items cells.old) (C.Queue.held mine.old) (C.Queue.held theirs.old) cycles result (C.items cells.new) (C.Queue.held mine.new) (C.Queue.held theirs.new) }
+    ensures played { Plays size (C.items cells.old) (C.Queue.held mine.old) (C.Queue.held theirs.old) cycles result (C.items cells.new) (C.Queue.held mine.new) (C.Queue.held theirs.new) }
     ensures marks { C.marks cells.new ≤ C.marks cells.old + 3 * result }
 {
     let mut played = 0;
@@ -106,7 +106,7 @@ pub(crate) fn decide<C: Cells>(
 ) -> u32
     requires can_play { CanPlay size (C.items cells.old) (C.Queue.held mine.old) (C.Queue.held theirs.old) cycles }
     requires snapshot { length snapshot.old.core ≡ size }
-    ensures played { IsPlayed size (C.items cells.old) (C.Queue.held mine.old) (C.Queue.held theirs.old) cycles result (C.items cells.new) (C.Queue.held mine.new) (C.Queue.held theirs.new) }
+    ensures played { Plays size (C.items cells.old) (C.Queue.held mine.old) (C.Queue.held theirs.old) cycles result (C.items cells.new) (C.Queue.held mine.new) (C.Queue.held theirs.new) }
     ensures snapshot { length snapshot.new.core ≡ size }
     ensures marks { C.marks cells.new ≤ C.marks cells.old + 3 * result }
 {

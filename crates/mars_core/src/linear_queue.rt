@@ -1,5 +1,4 @@
 //! The queue of a packed machine: tasks in slots, one after the other.
-ghost use Rattle.std.specs.Prelude.{◌≡◌, ◌≤◌};
 
 use crate::tasks::{STRETCH, Tasks};
 use rc_instr::OutOfMemory;

@@ -1,7 +1,7 @@
 //! Cells in words, with a journal of those that were written.
 ghost use Rattle.std.specs.Prelude.{◌≡◌, ◌<◌, ◌≤◌, ◌+◌, ◌*◌, slice_index, slice_set, replicate, length, true, false, IfOk};
 ghost use Rattle.rc_instr.specs.Instruction.{empty_cell};
-ghost use Rattle.mars_core.specs.Played.{CanPlay, IsPlayed};
+ghost use Rattle.mars_core.specs.Played.{CanPlay, Plays};
 ghost use Rattle.mars_core.specs.Queue.{stretch};
 ghost use Rattle.mars_core.specs.Packed.{unpacked, is_marked, empty_word, IsClassed};
 ghost use Rattle.mars_core.specs.Store.{IsStore, IsPacked, packed_view, marks_after, ListsWritten};
@@ -119,7 +119,7 @@ fn play<const OPEN: u64>(
 ) -> (PlayedCells<OPEN>, u32)
     requires can_play { CanPlay size cells.items mine.old.queue theirs.old.queue cycles }
     requires few { cycles ≤ stretch }
-    ensures played { IsPlayed size cells.entry.items mine.old.queue theirs.old.queue cycles result.1 result.0.items mine.new.queue theirs.new.queue }
+    ensures played { Plays size cells.entry.items mine.old.queue theirs.old.queue cycles result.1 result.0.items mine.new.queue theirs.new.queue }
     ensures marks { result.0.marks ≤ cells.entry.marks + 3 * result.1 }
 {
     let alloc = *cells.words.allocator();

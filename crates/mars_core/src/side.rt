@@ -1,5 +1,4 @@
 //! The two sides of a fight.
-ghost use Rattle.std.specs.Prelude.{◌≡◌};
 
 /// One of the two warriors of a fight.
 #[derive(Clone, Copy, Debug, PartialEq, Eq)]

@@ -12,7 +12,7 @@ use Rattle.rc_instr.specs.Decimal.{padded_decimal}
 use Rattle.mars_fight.specs.Limits.{MOST_FIGHTS, MOST_WEIGHT}
 use Rattle.mars_fight.specs.Schedule.{opponent_of, position_of, mover_named, weight_of, fight_made, unweighted_fight, weighted_fight, fight_of, fights_from, header_of, scheduled, schedule_of}
 use Rattle.mars_fight.specs.Faults.{at_row}
-use Rattle.rc_instr.specs.Results.{with_fault, and_then, check}
+use Rattle.rc_instr.specs.Results.{with_fault, check}
 use Rattle.mars_fight.specs.declared.fault.ScheduleFaultKind.TheVariants.{Empty, TooMany}
 use Rattle.mars_fight.specs.declared.fight.Fight.{Fight}
 use Rattle.mars_fight.specs.declared.record.Columns.{Columns}

@@ -1,5 +1,5 @@
 //! The form of a line of code: opcode, modifier, operands.
-ghost use Rattle.std.specs.Prelude.{◌≡◌, ℕ, ◌∷◌, [], ◌<◌, length, take, drop, ◌+◌, option_map, List, Some, None, All, IfSome, IfNone};
+ghost use Rattle.std.specs.Prelude.{◌≡◌, ◌∷◌, [], ◌<◌, length, take, drop, ◌+◌, option_map, Some, None, IfSome, IfNone};
 ghost use Rattle.rc_instr.specs.Results.{mapped};
 ghost use Rattle.rc_asm.specs.Form.{parts, parts_from, no_operand, one_operand, two_operands, operands_of, with_operands, with_modifier, after_opcode, form_of};
 ghost use Rattle.rc_asm.specs.Seen.{seen_operands, seen_form};

@@ -1,9 +1,8 @@
 //! Labels and their addresses.
-ghost use Rattle.std.specs.Prelude.{◌≡◌, ◌<◌, ◌≤◌, ◌+◌, ◌^◌, [], List, ℕ, length, All, IfOk, OnOk, option_map};
+ghost use Rattle.std.specs.Prelude.{◌≡◌, ◌<◌, ◌+◌, ◌^◌, IfOk, OnOk, option_map};
 ghost use Rattle.rc_text.specs.Symbols.{name_of};
 ghost use Rattle.rc_expand.specs.Names.{entry_of};
-ghost use Rattle.rc_expand.specs.NameTables.{with_name};
-ghost use Rattle.rc_asm.specs.Names.{code_lines_after, labels_from, labels_of};
+ghost use Rattle.rc_asm.specs.Names.{code_lines_after, labels_of};
 
 use rc_expand::{Line, LineWord, NameTable};
 use rc_text::Token;

@@ -1,5 +1,5 @@
 //! The values of the lines, in order.
-ghost use Rattle.std.specs.Prelude.{◌≡◌, ℤ, Result, length};
+ghost use Rattle.std.specs.Prelude.{◌≡◌, Result};
 ghost use Rattle.rc_instr.specs.Results.{with_fault};
 ghost use Rattle.rc_asm.specs.Faults.{Returns, at_line};
 ghost use Rattle.rc_asm.specs.Instructions.{instruction_at};

@@ -1,5 +1,5 @@
 //! What all lines share, and the values of names in one line.
-ghost use Rattle.std.specs.Prelude.{◌≡◌, All};
+ghost use Rattle.std.specs.Prelude.{◌≡◌};
 ghost use Rattle.rc_asm.specs.Names.{stands_for, label_value, value_at};
 ghost use Rattle.rc_asm.specs.Seen.{seen_names};
 

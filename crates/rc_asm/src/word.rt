@@ -1,6 +1,6 @@
 //! The words and signs of a line of code: opcodes, modifiers, modes.
-ghost use Rattle.std.specs.Prelude.{◌≡◌, ◌∷◌, [], map, ◌&&◌, option_map, None};
-ghost use Rattle.rc_expand.specs.Read.Lines.{is_dot, bytes_of};
+ghost use Rattle.std.specs.Prelude.{◌≡◌, None};
+ghost use Rattle.rc_expand.specs.Read.Lines.{is_dot};
 ghost use Rattle.rc_asm.specs.Words.{mode_in, is_comma, is_plain, opcode_in, modifier_in};
 
 use rc_instr::{Mode, Modifier, Opcode, modifier_named, opcode_named};

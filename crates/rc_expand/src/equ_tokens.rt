@@ -1,6 +1,6 @@
 //! Puts the tokens of EQU names in the place of the names: in the count of a FOR for the second
 //! pass, and in each line for the third.
-ghost use Rattle.std.specs.Prelude.{◌≡◌, ◌≢◌, ℕ, List, [], ◌∷◌, ◌++◌, ◌+◌, ◌≤◌, length, MatchResult, Ok, Err, Some, None, option_map, All, IfSome, IfOk, OnOk};
+ghost use Rattle.std.specs.Prelude.{◌≡◌, ◌+◌, Ok, Err, Some, None, option_map, IfSome};
 ghost use Rattle.rc_expand.specs.Results.{Returns};
 ghost use Rattle.rc_expand.specs.NameTables.{at_index, AreIndices};
 ghost use Rattle.rc_expand.specs.Contexts.{seen_context};

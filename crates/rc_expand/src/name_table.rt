@@ -1,5 +1,5 @@
 //! Tables of names, looked up by tokens.
-ghost use Rattle.std.specs.Prelude.{◌≡◌, List, ℕ, true, [], Some, None, not, is_some, option_map, fold, flat_map, IfOk, OnOk, OnErr};
+ghost use Rattle.std.specs.Prelude.{◌≡◌, List, ℕ, [], Some, not, is_some, option_map, fold, flat_map, IfOk, OnOk, OnErr};
 ghost use Rattle.std.specs.Hash as fed;
 ghost use Rattle.std.specs.Str.{bytes_eq};
 ghost use Rattle.rc_text.specs.Symbols.{name_of, counter_text};
@@ -178,7 +178,7 @@ fn key_of<'a>(source: &'a [u8], token: &'a Token) -> JoinedName<'a>
 impl<'a> Hash for JoinedName<'a> {
     ghost use Rattle.std.specs.Prelude.{flat_map};
     ghost use Rattle.std.specs.Hash as fed;
-    ghost use Rattle.std.specs.Cmp.Rules.{comparing, hashing};
+    ghost use Rattle.std.specs.Cmp.Rules.{hashing};
     ghost use Rattle.std.proofs.Common.{rules};
     ghost use Rattle.rc_expand.specs.NameTables.{joined_name};
 

@@ -1,6 +1,6 @@
 //! The third pass, line by line: defines the labels and the EQU name of the line, and then puts the
 //! tokens of EQU names in the place of the names. EQU lines are dropped.
-ghost use Rattle.std.specs.Prelude.{◌≡◌, ◌≢◌, ◌++◌, ◌∷◌, [], ◌||◌, List, ℕ, map, All, IfOk, OnOk, Ok, Err};
+ghost use Rattle.std.specs.Prelude.{◌∷◌, [], map, Ok, Err};
 ghost use Rattle.rc_text.specs.Symbols.{name_of};
 ghost use Rattle.rc_expand.specs.Results.{Returns};
 ghost use Rattle.rc_expand.specs.Contexts.{seen_context};

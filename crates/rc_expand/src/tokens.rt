@@ -1,5 +1,5 @@
 //! Tokens: copies of them, and tests of their kinds.
-ghost use Rattle.std.specs.Prelude.{◌≡◌, ◌++◌, map, ◌<◌, ◌≤◌, length, IfOk};
+ghost use Rattle.std.specs.Prelude.{◌≡◌, ◌++◌, ◌<◌, IfOk};
 ghost use Rattle.rc_expand.specs.Read.Lines.{is_name_token, is_ampersand, is_colon, is_dot, is_unjoined};
 
 use crate::line::Tokens;

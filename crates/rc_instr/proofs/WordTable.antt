@@ -1,11 +1,9 @@
 -- A word is its opcode's or modifier's, and no other's.
-use Rattle.std.proofs.Common.{arith, cond, ◌≡◌, ◌≢◌, ℕ, get_or, Bool, true, false, List, [], ◌∷◌, ◌++◌, take, drop, map, length, Some, None, refl, sym, ◌∙◌, ap}
-use Rattle.std.specs.Prelude.{◌==◌, codes}
-use Rattle.std.specs.Char.{to_ascii_uppercase}
+use Rattle.std.proofs.Common.{arith, cond, ◌≡◌, ◌≢◌, ℕ, get_or, Bool, true, false, List, [], ◌∷◌, ◌++◌, take, drop, length, Some, None, refl, ◌∙◌, ap}
+use Rattle.std.specs.Prelude.{◌==◌}
 use Rattle.std.specs.List.{find, list_all}
 use Rattle.std.specs.Str.{bytes_eq}
-use Rattle.std.proofs.lemmas.Bool.{ne_eqb, and_parts, both_ways, false_from_ne_true}
-use Rattle.std.proofs.lemmas.List.{length-map}
+use Rattle.std.proofs.lemmas.Bool.{and_parts, both_ways, false_from_ne_true}
 use Rattle.std.proofs.lemmas.Slice.Eq.{bytes_eq-Decides}
 use Rattle.rc_instr.specs.Words.{opcode_text, modifier_text, opcodes, modifiers, opcode_of, modifier_of, opcode_named, modifier_named}
 use Rattle.rc_instr.specs.declared.instruction.Opcode.{Opcode}
@@ -52,12 +50,6 @@ opcode_front Slt rest = (refl, refl)
 opcode_front Spl rest = (refl, refl)
 opcode_front Nop rest = (refl, refl)
 
-pub opcode_ahead : (o : Opcode) (rest : List ℕ) (first second third : ℕ) (others : List ℕ) → first ∷ second ∷ third ∷ others ≡ opcode_text o ++ rest
-    → (opcode_of (first ∷ second ∷ third ∷ []) ≡ Some o) × (others ≡ rest)
-opcode_ahead o rest first second third others e =
-    let f = opcode_front o rest in
-    (ap (λ l. opcode_of (take 3 l)) e ∙ f.0, ap (drop 3) e ∙ f.1)
-
 -- a modifier of one letter, and the space after it
 pub letter_ahead : (m : Modifier) (rest : List ℕ) (first : ℕ) (others : List ℕ) → first ∷ 32 ∷ others ≡ modifier_text m ++ 32 ∷ rest → (modifier_of (first ∷ []) ≡ Some m) × (others ≡ rest)
 letter_ahead A rest first others e = (ap (λ l. modifier_of (take 1 l)) e, ap (drop 2) e)
@@ -88,14 +80,6 @@ found_none text n (x ∷ xs) word k h =
     let e : bytes_eq word (text x) ≡ false =
     false_from_ne_true (bytes_eq word (text x)) (λ s. both_ways (length word == n) h (ap (λ w. length w == n) ((bytes_eq-Decides word (text x)).0 s) ∙ p.0)) in
     rw e (found_none text n xs word p.1 h)
-
--- opcodes have three letters
-pub no_opcode : (name : List ℕ) → (length name ≡ 3 → ⊥) → None ≡ opcode_named name
-no_opcode name h =
-    let word = map to_ascii_uppercase name in
-    let n : (length word == 3) ≡ false = ne_eqb (length word) 3 (λ e. h (sym (length-map name to_ascii_uppercase) ∙ e)) in
-    let c : bytes_eq word (codes "CMP") ≡ false = false_from_ne_true _ (λ s. both_ways (length word == 3) n (ap (λ w. length w == 3) ((bytes_eq-Decides word (codes "CMP")).0 s))) in
-    sym (rw c (found_none opcode_text 3 opcodes word refl n))
 
 -- an opcode's word names it
 pub opcode_back : (o : Opcode) → opcode_named (opcode_text o) ≡ Some o

@@ -1,5 +1,5 @@
 //! Evaluation of expressions, by precedence climbing.
-ghost use Rattle.std.specs.Prelude.{true, ◌≡◌, ℤ, ◌<◌, ◌≤◌, [], ◌∷◌, length, IfOk, IfErr, IfSome, IfNone, All, MatchResult, Result};
+ghost use Rattle.std.specs.Prelude.{◌≡◌, ◌<◌, ◌≤◌, [], ◌∷◌, length, IfOk, Result};
 ghost use Rattle.std.specs.List.{prefix_len};
 ghost use Rattle.rc_text.specs.Grammar.{PREFIX_LEVEL, OPERAND_LEVEL};
 ghost use Rattle.rc_text.specs.Values.{DEEPEST};

@@ -3,7 +3,7 @@ use Rattle.std.proofs.Common.{◌≡◌, inl, inr, ℕ, ◌+◌, ◌-◌, ◌<�
 use Rattle.std.specs.List.{slice_get}
 use Rattle.std.proofs.lemmas.Option.{slice_get_within}
 use Rattle.tables.specs.Records.{Fields}
-use Rattle.tune_problem.specs.Parts.{part, whole, part_first, part_end}
+use Rattle.tune_problem.specs.Parts.{whole, part_first, part_end}
 use Rattle.tune_problem.specs.Problem.{Problem, IsProblem}
 use Rattle.tune_problem.specs.Valid.{IsVersionOf, IsValid}
 use Rattle.tune_problem.specs.declared.cert.Cert.{Cert}
@@ -15,17 +15,16 @@ use Rattle.tune_cert.proofs.ShareBounds.{whole_bounds}
 use Rattle.tune_cert.specs.CertText.{stated}
 use Rattle.tune_cert.specs.Spelling.{Spells, record_of, cert_of_records}
 use Rattle.tune_cert.specs.Checks.{refers, alone_reason, same_reason, row_reason, reason_at, first_wrong, rows_failure, share_settings, failure_by, is_version_of, has_row_count, is_best_row}
-use Rattle.tune_cert.specs.Shares.{IsValidInShare}
 use Rattle.tune_cert.specs.Verdict.{IsVerdictOf, HasRowCount, IsBestRow, IsWrongRow, IsRejected, IsCheckedBefore, IsFirstRow, IsFirst, IsRightVerdict}
 use Rattle.tune_cert.specs.declared.verdict.Reason.{Reason}
 use Rattle.tune_cert.specs.declared.verdict.Reason.TheVariants.{Malformed, RowCount, BestRow, WrongPoints, RepeatedFight, CapTooHigh, NotSame, NotRefused, Version}
 use Rattle.tune_cert.specs.declared.verdict.Verdict.{Verdict}
 use Rattle.tune_cert.specs.declared.verdict.Verdict.TheVariants.{Accepted, Rejected}
-use Rattle.tune_cert.proofs.Statements.{one_spelled, none_malformed, cert_read, cert_spelled, cert_malformed}
+use Rattle.tune_cert.proofs.Statements.{one_spelled, none_malformed, cert_spelled, cert_malformed}
 use Rattle.tune_cert.proofs.RightRows.{IsOfRow, row_some}
 use Rattle.tune_cert.proofs.FirstWrong.{IsFound, none_each, found, two_walks_some, reason_here, wrong_row, Chain, at_version, at_count, at_best, at_rows, chain_some}
-use Rattle.tune_cert.proofs.PlainChecks.{verdict_by, verdict_on_read, one_judged, verdict_is, is_verdict}
-use Rattle.tune_cert.proofs.ValidShares.{first_failure, version_right, right_version, count_right, right_count, best_right, right_best, valid_if_none, none_if_valid, valid_in_shares, valid_of_shares, valid_if_whole}
+use Rattle.tune_cert.proofs.PlainChecks.{verdict_by, verdict_on_read, one_judged, verdict_is}
+use Rattle.tune_cert.proofs.ValidShares.{first_failure, version_right, right_version, count_right, right_count, best_right, right_best, valid_if_none, none_if_valid, valid_in_shares, valid_if_whole}
 
 -- ---- the first wrong row
 
@@ -199,45 +198,6 @@ accepts_one c (Some x) best total e = absurd (cc)
 apart : (best total index : ℕ) (reason : Reason) → Accepted best total ≡ Rejected index reason → ⊥
 apart best total index reason e = cc
 
--- what a share accepts is a certificate that is valid in it
-pub share_accepts : (p : Problem) (share : Part) (records : List Fields) (best total : ℕ) → IsVerdictOf p share records (Accepted best total)
-    → (c : Cert) × Spells records c × IsValidInShare p share c × (best ≡ c.best) × (total ≡ c.total)
-share_accepts p share records best total is = by (cert_of_records records) refl (verdict_is p share records (Accepted best total) is)
-  where
-    by : (r : Result Cert ℕ) → cert_of_records records ≡ r → Accepted best total ≡ verdict_on_read p share r
-        → (c : Cert) × Spells records c × IsValidInShare p share c × (best ≡ c.best) × (total ≡ c.total)
-    by (Ok c) e is =
-        let one = accepts_one c (first_failure p share c) best total is in
-        (c, cert_spelled records c e, valid_if_none p share c one.0, one.1, one.2)
-    by (Err index) e is = absurd (apart best total index Malformed is)
-
--- the verdict of a share on a valid certificate
-pub valid_verdict : (p : Problem) → IsProblem p → (share : Part) (records : List Fields) (c : Cert) → Spells records c → IsValid p c → IsVerdictOf p share records (Accepted c.best c.total)
-valid_verdict p laws share records c s valid =
-    is_verdict p share records (Accepted c.best c.total) (sym (ap (verdict_on_read p share) (cert_read records c s) ∙ ap (verdict_by c) (none_if_valid p share c (valid_in_shares p c laws valid share))))
-
 -- records have one verdict
 pub one_verdict : (p : Problem) (share : Part) (records : List Fields) (v w : Verdict) → IsVerdictOf p share records v → IsVerdictOf p share records w → v ≡ w
 one_verdict p share records v w e f = one_judged v w (sym e ∙ f)
-
--- a valid certificate is accepted in each share
-pub accepted_in_share : (p : Problem) → IsProblem p → (share : Part) (records : List Fields) (v : Verdict) (c : Cert) → Spells records c → IsValid p c → IsVerdictOf p share records v
-    → v ≡ Accepted c.best c.total
-accepted_in_share p laws share records v c s valid is = one_verdict p share records v (Accepted c.best c.total) is (valid_verdict p laws share records c s valid)
-
--- what all shares accept is a valid certificate
-pub shares_accept : (p : Problem) (shares : ℕ) (records : List Fields) → 1 ≤ shares
-    → ((n : ℕ) → 1 ≤ n → n ≤ shares → (best : ℕ) × (total : ℕ) × IsVerdictOf p (part n shares) records (Accepted best total))
-    → (c : Cert) × Spells records c × IsValid p c
-shares_accept p shares records some each =
-    let first = each 1 (omega arith) some in
-    let own = share_accepts p (part 1 shares) records first.0 first.1 first.2 in
-    let c = own.0 in (
-      c,
-      own.1,
-      valid_of_shares p c shares some (λ n one within.
-          let other = each n one within in
-          let here = share_accepts p (part n shares) records other.0 other.1 other.2 in
-          let same : here.0 ≡ c = one_spelled records here.0 c here.1 own.1 in
-          subst (λ (k : Cert). IsValidInShare p (part n shares) k) same here.2),
-    )

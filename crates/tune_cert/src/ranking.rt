@@ -1,5 +1,5 @@
 //! The ranking that the rows of a certificate list.
-ghost use Rattle.std.specs.Prelude.{◌≡◌, ◌≤◌, length, Some, None, IfOk, IfSome, IfNone};
+ghost use Rattle.std.specs.Prelude.{◌≡◌, length, Some, None, IfOk, IfSome, IfNone};
 ghost use Rattle.tune_problem.specs.Problem.{problem_of};
 ghost use Rattle.tune_problem.specs.Exact.{listed_at, listed_ranking, total_at};
 ghost use Rattle.tune_cert.specs.Judgement.{ranking_for};

@@ -1,6 +1,6 @@
 //! Checks single rows of a certificate. What is asked of the fights that a row lists is in
 //! `listings`.
-ghost use Rattle.std.specs.Prelude.{◌≡◌, ◌<◌, ◌==◌, ◌||◌, not, IfOk, IfSome, IfNone, None, Some, Option, length, ℕ, List, slice_get};
+ghost use Rattle.std.specs.Prelude.{◌≡◌, ◌<◌, ◌==◌, ◌||◌, IfOk, IfSome, IfNone, None, Some, Option, length, ℕ, List, slice_get};
 ghost use Rattle.mars_core.specs.Arena.{IsBlank};
 ghost use Rattle.tune_problem.specs.Problem.{problem_of};
 ghost use Rattle.tune_problem.specs.Valid.{listed_in};

@@ -9,9 +9,6 @@ use Rattle.tune_problem.specs.Optimum.{all_fights, score_of, most_of, total_of, 
 use Rattle.tune_problem.specs.Valid.{listed_indices, listed_score, listed_total, IsCapRow}
 use Rattle.mars_fight.specs.Play.{ArePoints}
 
-pub few_points : (x : ℕ) → ArePoints x → x ≤ 3
-few_points x h = elim h [ inl a ↦ omega arith | inr b ↦ elim b [ inl c ↦ omega arith | inr d ↦ omega arith ] ]
-
 pub above : (a b : ℕ) → a ≤ b → (b ≡ a) ⊎ (a + 1 ≤ b)
 above a b h = elim (leb_tells b a) [ inl p ↦ inl (omega arith) | inr p ↦ inr (omega arith) ]
 

@@ -24,9 +24,6 @@ not_right false b h = refl
 pub reaching : (aim : Aim) (c v : ℕ) (ranking : List Best) → contends aim c v ranking ≡ true → aim.floor ≤ c
 reaching aim c v ranking h = let reach : nat_le aim.floor c ≡ true = (and_parts _ _ h).0 in grind (arith, nat_tests)
 
-pub beating : (aim : Aim) (c v : ℕ) (ranking : List Best) → contends aim c v ranking ≡ true → beats_lead c v (last_kept aim ranking) ≡ true
-beating aim c v ranking h = (and_parts (nat_le aim.floor c) _ h).1
-
 pub contending : (aim : Aim) (c v : ℕ) (ranking : List Best) → aim.floor ≤ c → beats_lead c v (last_kept aim ranking) ≡ true → contends aim c v ranking ≡ true
 contending aim c v ranking le h = let reach : nat_le aim.floor c ≡ true = grind (arith, nat_tests) in ap (λ b. b && beats_lead c v (last_kept aim ranking)) reach ∙ h
 

@@ -1,7 +1,7 @@
 -- The faults that the texts of a tuning may have.
-use Rattle.std.proofs.Common.{◌≡◌, ◌⊎◌, ◌+◌, ℕ, Bool, true, false, List, [], ◌∷◌, length, inl, inr, refl, ap, subst, Result, Ok, Err}
+use Rattle.std.proofs.Common.{◌≡◌, ◌⊎◌, ◌+◌, ℕ, Bool, true, false, List, [], ◌∷◌, length, inl, inr, refl, subst, Result, Ok, Err}
 use Rattle.std.specs.Prelude.{Option, nat_le}
-use Rattle.rc_instr.specs.Results.{with_fault, and_then, check}
+use Rattle.rc_instr.specs.Results.{with_fault, check}
 use Rattle.rc_instr.specs.Rules.{RulesView}
 use Rattle.rc_asm.specs.Assembly.{outcome_of}
 use Rattle.rc_asm.specs.declared.fault.AsmKind.{AsmKind}

@@ -6,7 +6,6 @@ use Rattle.std.proofs.lemmas.List.Sums.{sum_by_more, sum_by-take-le}
 use Rattle.std.proofs.lemmas.List.Sorted.{sum_by-IsPermutation}
 use Rattle.std.proofs.lemmas.Grind.{common_steps}
 use Rattle.rc_instr.specs.Warrior.{WarriorView}
-use Rattle.mars_fight.specs.Limits.{MOST_WEIGHT}
 use Rattle.mars_fight.specs.Play.{ArePoints}
 use Rattle.tune_problem.specs.Problem.{Problem}
 use Rattle.tune_problem.specs.Optimum.{all_fights, score_of, most_of, greatest_of, cap_of}
@@ -16,20 +15,6 @@ use Rattle.tune_search.specs.Plays.{played}
 -- what is missed of 3 points and what is made are 3 times the weight together
 missed : (x n : ℕ) → ArePoints x → (3 - x) * n + x * n ≡ 3 * n
 missed x n h = elim h [
-  | inl a ↦ rw a (omega arith)
-  | inr b ↦ elim b [ inl c ↦ rw c (omega arith) | inr d ↦ rw d (omega arith) ]
-]
-
--- what is missed is little
-pub missed_few : (x n : ℕ) → ArePoints x → n ≤ MOST_WEIGHT → (3 - x) * n ≤ 3 * MOST_WEIGHT
-missed_few x n h few = elim h [
-  | inl a ↦ rw a (omega arith)
-  | inr b ↦ elim b [ inl c ↦ rw c (omega arith) | inr d ↦ rw d (omega arith) ]
-]
-
--- and so is what is made
-pub made_few : (x n : ℕ) → ArePoints x → n ≤ MOST_WEIGHT → x * n ≤ 3 * MOST_WEIGHT
-made_few x n h few = elim h [
   | inl a ↦ rw a (omega arith)
   | inr b ↦ elim b [ inl c ↦ rw c (omega arith) | inr d ↦ rw d (omega arith) ]
 ]

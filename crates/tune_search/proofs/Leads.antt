@@ -3,7 +3,7 @@ use Rattle.std.proofs.Common.{◌≡◌, ℕ, suc, ◌<◌, ◌≤◌, arith, Bo
 use Rattle.std.proofs.lemmas.Bool.Decides.{nat_tests, leb_tells}
 use Rattle.rc_instr.specs.Warrior.{WarriorView}
 use Rattle.tune_problem.specs.Problem.{Problem}
-use Rattle.tune_problem.specs.Optimum.{beats, cap_of}
+use Rattle.tune_problem.specs.Optimum.{cap_of}
 use Rattle.tune_search.specs.Order.{aim_at, drops, enough}
 use Rattle.tune_search.specs.Visits.{visits_before, ranking_after, ranking_before, setting_visited}
 use Rattle.tune_problem.specs.declared.watcher.Best.{Best}
@@ -46,10 +46,6 @@ start_contends p aim c v e =
 dropped : (method : Method) (aim : Aim) (c v : ℕ) (ranking : List Best) → drops method aim c v ranking ≡ true → contends aim c v ranking ≡ false
 dropped (Dropping capacity) aim c v ranking h = not_true _ h
 dropped PlayingAll aim c v ranking h = absurd (cc)
-
--- what is beaten trails the one that beat it
-overtaken : (c u t z d v : ℕ) → beats c u t z ≡ false → beats d v t z ≡ true → beats c u d v ≡ false
-overtaken c u t z d v a b = grind (arith, nat_tests)
 
 pub not_copied : (s u v z : ℕ) → (u == s) && (z == u) && nat_lt v u ≡ false → u ≡ s → z ≡ u → u ≤ v
 not_copied s u v z h a b = grind (arith, nat_tests)

@@ -1,8 +1,7 @@
 -- Numbers in a row, one more.
-use Rattle.std.proofs.Common.{◌≡◌, ℕ, zero, suc, ◌+◌, arith, [], ◌∷◌, ◌++◌, ◌∙◌, ap, sym, add-one, zero-add, map, List}
+use Rattle.std.proofs.Common.{◌≡◌, ℕ, zero, suc, ◌+◌, arith, [], ◌∷◌, ◌++◌, ◌∙◌, ap, add-one, zero-add}
 use Rattle.std.specs.List.{range_with_len, sum_by}
 use Rattle.std.proofs.lemmas.List.Sums.{sum_by-append, sum_by-cons}
-use Rattle.std.proofs.lemmas.List.FromFn.{map-range_with_len_more}
 
 up : (a n : ℕ) → range_with_len a (suc n) ≡ range_with_len a n ++ (a + n) ∷ []
 up a zero = let e : a ≡ a + 0 = omega arith in ap (λ k. k ∷ []) e
@@ -17,9 +16,3 @@ sum_more f n =
     let one : sum_by f (n ∷ []) ≡ f n + sum_by f [] = sum_by-cons f n [] in
     let all : sum_by f (range_with_len 0 n ++ n ∷ []) ≡ sum_by f (range_with_len 0 n) + sum_by f (n ∷ []) = sum_by-append f (range_with_len 0 n) (n ∷ []) in
     ap (sum_by f) (range_more n) ∙ (all ∙ omega (arith, one))
-
--- the images of one more number
-pub map_more : {X : Type 0} (f : ℕ → X) (n : ℕ) (xs : List X) (x : X) → xs ≡ map f (range_with_len 0 n) → x ≡ f n → xs ++ x ∷ [] ≡ map f (range_with_len 0 (n + 1))
-map_more f n xs x e h =
-    let z : 0 + n ≡ n = omega arith in
-    ap (λ l. l ++ x ∷ []) e ∙ (ap (λ y. map f (range_with_len 0 n) ++ y ∷ []) h ∙ sym (map-range_with_len_more f 0 n n z))

@@ -1,5 +1,5 @@
 //! The lines of a template, and their words.
-ghost use Rattle.std.specs.Prelude.{◌≡◌, ◌∷◌, [], not, ◌==◌, length, take, drop, ◌+◌, ◌<◌, ◌≤◌, MatchOption, IfSome};
+ghost use Rattle.std.specs.Prelude.{◌≡◌, ◌∷◌, [], not, ◌==◌, length, take, ◌<◌, ◌≤◌, MatchOption, IfSome};
 ghost use Rattle.std.specs.List.{prefix_len};
 ghost use Rattle.std.specs.Str.{bytes_eq};
 ghost use Rattle.rc_text.specs.Bytes.{LINE_FEED, is_blank};

@@ -1,6 +1,5 @@
 //! The range lines of a template.
 ghost use Rattle.std.specs.Prelude.{◌≡◌, ◌<◌, ◌≤◌, ◌*◌, ◌∷◌, [], map, length, MatchOption, IfOk, OnOk, Ok, Err};
-ghost use Rattle.std.specs.Str.{bytes_eq};
 ghost use Rattle.rc_text.specs.NameClasses.{class_of};
 ghost use Rattle.rc_expand.specs.Names.{is_among};
 ghost use Rattle.rc_instr.specs.Results.{mapped};

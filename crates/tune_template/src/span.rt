@@ -1,7 +1,7 @@
 //! The values of one constant.
 ghost use Rattle.std.specs.Prelude.{◌≡◌, ◌≤◌, ◌<◌, ◌≤ℤ◌, ◌-ℤ◌, ℤ, pos, negsuc, IfOk};
 ghost use Rattle.rc_asm.specs.Instructions.{natural};
-ghost use Rattle.tune_template.specs.Spans.{is_outside, span_of, span_value};
+ghost use Rattle.tune_template.specs.Spans.{span_of, span_value};
 ghost use Rattle.tune_template.specs.Steps.{HasValues};
 
 use crate::fault::TemplateKind;

@@ -1,5 +1,5 @@
 //! Templates: texts with constants that run over ranges.
-ghost use Rattle.std.specs.Prelude.{◌≡◌, ◌≢◌, ◌<◌, ◌≤◌, ◌/◌, ◌%◌, ◌++◌, ◌∷◌, [], ℕ, ℤ, List, length, map, slice_get, option_map, Some, None, Ok, Err, IfOk, IfErr, OnOk, All};
+ghost use Rattle.std.specs.Prelude.{◌≡◌, ◌<◌, ◌≤◌, ◌/◌, ◌%◌, [], length, map, slice_get, Some, Ok, Err, IfOk, OnOk, All};
 ghost use Rattle.rc_instr.specs.Warrior.{Fits};
 ghost use Rattle.tune_template.specs.Faults.{Returns};
 ghost use Rattle.tune_template.specs.Limits.{MOST_CONSTANTS, MOST_SETTINGS};

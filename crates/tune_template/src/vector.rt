@@ -1,5 +1,5 @@
 //! Settings: one value for each constant. The code and the formats call them vectors.
-ghost use Rattle.std.specs.Prelude.{◌≡◌, ◌<◌, ◌≤◌, ◌++◌, ◌∷◌, [], length};
+ghost use Rattle.std.specs.Prelude.{◌≡◌, ◌<◌, ◌++◌, ◌∷◌, [], length};
 ghost use Rattle.tune_template.specs.Limits.{MOST_CONSTANTS};
 
 use crate::limits;

@@ -5,7 +5,6 @@
 //! refused (gate/refuse/growth.py). It then ends with the same results, or with the error
 //! `OutOfMemory` of the call itself, in no other variant.
 ghost use Rattle.std.specs.Prelude.{◌≤◌};
-ghost use Rattle.rc_instr.specs.Warrior.{Fits};
 ghost use Rattle.tune_search.specs.Limits.{MOST_CAPACITY};
 
 use crate::certificates::{FIVE, cert_of, five_rows};

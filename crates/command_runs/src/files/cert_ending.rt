@@ -1,6 +1,6 @@
 //! What `tune` does with CERT and CERT.inputs before a run and after it, and what `check` says of a
 //! certificate that it rejects.
-ghost use Rattle.std.specs.Prelude.{◌≡◌, ◌≢◌, IfErr};
+ghost use Rattle.std.specs.Prelude.{◌≢◌, IfErr};
 
 use crate::ending::Ending;
 use crate::files::cert_file::{CertFile, NotOpened};

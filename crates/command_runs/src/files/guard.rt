@@ -1,6 +1,6 @@
 //! Guards the files that a tuning writes, CERT and CERT.inputs: neither is overwritten if it is the
 //! file of another word, or if it has a text of another kind.
-ghost use Rattle.std.specs.Prelude.{◌≡◌, ◌↔◌, IfOk, IfSome, IsTrue};
+ghost use Rattle.std.specs.Prelude.{◌↔◌, IfOk, IfSome, IsTrue};
 ghost use Rattle.command_runs.specs.CertFile.{BeginsAsCert};
 
 use crate::files::beginning::begins_with;

@@ -95,11 +95,8 @@ impl Finding {
         let Some(best) = self.best else {
             return;
         };
-        let mut first = Buffer::new();
-        let mut second = Buffer::new();
-        let setting = first.format(best.vector);
-        let total = second.format(best.total);
-        tell(err, &["best ", setting, " total ", total]);
+        tell(err, &["best ", Buffer::new().format(best.vector)]);
+        tell(err, &[" total ", Buffer::new().format(best.total)]);
         self.tell_values(err, self.first.saturating_add(best.vector));
     }
 

@@ -130,8 +130,7 @@ fn tell_byte<V: Write>(err: &mut Outlet<V>, line: &[u8]) {
     let Some((column, byte)) = bad_byte(line) else {
         return;
     };
-    let mut buffer = Buffer::new();
-    tell(err, &["  column ", buffer.format(column), ": "]);
+    tell(err, &["  column ", Buffer::new().format(column), ": "]);
     match byte {
         0xef if line.starts_with(b"\xef\xbb\xbf") => {
             tell(
@@ -161,16 +160,8 @@ fn tell_duplicate<V: Write>(err: &mut Outlet<V>, alloc: Global, text: &[u8], lin
         if let Some(number) = range_of(text, *word) {
             tell(err, &["  help: "]);
             tell_name(err, *word);
-            let mut buffer = Buffer::new();
-            let number = buffer.format(number);
-            tell(
-                err,
-                &[
-                    " has its values in line ",
-                    number,
-                    ": take the EQU out, or rename the label\n",
-                ],
-            );
+            tell(err, &[" has its values in line ", Buffer::new().format(number)]);
+            tell(err, &[": take the EQU out, or rename the label\n"]);
             return;
         }
     }
@@ -185,10 +176,8 @@ fn tell_unknown<V: Write>(err: &mut Outlet<V>, alloc: Global, text: &[u8], line:
     tell_name(err, name);
     tell(err, &[" has no value\n"]);
     if let Some(number) = range_of(text, name) {
-        let mut buffer = Buffer::new();
-        let number = buffer.format(number);
-        let help = ": `cwtune asm --setting start` makes a warrior of a template\n";
-        tell(err, &["  help: it is the constant of line ", number, help]);
+        tell(err, &["  help: it is the constant of line ", Buffer::new().format(number)]);
+        tell(err, &[": `cwtune asm --setting start` makes a warrior of a template\n"]);
     } else if is_counter(alloc, text, name) {
         tell(
             err,

@@ -54,9 +54,8 @@ pub(crate) fn tell_asm<V: Write>(
     tell_source(err, file, text, fault.line);
     match fault.kind {
         AsmKind::Warrior(WarriorError::TooLong) => {
-            let mut buffer = Buffer::new();
-            let most = buffer.format(rules.length());
-            tell(err, &["  a warrior has at most ", most, " instructions\n"]);
+            tell(err, &["  a warrior has at most ", Buffer::new().format(rules.length())]);
+            tell(err, &[" instructions\n"]);
         }
         AsmKind::TextTooLong => tell_text_length(err, text),
         kind => tell_fault(err, alloc, kind),
@@ -108,10 +107,8 @@ pub(crate) fn tell_template<V: Write>(
 
 // Writes how many settings a template may have, and how many this one has up to a line.
 fn tell_settings<V: Write>(err: &mut Outlet<V>, settings: u64) {
-    let mut buffer = Buffer::new();
-    let number = buffer.format(settings);
     let limit = "  a template has at most 1000000 settings; up to this line there are ";
-    tell(err, &[limit, number, "\n"]);
+    tell(err, &[limit, Buffer::new().format(settings), "\n"]);
 }
 
 // Counts the settings of the range lines up to a line. The last of them is the first with which
@@ -160,9 +157,7 @@ pub(crate) fn tell_schedule<V: Write>(
 
 // Writes where an opponent can be loaded.
 pub(crate) fn tell_positions<V: Write>(err: &mut Outlet<V>, rules: &Rules) {
-    let mut first = Buffer::new();
-    let mut last = Buffer::new();
-    let least = first.format(rules.distance());
-    let most = last.format(rules.core().saturating_sub(rules.distance()));
-    tell(err, &["  positions are ", least, " to ", most, "\n"]);
+    let last = rules.core().saturating_sub(rules.distance());
+    tell(err, &["  positions are ", Buffer::new().format(rules.distance())]);
+    tell(err, &[" to ", Buffer::new().format(last), "\n"]);
 }

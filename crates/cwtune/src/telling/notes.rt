@@ -32,18 +32,8 @@ pub(crate) fn tell_idle<V: Write>(err: &mut Outlet<V>, opponents: &[String], fig
     let mut index: u32 = 0;
     for name in opponents {
         if !has_fight(fights, index) {
-            let mut buffer = Buffer::new();
-            let number = buffer.format(index);
-            tell(
-                err,
-                &[
-                    "  no fight names opponent ",
-                    number,
-                    ", ",
-                    name.as_str(),
-                    "\n",
-                ],
-            );
+            tell(err, &["  no fight names opponent ", Buffer::new().format(index)]);
+            tell(err, &[", ", name.as_str(), "\n"]);
         }
         index = index.saturating_add(1);
     }

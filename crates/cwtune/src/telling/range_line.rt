@@ -60,27 +60,15 @@ pub(crate) fn tell_neighbours<V: Write>(err: &mut Outlet<V>, line: &[u8]) {
     match (below, above) {
         (Some(below), Some(above)) => tell_two(err, below, above),
         (Some(nearest), None) | (None, Some(nearest)) => {
-            let mut buffer = Buffer::new();
-            let nearest = buffer.format(nearest);
-            tell(err, &["  help: the nearest value is ", nearest, "\n"]);
+            tell(err, &["  help: the nearest value is ", Buffer::new().format(nearest), "\n"]);
         }
         (None, None) => {}
     }
 }
 
 fn tell_two<V: Write>(err: &mut Outlet<V>, below: i64, above: i64) {
-    let mut first = Buffer::new();
-    let mut second = Buffer::new();
-    tell(
-        err,
-        &[
-            "  help: the nearest values are ",
-            first.format(below),
-            " and ",
-            second.format(above),
-            "\n",
-        ],
-    );
+    tell(err, &["  help: the nearest values are ", Buffer::new().format(below)]);
+    tell(err, &[" and ", Buffer::new().format(above), "\n"]);
 }
 
 // Returns the values next to START, below and above it. `None` if a word is not a number.

@@ -1,6 +1,6 @@
 //! For each EQU body: which of its tokens are EQU names themselves. Looked up once, since a name
 //! may be as long as the text.
-ghost use Rattle.std.specs.Prelude.{◌≡◌, All, IfOk, IfSome, option_map, map};
+ghost use Rattle.std.specs.Prelude.{◌≡◌, IfOk};
 ghost use Rattle.rc_expand.specs.Equs.{equ_in};
 ghost use Rattle.rc_expand.specs.NameTables.{at_index, AreIndices, AreLinks};
 

@@ -1,5 +1,5 @@
 //! EQU lines: the table of EQU names and their tokens.
-ghost use Rattle.std.specs.Prelude.{◌≡◌, ◌≢◌, [], ◌∷◌, ◌++◌, false, is_some, option_map, All, IfOk};
+ghost use Rattle.std.specs.Prelude.{◌≡◌, [], ◌∷◌, ◌++◌, false, is_some, option_map, IfOk};
 ghost use Rattle.rc_text.specs.Symbols.{name_of};
 ghost use Rattle.rc_instr.specs.Results.{mapped};
 ghost use Rattle.rc_expand.specs.Results.{Returns};

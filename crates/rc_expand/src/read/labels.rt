@@ -1,5 +1,5 @@
 //! Labels that are a single name.
-ghost use Rattle.std.specs.Prelude.{◌≡◌, [], All, IfSome, option_map};
+ghost use Rattle.std.specs.Prelude.{◌≡◌, [], IfSome, option_map};
 ghost use Rattle.rc_expand.specs.Read.Lines.{label_token, plain_token};
 
 use crate::read::words::is_free;

@@ -1,6 +1,6 @@
 //! From tokens to lines.
-ghost use Rattle.std.specs.Prelude.{◌≡◌, ◌≢◌, List, ℕ, ◌++◌, [], ◌+◌, ◌≤◌, ◌&&◌, IsTrue, length, drop, All, IfOk, IfSome, MatchResult, Ok, Err, None};
-ghost use Rattle.rc_text.specs.Tokens.{tokens_of, TakesToken};
+ghost use Rattle.std.specs.Prelude.{◌≡◌, ◌≢◌, ◌++◌, [], ◌+◌, ◌≤◌, ◌&&◌, IsTrue, length, drop, IfOk, MatchResult, Ok, Err, None};
+ghost use Rattle.rc_text.specs.Tokens.{TakesToken};
 ghost use Rattle.rc_text.specs.Gaps.{is_line_end};
 ghost use Rattle.rc_expand.specs.Read.Lines.{raw_line_of, is_free, is_ampersand, label_goes_on, tail_len, begins_label, label_split, line_of_tokens, has_end};
 ghost use Rattle.rc_expand.specs.Results.{Returns};

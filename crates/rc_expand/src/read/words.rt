@@ -1,6 +1,5 @@
 //! Reserved words, and the words of lines.
 ghost use Rattle.std.specs.Prelude.{◌≡◌, ◌&&◌};
-ghost use Rattle.std.specs.Str.{bytes_eq};
 ghost use Rattle.rc_text.specs.Bytes.{is_same_word};
 ghost use Rattle.rc_text.specs.NameClasses.{class_of};
 ghost use Rattle.rc_expand.specs.Read.Lines.{is_reserved_class, is_free, is_opcode, has_modifier, word_of_name, word_of};

@@ -1,5 +1,5 @@
 //! From an unrolled line to a line of the expansion.
-ghost use Rattle.std.specs.Prelude.{◌≡◌, ◌≢◌, ◌++◌, ◌≤◌, length, option_to_list, flat_map, All, IfOk, IfSome, OnOk, Ok, Err};
+ghost use Rattle.std.specs.Prelude.{◌≡◌, ◌++◌, ◌≤◌, length, option_to_list, flat_map, IfOk, OnOk, Ok};
 ghost use Rattle.rc_expand.specs.Results.{Returns};
 ghost use Rattle.rc_expand.specs.Contexts.{seen_context};
 ghost use Rattle.rc_expand.specs.Replace.{exempt_len_of_code, exempt_len, line_tokens};

@@ -1,5 +1,5 @@
 //! What the FOR of a block says: its counter, the labels before it, and its count; and its ROF.
-ghost use Rattle.std.specs.Prelude.{◌≡◌, ◌≢◌, [], true, false, Some, None, Ok, Err, All, IfOk, IfSome, option_map};
+ghost use Rattle.std.specs.Prelude.{◌≡◌, [], false, Some, None, Ok, Err, IfOk, IfSome, option_map};
 ghost use Rattle.rc_text.specs.Symbols.{name_of};
 ghost use Rattle.rc_expand.specs.Results.{Returns, at_line};
 ghost use Rattle.rc_expand.specs.Contexts.{seen_context};
