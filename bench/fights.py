@@ -43,7 +43,7 @@ def print_fights(players, runs):
 
 
 def print_short(players, runs, folder):
-    """Prints a line for each fight, cut short: each time from its load to its reset."""
+    """Prints a line for each fight cut short, with its load and its reset."""
     print_rates("short fight", "fights/s", players, (
         (fight.name, 2 * SHORT_CYCLES,
          [1 / it for it in least([it.short_play(fight, folder) for it in players], runs)])

@@ -2,9 +2,10 @@
 //
 //   limit CANDIDATE.load OPPONENT.load SCHEDULE.csv
 //
-// Threaded code: each instruction that occurs is a function for each side, all but its numbers known
-// at compile time, and ends in a jump to the next one's. Nothing is proved and no index is checked.
-// KEYS.inc has the instructions of the warriors: no fight makes others. Core of 8000 cells.
+// Threaded code: each instruction that occurs is a function for each side, all but its numbers
+// known at compile time, and ends in a jump to the next one's. Nothing is proved and no index is
+// checked. KEYS.inc has the instructions of the warriors: no fight makes others. Core of 8000
+// cells.
 #include <array>
 #include <cstdint>
 #include <cstdio>
@@ -18,7 +19,9 @@ using u64 = uint64_t;
 
 enum Opcode { DAT, MOV, ADD, SUB, MUL, DIV, MOD, JMP, JMZ, JMN, DJN, SEQ, SNE, SLT, SPL, NOP };
 enum Modifier { A, B, AB, BA, F, X, I };
-enum Mode { IMMEDIATE, DIRECT, A_INDIRECT, B_INDIRECT, A_DECREMENT, B_DECREMENT, A_INCREMENT, B_INCREMENT };
+enum Mode {
+    IMMEDIATE, DIRECT, A_INDIRECT, B_INDIRECT, A_DECREMENT, B_DECREMENT, A_INCREMENT, B_INCREMENT
+};
 const char *const OPCODES[] = {"DAT", "MOV", "ADD", "SUB", "MUL", "DIV", "MOD", "JMP",
                                "JMZ", "JMN", "DJN", "SEQ", "SNE", "SLT", "SPL", "NOP"};
 const char *const MODIFIERS[] = {"A", "B", "AB", "BA", "F", "X", "I"};
@@ -28,7 +31,9 @@ constexpr u32 SIZE = 8000, TASKS = 8000, CYCLES = 80000, STRETCH = 2000, FEW = 8
 // The slots of a queue: a task each, a turn each of a stretch, and room to keep the queues apart.
 constexpr u32 SLOTS = 16928;
 // The key of an instruction: opcode, modifier, A-mode, B-mode. Cells hold it so that 0 is empty.
-constexpr int key_of(int opcode, int modifier, int a, int b) { return opcode | modifier << 4 | a << 7 | b << 10; }
+constexpr int key_of(int opcode, int modifier, int a, int b) {
+    return opcode | modifier << 4 | a << 7 | b << 10;
+}
 constexpr int EMPTY = key_of(DAT, F, DIRECT, DIRECT);
 
 struct Cell { u16 a, b, key, unused; };
@@ -49,7 +54,12 @@ INLINE u32 lowered(u32 x) { u32 y = x - 1; return (int32_t)y < 0 ? SIZE - 1 : y;
 INLINE u32 raised(u32 x) { u32 y = x + 1; return y == SIZE ? 0 : y; }
 INLINE u64 word(u32 at) { return *(u64 *)&core[at]; }
 
-struct Located { u32 at; u64 copy; u32 a() { return (u16)copy; } u32 b() { return (u16)(copy >> 16); } };
+struct Located {
+    u32 at;
+    u64 copy;
+    u32 a() { return (u16)copy; }
+    u32 b() { return (u16)(copy >> 16); }
+};
 
 template <int MODE> INLINE Located operand(u32 pc, u32 n) {
     if (MODE == IMMEDIATE) return {pc, word(pc)};
@@ -74,21 +84,27 @@ template <int OPCODE> INLINE u32 computed(u32 b, u32 a) {
 // `head` is that of side 0, past its task; that of side 1 is SLOTS further on.
 #define QUEUES head, end0, end1
 #define GO [[clang::musttail]] return
-template <int SIDE> INLINE void leave(u16 *head, u16 *end0, u16 *end1) { left = {head, end0, head + SLOTS - (SIDE == 0), end1}; }
+template <int SIDE> INLINE void leave(u16 *head, u16 *end0, u16 *end1) {
+    left = {head, end0, head + SLOTS - (SIDE == 0), end1};
+}
 #define REST do { \
     if (SIDE == 0) { u64 pc = head[SLOTS - 1]; GO other_side[core[pc].key](QUEUES, pc); } \
     if (head == last) { leave<1>(QUEUES); return; } \
     u64 pc = *head++; GO first_side[core[pc].key](QUEUES, pc); } while (0)
 #define PUSH(task) (SIDE == 0 ? *end0++ = (task) : *end1++ = (task))
 #define NEXT(task) do { PUSH(task); REST; } while (0)
-#define DIE do { if (SIDE == 0 ? head == end0 : head + SLOTS == end1) { leave<SIDE>(QUEUES); return; } REST; } while (0)
+#define DIE do { \
+    if (SIDE == 0 ? head == end0 : head + SLOTS == end1) { leave<SIDE>(QUEUES); return; } \
+    REST; } while (0)
 
-template <int OPCODE, int MODIFIER, int A_MODE, int B_MODE, int SIDE> void step(u16 *head, u16 *end0, u16 *end1, u64 pc64) {
+template <int OPCODE, int MODIFIER, int A_MODE, int B_MODE, int SIDE>
+void step(u16 *head, u16 *end0, u16 *end1, u64 pc64) {
     u32 pc = pc64, a_number = core[pc].a, b_number = core[pc].b;
     Located a = operand<A_MODE>(pc, a_number), b = operand<B_MODE>(pc, b_number);
     constexpr int M = MODIFIER;
     // Which number of `a` goes with which of `b`, and which numbers of `b` are tested.
-    constexpr bool aa = M == A || M == F || M == I, bb = M == B || M == F || M == I, ab = M == AB || M == X, ba = M == BA || M == X;
+    constexpr bool aa = M == A || M == F || M == I, bb = M == B || M == F || M == I,
+                   ab = M == AB || M == X, ba = M == BA || M == X;
     constexpr bool test_a = M == A || M == BA || M >= F, test_b = M == B || M == AB || M >= F;
     u32 xa = a.a(), xb = a.b(), ya = b.a(), yb = b.b();
     Cell &target = core[b.at];
@@ -96,7 +112,12 @@ template <int OPCODE, int MODIFIER, int A_MODE, int B_MODE, int SIDE> void step(
     if (OPCODE == NOP) NEXT(raised(pc));
     if (OPCODE == MOV) {
         if (M == I) *(u64 *)&target = a.copy;
-        else { if (aa) target.a = xa; if (bb) target.b = xb; if (ab) target.b = xa; if (ba) target.a = xb; }
+        else {
+            if (aa) target.a = xa;
+            if (bb) target.b = xb;
+            if (ab) target.b = xa;
+            if (ba) target.a = xb;
+        }
         NEXT(raised(pc));
     }
     if (OPCODE == ADD || OPCODE == SUB || OPCODE == MUL) {
@@ -150,11 +171,16 @@ constexpr bool occurs(int key) {
 }
 template <int SIDE, int KEY> constexpr Step step_of() {
     constexpr int key = KEY ^ EMPTY;
-    if constexpr (occurs(key)) return &step<key & 15, (key >> 4) & 7, (key >> 7) & 7, (key >> 10), SIDE>;
+    if constexpr (occurs(key))
+        return &step<key & 15, (key >> 4) & 7, (key >> 7) & 7, (key >> 10), SIDE>;
     else return nullptr;
 }
-template <int SIDE, size_t... KEY> constexpr std::array<Step, 8192> steps(std::index_sequence<KEY...>) { return {{step_of<SIDE, KEY>()...}}; }
-const std::array<Step, 8192> first_side = steps<0>(std::make_index_sequence<8192>()), other_side = steps<1>(std::make_index_sequence<8192>());
+template <int SIDE, size_t... KEY>
+constexpr std::array<Step, 8192> steps(std::index_sequence<KEY...>) {
+    return {{step_of<SIDE, KEY>()...}};
+}
+const std::array<Step, 8192> first_side = steps<0>(std::make_index_sequence<8192>()),
+                             other_side = steps<1>(std::make_index_sequence<8192>());
 
 struct Warrior { Cell cells[200]; int length, start; };
 enum End { LOSS = 0, TIE = 1, WIN = 3 };
@@ -181,8 +207,10 @@ static End fought() {
         done += cycles;
         long counts[2] = {left.end0 - left.head0, left.end1 - left.head1};
         if (counts[0] > FEW || counts[1] > FEW || done >= CYCLES) continue;
-        if (kept_at && !memcmp(counts, kept_counts, sizeof counts) && !memcmp(kept_tasks[0], left.head0, 2 * counts[0])
-            && !memcmp(kept_tasks[1], left.head1, 2 * counts[1]) && !memcmp(kept, core, sizeof kept)) return TIE;
+        if (kept_at && !memcmp(counts, kept_counts, sizeof counts)
+            && !memcmp(kept_tasks[0], left.head0, 2 * counts[0])
+            && !memcmp(kept_tasks[1], left.head1, 2 * counts[1])
+            && !memcmp(kept, core, sizeof kept)) return TIE;
         if (done < 4 * kept_at) continue;
         kept_at = done;
         memcpy(kept_counts, counts, sizeof counts);
@@ -206,7 +234,10 @@ static int fight(const Warrior &candidate, const Warrior &opponent, u32 position
     return is_first || end == TIE ? end : WIN - end;
 }
 
-[[noreturn]] static void refuse(const char *path) { fprintf(stderr, "error: %s cannot be read\n", path); exit(2); }
+[[noreturn]] static void refuse(const char *path) {
+    fprintf(stderr, "error: %s cannot be read\n", path);
+    exit(2);
+}
 
 static int index_in(const char *const *words, int count, const char *word, const char *path) {
     for (int k = 0; k < count; k++) if (!strcmp(words[k], word)) return k;
@@ -218,21 +249,28 @@ static Warrior warrior_at(const char *path) {
     char line[256], opcode[4], modifier[3], a_mode, b_mode;
     int a, b;
     Warrior it = {};
-    if (!file || !fgets(line, sizeof line, file) || sscanf(line, "ORG %d", &it.start) != 1) refuse(path);
+    if (!file || !fgets(line, sizeof line, file) || sscanf(line, "ORG %d", &it.start) != 1)
+        refuse(path);
     while (fgets(line, sizeof line, file)) {
-        if (it.length == 200 || sscanf(line, "%3s.%2[A-Z] %c%d, %c%d", opcode, modifier, &a_mode, &a, &b_mode, &b) != 6) refuse(path);
+        if (it.length == 200 || sscanf(line, "%3s.%2[A-Z] %c%d, %c%d", opcode, modifier,
+                                       &a_mode, &a, &b_mode, &b) != 6) refuse(path);
         const char *first = strchr(MODES, a_mode), *second = strchr(MODES, b_mode);
         if (!first || !second) refuse(path);
-        int key = key_of(index_in(OPCODES, 16, opcode, path), index_in(MODIFIERS, 7, modifier, path), first - MODES, second - MODES);
+        int key = key_of(index_in(OPCODES, 16, opcode, path),
+                         index_in(MODIFIERS, 7, modifier, path), first - MODES, second - MODES);
         int size = SIZE;
-        it.cells[it.length++] = {(u16)((a % size + size) % size), (u16)((b % size + size) % size), (u16)(key ^ EMPTY), 0};
+        it.cells[it.length++] = {(u16)((a % size + size) % size),
+                                 (u16)((b % size + size) % size), (u16)(key ^ EMPTY), 0};
     }
     fclose(file);
     return it;
 }
 
 int main(int count, char **words) {
-    if (count != 4) { fprintf(stderr, "use: limit CANDIDATE.load OPPONENT.load SCHEDULE.csv\n"); return 2; }
+    if (count != 4) {
+        fprintf(stderr, "use: limit CANDIDATE.load OPPONENT.load SCHEDULE.csv\n");
+        return 2;
+    }
     Warrior candidate = warrior_at(words[1]), opponent = warrior_at(words[2]);
     FILE *schedule = fopen(words[3], "r");
     char line[99], first;

@@ -1,6 +1,6 @@
 """Races searches of large templates, at equal processor time. pMARS judges what they find.
 
-The search is `cwtune-seek`; it races `bench.naive`, and with --climb the climb of an older
+The search is `cwtune-seek`; it races `bench.naive`, and with --climb the climb of another
 checkout, on the templates and opponents of `bench/races`. A run that is judged is a line of the
 results, and is not repeated. The exit status is 3 if a search fails.
 """

@@ -173,7 +173,7 @@ def compare_texts(programs, dice, count, progress):
 
 def compare_adapted(programs):
     """Adapts the known texts and those of author/tests/redcode, but for those with P-space and
-    ROUNDS. Returns of how many pMARS lists something else for the original."""
+    ROUNDS. Returns how many pMARS lists otherwise than their originals."""
     texts = {known.name: known.text.encode("latin-1") for known in TEXTS}
     texts |= {path.name: path.read_bytes() for path in sorted(ADAPTED.glob("*.red"))}
     wrong = 0

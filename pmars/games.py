@@ -2,6 +2,7 @@
 import pathlib, subprocess
 
 from author.lib.endings import Fault
+from author.lib.pmars_program import LETTERS
 from author.lib.series import series
 from author.lib.tuning_files import Fight, schedule_text
 
@@ -10,7 +11,8 @@ LONGEST = 120  # seconds
 
 def letters(rules):
     """Returns the rules as options of pMARS."""
-    return [word for letter, number in zip("scpld", rules) for word in (f"-{letter}", str(number))]
+    return [word for name, number in rules._asdict().items()
+            for word in (f"-{LETTERS[name]}", str(number))]
 
 
 class Game:

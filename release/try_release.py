@@ -46,11 +46,6 @@ COMPLETIONS = [("cwtune che", "check"), ("cwtune tune --ca", "--cache"),
                ("cwtune-study --fr", "--fresh")]
 
 
-def built():
-    """Returns the build that is tried."""
-    return dist.build_of(None, None, None)
-
-
 def run(words, folder, path):
     """Runs words with nothing but the system and `path` on the PATH. Returns status and output."""
     env = {"PATH": f"{path}:/usr/bin:/bin", "HOME": "/nonexistent", "PYTHONDONTWRITEBYTECODE": "1"}
@@ -84,11 +79,11 @@ def faults_of_use(prefix, zsh=dist.ZSH):
             yield f"no file {place}"
 
 
-def trial_of_tar(work):
-    tar, checksum = dist.pack(work, built())
+def trial_of_tar(work, build):
+    tar, checksum = dist.pack(work, build)
     if checksum.read_text() != f"{dist.sha256(tar)}  {tar.name}\n":
         yield "its checksum is another one"
-    again, _ = dist.pack(work / "again", built())
+    again, _ = dist.pack(work / "again", build)
     if again.read_bytes() != tar.read_bytes():
         yield "packed twice it has other bytes"
     with tarfile.open(tar) as file:
@@ -101,17 +96,17 @@ def trial_of_tar(work):
     yield from faults_of_use(tree)
 
 
-def trial_of_install(work):
+def trial_of_install(work, build):
     prefix = work / "prefix"
     (prefix / "bin").mkdir(parents=True)
     (prefix / "bin/other").write_text("of somebody else\n")
-    dist.install(prefix, built())
+    dist.install(prefix, build)
     # as if an older release had one more file
     older = dist.SHARE / "older"
     (prefix / older).write_text("")
     with (prefix / dist.INSTALLED).open("a") as file:
         file.write(f"{older}\n")
-    dist.install(prefix, built())
+    dist.install(prefix, build)
     if (prefix / older).exists():
         yield "a file of an older release stays"
     yield from faults_of_use(prefix)
@@ -126,19 +121,19 @@ def faults_of_removal(prefix, expected):
         yield f"left after uninstall: {files}"
 
 
-def trial_of_broken_install(work):
+def trial_of_broken_install(work, build):
     """Breaks an installation amid its files. What it has put has to be removable."""
     (work / "share").mkdir()
     (work / "share/bash-completion").write_text("a file in place of a folder\n")
     with contextlib.suppress(OSError):
-        dist.install(work, built())
+        dist.install(work, build)
         yield "a file in place of a folder is no fault"
     (work / "share/bash-completion").unlink()
     dist.uninstall(work)
     yield from faults_of_removal(work, [])
 
 
-def trial_of_faults(work):
+def trial_of_faults(work, _):
     """Looks for licences where there are none, and runs a command that fails."""
     for call, word in [(dist.licences, work), (dist.run, "false")]:
         with contextlib.suppress(Fault):
@@ -146,25 +141,24 @@ def trial_of_faults(work):
             yield f"{call.__name__} {word}: no fault"
 
 
-def trial_of_builds(work):
+def trial_of_builds(work, build):
     """Takes a program that was built before, with its digest and what was proved of it, and with
     those of another one."""
-    digest = dist.sha256(dist.BUILT)
+    digest = dist.sha256(build.path)
     for name, of in [("PROVED", digest), ("OTHER", "0" * 64)]:
         (work / name).write_text(f"Proved with a kit\nprogram: SHA-256 {of}\n")
-    taken = dist.build_of(dist.BUILT, digest, work / "PROVED")
-    if taken != (dist.BUILT, (work / "PROVED").read_text()):
+    taken = dist.build_of(build.path, digest, work / "PROVED")
+    if taken != (build.path, (work / "PROVED").read_text()):
         yield f"the build is {taken}"
-    for wrong in [(dist.BUILT, "0" * 64, None), (dist.BUILT, digest, work / "OTHER"),
+    for wrong in [(build.path, "0" * 64, None), (build.path, digest, work / "OTHER"),
                   (work / "none", digest, None)]:
         with contextlib.suppress(Fault):
             dist.build_of(*wrong)
             yield f"{wrong} is no fault"
 
 
-def trial_of_package(work):
-    build = dist.build_of(dist.BUILT, dist.sha256(dist.BUILT), None)
-    [package] = dist.debian(work, build)
+def trial_of_package(work, build):
+    [package] = dist.debian(work, dist.build_of(build.path, dist.sha256(build.path), None))
     line = dist.run("dpkg-deb", "--field", str(package), "Description").splitlines()[-1]
     yield from compare("what is proved", " Not proved here: the program was built before.", line)[1]
     dist.run("dpkg-deb", "--extract", str(package), str(work / "system"))
@@ -208,8 +202,8 @@ def trials_of_pages(program):
             yield compare(f"completing {line}", f"{expected}\n", done.stdout)
 
 
-def trials():
-    yield from trials_of_pages(str(dist.BUILT))
+def trials(build):
+    yield from trials_of_pages(str(build.path))
     tried = [trial_of_tar, trial_of_install, trial_of_broken_install, trial_of_faults,
              trial_of_builds]
     if shutil.which("dpkg-deb"):
@@ -220,13 +214,12 @@ def trials():
         with tempfile.TemporaryDirectory() as folder:
             work = pathlib.Path(folder)
             (work / "again").mkdir()
-            yield trial.__name__.replace("_", " "), list(trial(work))
+            yield trial.__name__.replace("_", " "), list(trial(work, build))
 
 
 def main():
-    dist.BUILT = pathlib.Path(program_word("release.try_release", __doc__))
-    dist.proved = lambda: "not asked for in a trial\n"
-    return tally(trials())
+    program = pathlib.Path(program_word("release.try_release", __doc__))
+    return tally(trials(dist.Build(program, "not asked for in a trial\n")))
 
 
 if __name__ == "__main__":
