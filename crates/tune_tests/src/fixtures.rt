@@ -15,7 +15,7 @@ use rc_instr::{Rules, RulesError, Warrior, read_loadfile};
 use std::alloc::{AllocError, Global};
 use std::test::Fail;
 use tune_cert::{Reason, Verdict};
-use tune_problem::{Best, Inputs, Part};
+use tune_problem::{Best, Found, Inputs, Listing, Part, Row, Rows};
 use tune_runs::TuneTexts;
 use tune_template::Template;
 
@@ -31,6 +31,14 @@ pub(crate) const IMP_FILE: &[u8] = b"ORG 0\nMOV.I $0, $1\n";
 
 // A schedule of one fight against each of the two opponents, at address 8.
 pub(crate) const TWO_FIGHTS: &[u8] = b"opponent,position,first\n0,8,c\n1,8,c\n";
+
+// Two imps, which tie.
+pub(crate) const FIGHT_OF_IMPS: &[u8] = b"rules 16 20 4 4 4\nfight 8 c\n\
+    candidate\nORG 0\nMOV.I $0, $1\nopponent\nORG 0\nMOV.I $0, $1\n";
+
+// Six settings: (0, 5), (0, 7), (0, 9), (1, 5), (1, 7) and (1, 9), of which the last is the start
+// setting.
+pub(crate) const TWO_CONSTANTS: &[u8] = b";@tune A 0 1 1 1\n;@tune B 5 9 2 9\nDAT A, B";
 
 // The only setting of a template without constants, an imp; and its certificate.
 pub(crate) const ONE_IMP: &[u8] = b"MOV 0, 1";
@@ -64,15 +72,11 @@ pub(crate) const FOUR_EQUAL: &[u8] = b";@tune K 0 3 1 2\nMOV 0, 1";
 pub(crate) const FOUR_EQUAL_CERT: &[u8] =
     b"cwcert,1,4\nbest,0,4\ncap,0,0:3 1:1\nsame,1,2\ncap,2,0:3 1:1\nsame,3,2\n";
 
-// The verdict on `FOUR_EQUAL_CERT`, and on each share of it.
+// The verdict on `FOUR_EQUAL_CERT` and on `ONE_IMP_CERT`.
 pub(crate) const ACCEPTED: Verdict = Verdict::Accepted { best: 0, total: 4 };
 
-// A certificate of `FOUR_EQUAL` with a total that no setting has.
-pub(crate) const FOUR_EQUAL_TOTAL_5: &[u8] =
-    b"cwcert,1,4\nbest,0,5\ncap,0,0:3 1:1\nsame,1,2\ncap,2,0:3 1:1\nsame,3,2\n";
-
 // A certificate of `FOUR_EQUAL`: how many rows it has, the verdict of a check, and the line that a
-// run writes.
+// run writes. The cases are in the order in which a check looks for what is wrong.
 pub(crate) struct CertCase {
     pub(crate) name: &'static str,
     pub(crate) text: &'static [u8],
@@ -90,26 +94,6 @@ pub(crate) const FOUR_EQUAL_CASES: [CertCase; 8] = [
         line: b"accepted best 0 total 4\n",
     },
     CertCase {
-        name: "a tie listed as a win",
-        text: b"cwcert,1,4\nbest,0,4\ncap,0,0:3 1:1\nsame,1,2\ncap,2,0:3 1:3\nsame,3,2\n",
-        rows: 4,
-        verdict: Verdict::Rejected {
-            row: 4,
-            reason: Reason::WrongPoints,
-        },
-        line: b"rejected row 4 WrongPoints\n",
-    },
-    CertCase {
-        name: "a best setting that is not the first of its equals",
-        text: b"cwcert,1,4\nbest,2,4\nsame,0,2\nsame,1,2\ncap,2,0:3 1:1\nsame,3,2\n",
-        rows: 4,
-        verdict: Verdict::Rejected {
-            row: 2,
-            reason: Reason::CapTooHigh,
-        },
-        line: b"rejected row 2 CapTooHigh\n",
-    },
-    CertCase {
         name: "a row too few",
         text: b"cwcert,1,4\nbest,0,4\ncap,0,0:3 1:1\nsame,1,2\ncap,2,0:3 1:1\n",
         rows: 3,
@@ -120,18 +104,8 @@ pub(crate) const FOUR_EQUAL_CASES: [CertCase; 8] = [
         line: b"rejected row 0 RowCount\n",
     },
     CertCase {
-        name: "a fight listed twice",
-        text: b"cwcert,1,4\nbest,0,4\ncap,0,0:3 1:1\nsame,1,2\ncap,2,0:3 0:3\nsame,3,2\n",
-        rows: 4,
-        verdict: Verdict::Rejected {
-            row: 4,
-            reason: Reason::RepeatedFight,
-        },
-        line: b"rejected row 4 RepeatedFight\n",
-    },
-    CertCase {
         name: "a total above that of the best setting",
-        text: FOUR_EQUAL_TOTAL_5,
+        text: b"cwcert,1,4\nbest,0,5\ncap,0,0:3 1:1\nsame,1,2\ncap,2,0:3 1:1\nsame,3,2\n",
         rows: 4,
         verdict: Verdict::Rejected {
             row: 1,
@@ -150,6 +124,26 @@ pub(crate) const FOUR_EQUAL_CASES: [CertCase; 8] = [
         line: b"rejected row 5 NotRefused\n",
     },
     CertCase {
+        name: "a fight listed twice",
+        text: b"cwcert,1,4\nbest,0,4\ncap,0,0:3 1:1\nsame,1,2\ncap,2,0:3 0:3\nsame,3,2\n",
+        rows: 4,
+        verdict: Verdict::Rejected {
+            row: 4,
+            reason: Reason::RepeatedFight,
+        },
+        line: b"rejected row 4 RepeatedFight\n",
+    },
+    CertCase {
+        name: "a tie listed as a win",
+        text: b"cwcert,1,4\nbest,0,4\ncap,0,0:3 1:1\nsame,1,2\ncap,2,0:3 1:3\nsame,3,2\n",
+        rows: 4,
+        verdict: Verdict::Rejected {
+            row: 4,
+            reason: Reason::WrongPoints,
+        },
+        line: b"rejected row 4 WrongPoints\n",
+    },
+    CertCase {
         name: "a row that refers to one without fights",
         text: b"cwcert,1,4\nbest,0,4\ncap,0,0:3 1:1\nsame,1,2\ncap,2,0:3 1:1\nsame,3,1\n",
         rows: 4,
@@ -158,6 +152,16 @@ pub(crate) const FOUR_EQUAL_CASES: [CertCase; 8] = [
             reason: Reason::NotSame,
         },
         line: b"rejected row 5 NotSame\n",
+    },
+    CertCase {
+        name: "a best setting that is not the first of its equals",
+        text: b"cwcert,1,4\nbest,2,4\nsame,0,2\nsame,1,2\ncap,2,0:3 1:1\nsame,3,2\n",
+        rows: 4,
+        verdict: Verdict::Rejected {
+            row: 2,
+            reason: Reason::CapTooHigh,
+        },
+        line: b"rejected row 2 CapTooHigh\n",
     },
 ];
 
@@ -168,9 +172,82 @@ pub(crate) const TWO_IN_TURN: &[u8] = b";@tune K 0 5 1 0\nMOV 0, 1\nDAT K % 2";
 pub(crate) const TWO_IN_TURN_CERT: &[u8] =
     b"cwcert,1,6\nbest,0,4\ncap,0,0:3 1:1\ncap,1,1:1\nsame,2,0\nsame,3,1\nsame,4,0\nsame,5,1\n";
 
+// The certificate of what `five_rows` returns.
+pub(crate) const FIVE: &[u8] = b"cwcert,2,5\nbest,2,7\nrefused,0,-\n\
+    cap,1,10:0 4:3\ncap,2,0:3 1:1 2:3\ncap,3,-\nsame,4,4294967295\n";
+
+// A template, and what a search finds that remembers 4096 settings: how many fights it plays, the
+// report, and the certificate, whose `cap` rows list these fights. A copied row lists those of
+// another again. The report counts the fights played, of those of all candidates.
+pub(crate) struct TuningCase {
+    pub(crate) name: &'static str,
+    pub(crate) template: &'static [u8],
+    pub(crate) fights: u64,
+    pub(crate) report: &'static [u8],
+    pub(crate) cert: &'static [u8],
+}
+
+pub(crate) const TUNINGS: [TuningCase; 4] = [
+    TuningCase {
+        name: "one setting",
+        template: ONE_IMP,
+        fights: 2,
+        report: b"vectors 1\ncandidates 1\nbest 0\nconstants -\ntotal 4 of 6\nfights 2 of 2\n",
+        cert: ONE_IMP_CERT,
+    },
+    TuningCase {
+        name: "four settings with one warrior",
+        template: FOUR_EQUAL,
+        fights: 2,
+        report: b"vectors 4\ncandidates 4\nbest 0\nconstants K=0\ntotal 4 of 6\nfights 2 of 8\n",
+        cert: FOUR_EQUAL_CERT,
+    },
+    TuningCase {
+        name: "a first setting that does not assemble",
+        template: FIRST_REFUSED,
+        fights: 3,
+        report: b"vectors 3\ncandidates 2\nbest 1\nconstants K=1\ntotal 4 of 6\nfights 3 of 4\n",
+        cert: FIRST_REFUSED_CERT,
+    },
+    TuningCase {
+        name: "three settings with different warriors",
+        template: THREE_UNEQUAL,
+        fights: 5,
+        report: THREE_UNEQUAL_REPORT,
+        cert: THREE_UNEQUAL_CERT,
+    },
+];
+
 // A setting whose warrior is an imp, with its total.
 pub(crate) fn imp(vector: u32) -> Best {
     Best { vector, total: 4 }
+}
+
+// Makes a cap row.
+fn cap(alloc: Global, fights: &[(u32, u8)]) -> Result<Row, AllocError> {
+    Ok(Row::Cap(Listing::from_vec(fights.to_vec(alloc)?)))
+}
+
+// Returns what a search found, with rows of each kind. The fights of one row are not in order.
+pub(crate) fn five_rows(alloc: Global) -> Result<Found, Fail>
+    ensures rows { IfOk result (λ f. length f.rows ≡ 5) }
+    ensures version { IfOk result (λ f. f.version ≡ 2) }
+{
+    let mut rows = Vec::new(alloc);
+    rows.push(Row::Refused)?;
+    rows.push(cap(alloc, &[(10, 0), (4, 3)])?)?;
+    rows.push(cap(alloc, &[(0, 3), (1, 1), (2, 3)])?)?;
+    rows.push(cap(alloc, &[])?)?;
+    rows.push(Row::Same(4_294_967_295))?;
+    Ok(Found {
+        version: 2,
+        best: 2,
+        total: 7,
+        rows: Rows::from_vec(rows),
+        fights: 5,
+        candidates: 4,
+        copied: None,
+    })
 }
 
 // Makes rules of 16 cells, 20 cycles, 4 tasks, length 4 and distance 4.
@@ -178,6 +255,11 @@ pub(crate) fn small_rules() -> Result<Rules, RulesError>
     ensures { result ≡ rules_of (rules_view 16 20 4 4 4) }
 {
     Rules::try_new(16, 20, 4, 4, 4)
+}
+
+// Makes the same rules with a core of 4000 cells.
+pub(crate) fn large_rules() -> Result<Rules, RulesError> {
+    Rules::try_new(4000, 20, 4, 4, 4)
 }
 
 // Reads `DAT_FILE` and `IMP_FILE`.
@@ -206,14 +288,13 @@ pub(crate) fn texts_of<'a>(
     template: &'a [u8],
     opponents: &'a [Vec<u8>],
     rules: &'a Rules,
-    part: Part,
 ) -> TuneTexts<'a> {
     TuneTexts {
         template,
         opponents,
         schedule: TWO_FIGHTS,
         rules,
-        part,
+        part: Part::whole(),
     }
 }
 
@@ -228,4 +309,16 @@ pub(crate) fn inputs_under(alloc: Global, text: &[u8], rules: Rules) -> Result<I
     let opponents = two_opponents(alloc, &rules)?;
     let schedule = Schedule::read(alloc, TWO_FIGHTS, 2, &rules)?;
     Ok(Inputs::new(template, opponents, schedule, rules))
+}
+
+// Makes a request for memory that is larger than all others. `no_memory` takes none after it.
+pub(crate) fn use_up(alloc: Global) -> Result<(), AllocError> {
+    drop(Vec::<u8>::with_capacity(alloc, 16_777_216)?);
+    Ok(())
+}
+
+// Makes a small request for memory.
+pub(crate) fn ask(alloc: Global) -> Result<(), Fail> {
+    drop(Vec::<u8>::with_capacity(alloc, 1)?);
+    Ok(())
 }

@@ -1,40 +1,31 @@
-//! Tests of `tune_template` (`templates`, and `parts` of its settings), `tune_problem` and
-//! `tune_cert` (`certificates`, `statements` and `demands`), `tune_search` (`searches` and
-//! `floors`) and `tune_runs` (`runs`). `watchers` shows what searches and checks tell, and `shares`
-//! what checks of shares say; `memory` has the tests of calls that allocate, `no_memory` those of
-//! calls that do not, `arenas` those of calls that make one arena, and `fixtures` and `writers`
-//! what several modules use.
+//! Tests of `tune_template` (`templates`), `tune_problem` (`problems`), `tune_cert`
+//! (`certificates`), `tune_search` (`searches`) and `tune_runs` (`runs`); `fault_texts` has what
+//! their faults print, and `fixtures`, `watchers` and `writers` what several modules use.
 //!
 //! They show that each public call can succeed, and what neither a clause says nor a run of the
 //! program shows, such as the texts of faults. What a run shows is a case in `gate/cases/`. They
 //! are a crate of their own because a crate with tests is proved twice, once without its tests and
 //! once with them.
+//!
+//! `make test` also runs modules of three names with less memory (gate/refuse/growth.py). A test of
+//! `memory` has its first, second and so on request refused: it then ends with the same results, or
+//! with the error `OutOfMemory` of the call itself, in no other variant. One of `no_memory` has
+//! every request refused after `use_up`: it then ends at its last line, which makes one. Of
+//! `arenas` the large requests are counted: each test makes one arena.
 #![tactic(auto)]
 
 #[cfg(test)]
-mod arenas;
-#[cfg(test)]
 mod certificates;
 #[cfg(test)]
-mod demands;
+mod fault_texts;
 #[cfg(test)]
 mod fixtures;
 #[cfg(test)]
-mod floors;
-#[cfg(test)]
-mod memory;
-#[cfg(test)]
-mod no_memory;
-#[cfg(test)]
-mod parts;
+mod problems;
 #[cfg(test)]
 mod runs;
 #[cfg(test)]
 mod searches;
-#[cfg(test)]
-mod shares;
-#[cfg(test)]
-mod statements;
 #[cfg(test)]
 mod templates;
 #[cfg(test)]

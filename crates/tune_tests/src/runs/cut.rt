@@ -1,18 +1,13 @@
-//! Each run on writers that take some pieces of its text and then fail, or then take no byte; and
-//! on writers that fail at once, if it refuses its input.
+//! Runs on writers that take some pieces of the text and then fail, or then take no byte.
 use crate::fixtures::{
-    THREE_UNEQUAL, THREE_UNEQUAL_CERT, THREE_UNEQUAL_REPORT, TWO_FIGHTS, both_opponents,
-    small_rules,
+    FIGHT_OF_IMPS, THREE_UNEQUAL, THREE_UNEQUAL_CERT, THREE_UNEQUAL_REPORT, TWO_FIGHTS,
+    both_opponents, small_rules,
 };
-use crate::runs::memory::FIGHT_OF_IMPS;
-use crate::writers::{Broken, Failing, PIECE};
-use mars_fight::{ScheduleFault, ScheduleFaultKind};
-use rc_asm::{AsmFault, AsmKind};
-use rc_instr::{Outlet, Rules};
+use crate::writers::{Failing, PIECE};
+use rc_instr::Outlet;
 use std::alloc::Global;
 use std::test::Fail;
 use tune_runs::{RunFault, asm_run, check_run, fight_run, tune_run};
-use tune_template::{TemplateFault, TemplateKind};
 
 // Checks that a run that writes `text` ended as it should on a writer that takes `writes` writes:
 // with `Write` and the first pieces of the text, or with the whole text.
@@ -159,120 +154,5 @@ fn a_report_is_cut(rt: HostRuntime) -> Result<(), Fail> {
             assert_eq!(rt; cert.as_slice(), THREE_UNEQUAL_CERT, "{writes}");
         }
     }
-    Ok(())
-}
-
-// Tunes on two writers that fail at once. Returns the fault, if neither was given anything.
-fn refusal(alloc: Global, template: &[u8], schedule: &[u8]) -> Result<Option<RunFault>, Fail> {
-    let rules = small_rules()?;
-    let opponents = both_opponents(alloc)?;
-    let mut report = Outlet::new(Broken);
-    let mut cert = Outlet::new(Broken);
-    let texts = opponents.as_slice();
-    let result = tune_run(
-        alloc,
-        template,
-        texts,
-        schedule,
-        &rules,
-        4096,
-        &mut report,
-        &mut cert,
-    );
-    if report.failed() || cert.failed() {
-        return Ok(None);
-    }
-    Ok(result.err())
-}
-
-// A template and a schedule, and why a tuning of them is refused.
-struct RefusedCase {
-    name: &'static str,
-    template: &'static [u8],
-    schedule: &'static [u8],
-    fault: RunFault,
-}
-
-const REFUSED: [RefusedCase; 3] = [
-    RefusedCase {
-        name: "an assertion that fails in each setting",
-        template: b";@tune K 0 3 1 2\nMOV 0, 1\n;assert K > 9",
-        schedule: TWO_FIGHTS,
-        fault: RunFault::NoCandidate,
-    },
-    RefusedCase {
-        name: "a constant without a value",
-        template: b";@tune K 3 2 1 3\nMOV 0, 1",
-        schedule: TWO_FIGHTS,
-        fault: RunFault::Template(TemplateFault {
-            line: 1,
-            kind: TemplateKind::EmptyRange,
-        }),
-    },
-    RefusedCase {
-        name: "a position nearer than the distance of the rules",
-        template: THREE_UNEQUAL,
-        schedule: b"opponent,position,first\n0,3,c\n",
-        fault: RunFault::Schedule(ScheduleFault {
-            row: 1,
-            kind: ScheduleFaultKind::BadPosition,
-        }),
-    },
-];
-
-#[test]
-fn a_refused_tuning_writes_nothing(rt: HostRuntime) -> Result<(), Fail> {
-    for case in &REFUSED {
-        assert_eq!(rt;
-            refusal(rt.alloc(), case.template, case.schedule)?,
-            Some(case.fault),
-            "{}",
-            case.name
-        );
-    }
-    Ok(())
-}
-
-#[test]
-fn a_refused_assembly_writes_nothing(rt: HostRuntime) {
-    let mut out = Outlet::new(Broken);
-    let fault = AsmFault {
-        line: 1,
-        kind: AsmKind::MissingOperand,
-    };
-    let result = asm_run(rt.alloc(), b"MOV 1", &Rules::standard(), &mut out);
-    assert_eq!(rt; result, Err(RunFault::Asm(fault)));
-    assert!(rt; !out.failed());
-}
-
-#[test]
-fn a_refused_fight_writes_nothing(rt: HostRuntime) {
-    let mut out = Outlet::new(Broken);
-    let result = fight_run(rt.alloc(), b"", &mut out);
-    assert_eq!(rt; result, Err(RunFault::FightText { line: 1 }));
-    assert!(rt; !out.failed());
-}
-
-#[test]
-fn a_refused_check_writes_nothing(rt: HostRuntime) -> Result<(), Fail> {
-    let opponents = both_opponents(rt.alloc())?;
-    let texts = opponents.as_slice();
-    let rules = Rules::standard();
-    let mut out = Outlet::new(Broken);
-    let fault = ScheduleFault {
-        row: 0,
-        kind: ScheduleFaultKind::Header,
-    };
-    let result = check_run(
-        rt.alloc(),
-        THREE_UNEQUAL,
-        texts,
-        b"",
-        &rules,
-        THREE_UNEQUAL_CERT,
-        &mut out,
-    );
-    assert_eq!(rt; result, Err(RunFault::Schedule(fault)));
-    assert!(rt; !out.failed());
     Ok(())
 }

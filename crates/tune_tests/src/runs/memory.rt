@@ -1,22 +1,24 @@
-//! One test for each run that allocates: tables of results worked out by hand, and `OutOfMemory`
-//! passed on as the test's error. The tunings and the certificates are those of `fixtures`. The
-//! writers have their room beforehand.
-//!
-//! `make test` also runs each of these tests with its first, second and so on request for memory
-//! refused (gate/refuse/growth.py). It then ends with the same results, or with the error
-//! `OutOfMemory` of the run itself, in no other variant, and nothing written.
+//! Calls that allocate: the runs. Their writers have room beforehand. A run that is refused writes
+//! nothing.
 ghost use Rattle.std.specs.Prelude.{◌≡◌, ◌≤◌, false, IfOk};
 ghost use Rattle.tune_search.specs.Limits.{MOST_CAPACITY};
 
 use crate::fixtures::{
-    ACCEPTED, FIRST_REFUSED, FIRST_REFUSED_CERT, FOUR_EQUAL, FOUR_EQUAL_CASES, FOUR_EQUAL_CERT,
-    ONE_IMP, ONE_IMP_CERT, THREE_UNEQUAL, THREE_UNEQUAL_CERT, THREE_UNEQUAL_REPORT, TWO_FIGHTS,
-    TWO_IN_TURN, TWO_IN_TURN_CERT, both_opponents, small_rules,
+    ACCEPTED, DAT_TEXT, FIGHT_OF_IMPS, FOUR_EQUAL, FOUR_EQUAL_CASES, IMP_TEXT, ONE_IMP, TUNINGS,
+    TWO_CONSTANTS, TWO_FIGHTS, TWO_IN_TURN, TWO_IN_TURN_CERT, both_opponents, small_rules,
 };
+use mars_core::Side;
+use mars_fight::{ScheduleFault, ScheduleFaultKind};
+use rc_asm::{AsmFault, AsmKind};
+use rc_expand::ExpandKind;
 use rc_instr::Outlet;
+use rc_text::EvalFault;
 use std::alloc::{AllocError, Global};
 use std::test::Fail;
-use tune_runs::{RunFault, asm_run, check_run, fight_run, tune_run};
+use tune_runs::{
+    DuelTexts, RunFault, WhichSetting, asm_run, check_run, duel_run, fight_run, setting_run,
+    settings_run, tune_run,
+};
 
 // Returns an outlet to memory that has its room.
 fn outlet(alloc: Global) -> Result<Outlet<Vec<u8>>, AllocError>
@@ -25,250 +27,176 @@ fn outlet(alloc: Global) -> Result<Outlet<Vec<u8>>, AllocError>
     Ok(Outlet::new(Vec::with_capacity(alloc, 256)?))
 }
 
-// Returns what a run wrote, or the text of its fault. A refused run has to have written nothing.
-// Out of memory is an error.
-fn outcome(
-    alloc: Global,
-    ended: Result<(), RunFault>,
-    written: Outlet<Vec<u8>>,
-) -> Result<Vec<u8>, Fail> {
-    let bytes = written.into_inner();
-    let Err(fault) = ended else {
-        return Ok(bytes);
-    };
-    if !bytes.is_empty() {
+// Returns what a run wrote. Its fault is an error.
+fn written(ended: Result<(), RunFault>, out: Outlet<Vec<u8>>) -> Result<Vec<u8>, Fail> {
+    let bytes = out.into_inner();
+    if ended.is_err() && !bytes.is_empty() {
         return Err(Fail::from("a refused run wrote something"));
     }
-    if fault == RunFault::OutOfMemory {
-        return Err(Fail::from(fault));
-    }
-    Ok(format!(in alloc; "{fault}")?.into_bytes())
+    ended?;
+    Ok(bytes)
 }
 
-// A text, and what a run of it writes or the text of its fault.
-struct TextCase {
-    name: &'static str,
-    text: &'static [u8],
-    want: &'static [u8],
-}
-
-// A warrior as it was posted: a mail header, which is skipped since it comes before `;redcode`,
-// comments that say whose it is, and an assertion about the rules.
-const POSTED: &[u8] =
-    b"From: a mail header\n;redcode-94\n;name Dwarf\n;author A. K. Dewdney\n;assert CORESIZE % 4 == 0\nstep EQU 4\n  ORG start\nbomb DAT #0, #0\nstart ADD #step, bomb\n  MOV bomb, @bomb\n  JMP start\n  END\n";
-
-const ASSEMBLIES: [TextCase; 12] = [
-    TextCase {
-        name: "a sum",
-        text: b"s EQU 2+3\nDAT #0, #s*2\n",
-        want: b"ORG 0\nDAT.F #0, #8\n",
-    },
-    TextCase {
-        name: "a quotient is cut towards 0",
-        text: b"DAT #-7/2\n",
-        want: b"ORG 0\nDAT.F $0, #-3\n",
-    },
-    TextCase {
-        name: "copies of a block",
-        text: b"i FOR 2\nx&i DAT #i\nROF\nJMP x01\n",
-        want: b"ORG 0\nDAT.F $0, #1\nDAT.F $0, #2\nJMP.B $-2, $0\n",
-    },
-    TextCase {
-        name: "a text as it was posted",
-        text: POSTED,
-        want: b"ORG 1\nDAT.F #0, #0\nADD.AB #4, $-1\nMOV.I $-2, @-2\nJMP.B $-2, $0\n",
-    },
-    TextCase {
-        name: "a MOV with one operand",
-        text: b"MOV 1\n",
-        want: b"line 1: missing operand",
-    },
-    TextCase {
-        name: "a division by 0",
-        text: b"DAT 1/0\n",
-        want: b"line 1: division by zero",
-    },
-    TextCase {
-        name: "a FOR without a ROF",
-        text: b"FOR 3\n",
-        want: b"line 1: FOR without ROF",
-    },
-    TextCase {
-        name: "a decimal of more than 32 bits",
-        text: b"DAT 4294967296\n",
-        want: b"line 1: number above 4294967295",
-    },
-    TextCase {
-        name: "a third operand",
-        text: b"MOV 1, 2, 3\n",
-        want: b"line 1: too many operands",
-    },
-    TextCase {
-        name: "a name that nothing defines",
-        text: b"DAT x\n",
-        want: b"line 1: unknown name",
-    },
-    TextCase {
-        name: "a sum of one number",
-        text: b"DAT 1 +\n",
-        want: b"line 1: invalid expression",
-    },
-    TextCase {
-        name: "a word that is not an opcode",
-        text: b"PIN 5\n",
-        want: b"line 1: unknown opcode or modifier",
-    },
+// Redcode texts, and their load files.
+const LOADS: [(&[u8], &[u8]); 2] = [
+    (b"s EQU 2+3\nDAT #0, #s*2\n", b"ORG 0\nDAT.F #0, #8\n"),
+    (
+        b"i FOR 2\nx&i DAT #i\nROF\nJMP x01\n",
+        b"ORG 0\nDAT.F $0, #1\nDAT.F $0, #2\nJMP.B $-2, $0\n",
+    ),
 ];
-
-fn assembled(alloc: Global, text: &[u8]) -> Result<Vec<u8>, Fail> {
-    let rules = small_rules()?;
-    let mut out = outlet(alloc)?;
-    let ended = asm_run(alloc, text, &rules, &mut out);
-    outcome(alloc, ended, out)
-}
 
 #[test]
 fn asm_run_writes_the_load_file(rt: HostRuntime) -> Result<(), Fail> {
-    for case in &ASSEMBLIES {
-        assert_eq!(rt;
-            assembled(rt.alloc(), case.text)?.as_slice(),
-            case.want,
-            "{}",
-            case.name
-        );
+    let rules = small_rules()?;
+    for &(text, load) in &LOADS {
+        let mut out = outlet(rt.alloc())?;
+        let ended = asm_run(rt.alloc(), text, &rules, &mut out);
+        assert_eq!(rt; written(ended, out)?.as_slice(), load);
     }
     Ok(())
 }
 
-// Two imps, which tie.
-pub(crate) const FIGHT_OF_IMPS: &[u8] =
-    b"rules 16 20 4 4 4\nfight 8 c\ncandidate\nORG 0\nMOV.I $0, $1\nopponent\nORG 0\nMOV.I $0, $1\n";
-
-// Fights of at most 20 cycles, of two turns each: a tie takes 40 turns.
-const FIGHTS: [TextCase; 4] = [
-    TextCase {
-        name: "two imps tie",
-        text: FIGHT_OF_IMPS,
-        want: b"tie 1 turns 40\n",
-    },
-    TextCase {
-        name: "a candidate that dies loses in the first turn",
-        text: b"rules 16 20 4 4 4\nfight 8 c\ncandidate\nORG 0\nDAT.F $0, $0\nopponent\nORG 0\nMOV.I $0, $1\n",
-        want: b"loss 0 turns 1\n",
-    },
-    TextCase {
-        name: "an opponent that moves second dies in the second turn",
-        text: b"rules 16 1 4 4 4\nfight 8 c\ncandidate\nORG 0\nMOV.I $0, $1\nopponent\nORG 0\nDAT.F $0, $0\n",
-        want: b"win 3 turns 2\n",
-    },
-    TextCase {
-        name: "an imp and a jump to itself tie",
-        text: b"rules 16 20 4 4 4\nfight 8 c\ncandidate\nORG 0\nMOV.I $0, $1\nopponent\nORG 0\nJMP.B $0, $0\n",
-        want: b"tie 1 turns 40\n",
-    },
+// Redcode texts, and why their only line does not assemble.
+const FAULTS: [(&[u8], AsmKind); 3] = [
+    (b"FOR 3\n", AsmKind::Expand(ExpandKind::ForWithoutRof)),
+    (b"MOV 1\n", AsmKind::MissingOperand),
+    (b"DAT 1/0\n", AsmKind::Value(EvalFault::DivisionByZero)),
 ];
 
-fn fought(alloc: Global, text: &[u8]) -> Result<Vec<u8>, Fail> {
+// Returns why an assembly of `text` is refused, if it is. Out of memory is an error.
+fn asm_fault(alloc: Global, text: &[u8]) -> Result<Option<RunFault>, Fail> {
+    let rules = small_rules()?;
     let mut out = outlet(alloc)?;
-    let ended = fight_run(alloc, text, &mut out);
-    outcome(alloc, ended, out)
+    let ended = asm_run(alloc, text, &rules, &mut out);
+    if !out.into_inner().is_empty() {
+        return Err(Fail::from("a refused run wrote something"));
+    }
+    if ended == Err(RunFault::OutOfMemory) {
+        return Err(Fail::from(RunFault::OutOfMemory));
+    }
+    Ok(ended.err())
 }
 
 #[test]
-fn fight_run_writes_the_outcome(rt: HostRuntime) -> Result<(), Fail> {
-    for case in &FIGHTS {
-        assert_eq!(rt;
-            fought(rt.alloc(), case.text)?.as_slice(),
-            case.want,
-            "{}",
-            case.name
-        );
+fn asm_run_names_the_fault(rt: HostRuntime) -> Result<(), Fail> {
+    for &(text, kind) in &FAULTS {
+        let want = RunFault::Asm(AsmFault { line: 1, kind });
+        assert_eq!(rt; asm_fault(rt.alloc(), text)?, Some(want), "{kind:?}");
     }
     Ok(())
 }
 
-// What a tuning wrote as a report, or the text of its fault; and its certificate.
+#[test]
+fn settings_run_counts_the_settings(rt: HostRuntime) -> Result<(), Fail> {
+    let mut out = outlet(rt.alloc())?;
+    let ended = settings_run(rt.alloc(), TWO_CONSTANTS, &mut out);
+    assert_eq!(rt;
+        written(ended, out)?.as_slice(),
+        b"vectors 6\nconstant A 2 1\nconstant B 3 9\n".as_slice()
+    );
+    Ok(())
+}
+
+// Settings of `TWO_CONSTANTS`, and the load files of their warriors.
+const SETTINGS: [(WhichSetting, &[u8]); 2] = [
+    (WhichSetting::Index(1), b"ORG 0\nDAT.F $0, $7\n"),
+    (WhichSetting::Start, b"ORG 0\nDAT.F $1, $-7\n"),
+];
+
+#[test]
+fn setting_run_writes_the_load_file(rt: HostRuntime) -> Result<(), Fail> {
+    let rules = small_rules()?;
+    for &(which, load) in &SETTINGS {
+        let mut out = outlet(rt.alloc())?;
+        let ended = setting_run(rt.alloc(), TWO_CONSTANTS, which, &rules, &mut out);
+        assert_eq!(rt; written(ended, out)?.as_slice(), load, "{which:?}");
+    }
+    Ok(())
+}
+
+// A tie takes 20 cycles, of two turns each.
+#[test]
+fn fight_run_writes_the_outcome(rt: HostRuntime) -> Result<(), Fail> {
+    let mut out = outlet(rt.alloc())?;
+    let ended = fight_run(rt.alloc(), FIGHT_OF_IMPS, &mut out);
+    assert_eq!(rt;
+        written(ended, out)?.as_slice(),
+        b"tie 1 turns 40\n".as_slice()
+    );
+    Ok(())
+}
+
+// The opponent dies in the second turn.
+#[test]
+fn duel_run_writes_the_outcome(rt: HostRuntime) -> Result<(), Fail> {
+    let rules = small_rules()?;
+    let texts = DuelTexts {
+        candidate: IMP_TEXT,
+        opponent: DAT_TEXT,
+        rules: &rules,
+        position: 8,
+        first: Side::Candidate,
+    };
+    let mut out = outlet(rt.alloc())?;
+    let ended = duel_run(rt.alloc(), &texts, &mut out);
+    assert_eq!(rt;
+        written(ended, out)?.as_slice(),
+        b"win 3 turns 2\n".as_slice()
+    );
+    Ok(())
+}
+
+// What a tuning wrote, or its fault.
 #[derive(Drop)]
 struct Tuned {
+    fault: Option<RunFault>,
     report: Vec<u8>,
     cert: Vec<u8>,
 }
 
 // Tunes a template. Out of memory is an error.
-fn tune_with(alloc: Global, template: &[u8], capacity: u32) -> Result<Tuned, Fail>
+fn tune_with(
+    alloc: Global,
+    template: &[u8],
+    opponents: &[Vec<u8>],
+    capacity: u32,
+) -> Result<Tuned, Fail>
     requires { (1 ≤ capacity) × (capacity ≤ MOST_CAPACITY) }
 {
     let rules = small_rules()?;
-    let opponents = both_opponents(alloc)?;
     let mut report = outlet(alloc)?;
     let mut cert = outlet(alloc)?;
-    let texts = opponents.as_slice();
     let ended = tune_run(
         alloc,
         template,
-        texts,
+        opponents,
         TWO_FIGHTS,
         &rules,
         capacity,
         &mut report,
         &mut cert,
     );
+    let report = report.into_inner();
     let cert = cert.into_inner();
-    if ended.is_err() && !cert.is_empty() {
-        return Err(Fail::from("a refused run wrote a certificate"));
+    if ended.is_err() && !(report.is_empty() && cert.is_empty()) {
+        return Err(Fail::from("a refused run wrote something"));
+    }
+    if ended == Err(RunFault::OutOfMemory) {
+        return Err(Fail::from(RunFault::OutOfMemory));
     }
     Ok(Tuned {
-        report: outcome(alloc, ended, report)?,
+        fault: ended.err(),
+        report,
         cert,
     })
 }
 
-// A template, and what a tuning writes that remembers 4096 settings: the report, or the text of its
-// fault, and the certificate. The report counts the fights played, of those of all candidates.
-struct TuningCase {
-    name: &'static str,
-    template: &'static [u8],
-    report: &'static [u8],
-    cert: &'static [u8],
-}
-
-const TUNINGS: [TuningCase; 5] = [
-    TuningCase {
-        name: "one setting",
-        template: ONE_IMP,
-        report: b"vectors 1\ncandidates 1\nbest 0\nconstants -\ntotal 4 of 6\nfights 2 of 2\n",
-        cert: ONE_IMP_CERT,
-    },
-    TuningCase {
-        name: "four settings with one warrior",
-        template: FOUR_EQUAL,
-        report: b"vectors 4\ncandidates 4\nbest 0\nconstants K=0\ntotal 4 of 6\nfights 2 of 8\n",
-        cert: FOUR_EQUAL_CERT,
-    },
-    TuningCase {
-        name: "a first setting that does not assemble",
-        template: FIRST_REFUSED,
-        report: b"vectors 3\ncandidates 2\nbest 1\nconstants K=1\ntotal 4 of 6\nfights 3 of 4\n",
-        cert: FIRST_REFUSED_CERT,
-    },
-    TuningCase {
-        name: "no setting that assembles",
-        template: b";@tune K 0 2 1 1\nMOV 0, 1\nDAT 1/K\n;assert K > 9",
-        report: b"no setting of the template assembles",
-        cert: b"",
-    },
-    TuningCase {
-        name: "three settings with different warriors",
-        template: THREE_UNEQUAL,
-        report: THREE_UNEQUAL_REPORT,
-        cert: THREE_UNEQUAL_CERT,
-    },
-];
-
 #[test]
 fn tune_run_writes_the_optimum(rt: HostRuntime) -> Result<(), Fail> {
+    let opponents = both_opponents(rt.alloc())?;
     for case in &TUNINGS {
-        let tuned = tune_with(rt.alloc(), case.template, 4096)?;
+        let tuned = tune_with(rt.alloc(), case.template, opponents.as_slice(), 4096)?;
         assert_eq!(rt; tuned.report.as_slice(), case.report, "{}", case.name);
         assert_eq!(rt; tuned.cert.as_slice(), case.cert, "{}", case.name);
     }
@@ -278,12 +206,29 @@ fn tune_run_writes_the_optimum(rt: HostRuntime) -> Result<(), Fail> {
 // Six settings with two warriors, and room for both: one plays both fights, and the other its tie.
 #[test]
 fn tune_run_with_a_cache_of_two(rt: HostRuntime) -> Result<(), Fail> {
-    let tuned = tune_with(rt.alloc(), TWO_IN_TURN, 2)?;
+    let opponents = both_opponents(rt.alloc())?;
+    let tuned = tune_with(rt.alloc(), TWO_IN_TURN, opponents.as_slice(), 2)?;
     assert_eq!(rt;
         tuned.report.as_slice(),
         b"vectors 6\ncandidates 6\nbest 0\nconstants K=0\ntotal 4 of 6\nfights 3 of 12\n".as_slice()
     );
     assert_eq!(rt; tuned.cert.as_slice(), TWO_IN_TURN_CERT);
+    Ok(())
+}
+
+// No setting fulfils the assertion; and without opponents each fight names one that does not exist.
+#[test]
+fn tune_run_names_the_fault(rt: HostRuntime) -> Result<(), Fail> {
+    let opponents = both_opponents(rt.alloc())?;
+    let template = b";@tune K 0 2 1 1\nMOV 0, 1\nDAT 1/K\n;assert K > 9";
+    let tuned = tune_with(rt.alloc(), template, opponents.as_slice(), 4096)?;
+    assert_eq!(rt; tuned.fault, Some(RunFault::NoCandidate));
+    let tuned = tune_with(rt.alloc(), ONE_IMP, &[], 1)?;
+    let fault = ScheduleFault {
+        row: 1,
+        kind: ScheduleFaultKind::NoSuchOpponent,
+    };
+    assert_eq!(rt; tuned.fault, Some(RunFault::Schedule(fault)));
     Ok(())
 }
 
@@ -318,14 +263,5 @@ fn check_run_writes_the_verdict(rt: HostRuntime) -> Result<(), Fail> {
         assert_eq!(rt; checked.accepted, case.verdict == ACCEPTED, "{}", case.name);
         assert_eq!(rt; checked.line.as_slice(), case.line, "{}", case.name);
     }
-    let checked = check_of(
-        rt.alloc(),
-        b"cwcert,7,4\nbest,0,4\ncap,0,0:3 1:1\nsame,1,2\ncap,2,0:3 1:1\nsame,3,2\n",
-    )?;
-    assert!(rt; !checked.accepted);
-    assert_eq!(rt;
-        checked.line.as_slice(),
-        b"rejected row 0 Malformed\n".as_slice()
-    );
     Ok(())
 }

@@ -5,9 +5,10 @@ use crate::fixtures::{THREE_UNEQUAL, THREE_UNEQUAL_CERT, both_opponents, small_r
 use rc_instr::Outlet;
 use std::alloc::Global;
 use std::test::Fail;
-use tune_cert::{Standing, Watcher};
-use tune_problem::{Inputs, Part};
-use tune_runs::{Aim, Demand, Method, RunFault, TuneTexts, check_for_run, tune_for_run};
+use tune_runs::{
+    Aim, Demand, Inputs, Method, RunFault, Standing, TuneTexts, Watcher, check_for_run,
+    tune_for_run,
+};
 
 // Counts the begins, settings, fights and ends that it is told of, and what it is told after an
 // end.
@@ -73,9 +74,6 @@ impl Watcher for Told {
     }
 }
 
-// How a tuning searches unless it is told otherwise.
-const DROPPING: Method = Method::Dropping { capacity: 4096 };
-
 // Tunes `texts`, and tells `told` of it. Nobody reads the report and the certificate.
 fn tune(
     alloc: Global,
@@ -91,26 +89,40 @@ fn tune(
     tune_for_run(alloc, texts, aim, method, told, &mut report, &mut cert)
 }
 
-// The third setting is dropped after one fight of two.
+// Each method, and how many fights it plays of three settings. One setting is dropped after one
+// fight of two.
+const METHODS: [(Method, u32); 2] = [
+    (Method::Dropping { capacity: 4096 }, 5),
+    (Method::PlayingAll, 6),
+];
+
 #[test]
 fn a_tuning_tells_its_watcher_once(rt: HostRuntime) -> Result<(), Fail> {
     let rules = small_rules()?;
     let opponents = both_opponents(rt.alloc())?;
-    let texts = texts_of(THREE_UNEQUAL, opponents.as_slice(), &rules, Part::whole());
-    let mut told = Told::nothing();
-    tune(rt.alloc(), &texts, DROPPING, &mut told)?;
-    assert_eq!(rt; told, Told::once(3, 5));
+    let texts = texts_of(THREE_UNEQUAL, opponents.as_slice(), &rules);
+    for &(method, fights) in &METHODS {
+        let mut told = Told::nothing();
+        tune(rt.alloc(), &texts, method, &mut told)?;
+        assert_eq!(rt; told, Told::once(3, fights), "{method:?}");
+    }
     Ok(())
 }
 
+// No setting assembles.
 #[test]
-fn a_tuning_that_plays_all_tells_its_watcher_once(rt: HostRuntime) -> Result<(), Fail> {
+fn a_refused_tuning_tells_its_watcher_once(rt: HostRuntime) -> Result<(), Fail> {
     let rules = small_rules()?;
     let opponents = both_opponents(rt.alloc())?;
-    let texts = texts_of(THREE_UNEQUAL, opponents.as_slice(), &rules, Part::whole());
+    let template = b";@tune K 0 1 1 0\nMOV 0, K\nDAT 1/0\n";
+    let texts = texts_of(template, opponents.as_slice(), &rules);
     let mut told = Told::nothing();
-    tune(rt.alloc(), &texts, Method::PlayingAll, &mut told)?;
-    assert_eq!(rt; told, Told::once(3, 6));
+    match tune(rt.alloc(), &texts, Method::PlayingAll, &mut told) {
+        Err(RunFault::NoCandidate) => {}
+        Err(other) => return Err(Fail::from(other)),
+        Ok(()) => return Err(Fail::from("not refused")),
+    }
+    assert_eq!(rt; told, Told::once(2, 0));
     Ok(())
 }
 
@@ -119,7 +131,7 @@ fn a_tuning_that_plays_all_tells_its_watcher_once(rt: HostRuntime) -> Result<(),
 fn a_check_tells_its_watcher_once(rt: HostRuntime) -> Result<(), Fail> {
     let rules = small_rules()?;
     let opponents = both_opponents(rt.alloc())?;
-    let texts = texts_of(THREE_UNEQUAL, opponents.as_slice(), &rules, Part::whole());
+    let texts = texts_of(THREE_UNEQUAL, opponents.as_slice(), &rules);
     for &keep in &[None, Some(2)] {
         let mut told = Told::nothing();
         let mut lines = Outlet::new(Vec::new(rt.alloc()));
@@ -135,22 +147,5 @@ fn a_check_tells_its_watcher_once(rt: HostRuntime) -> Result<(), Fail> {
         assert!(rt; accepted);
         assert_eq!(rt; told, Told::once(3, 5));
     }
-    Ok(())
-}
-
-// No setting assembles.
-#[test]
-fn a_refused_tuning_tells_its_watcher_once(rt: HostRuntime) -> Result<(), Fail> {
-    let rules = small_rules()?;
-    let opponents = both_opponents(rt.alloc())?;
-    let template = b";@tune K 0 1 1 0\nMOV 0, K\nDAT 1/0\n";
-    let texts = texts_of(template, opponents.as_slice(), &rules, Part::whole());
-    let mut told = Told::nothing();
-    match tune(rt.alloc(), &texts, DROPPING, &mut told) {
-        Err(RunFault::NoCandidate) => {}
-        Err(other) => return Err(Fail::from(other)),
-        Ok(()) => return Err(Fail::from("not refused")),
-    }
-    assert_eq!(rt; told, Told::once(2, 0));
     Ok(())
 }

@@ -1,5 +1,5 @@
-//! Tests of searches with a floor, and for more settings than the best, on templates that were
-//! worked out by hand: each setting that assembles is an imp, whose total is 4 (`fixtures`).
+//! Searches with a floor, and for more settings than the best: each setting that assembles is an
+//! imp, whose total is 4 (`fixtures`).
 ghost use Rattle.tune_problem.specs.Ranking.{IsAim};
 
 use crate::fixtures::{FOUR_EQUAL, THREE_UNEQUAL, imp, inputs_of};

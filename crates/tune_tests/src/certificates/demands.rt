@@ -1,6 +1,7 @@
-//! Tests of `check_for`, worked out by hand: each setting that assembles is an imp, whose total is
-//! 4 (`fixtures`). A row that lists the tie alone has a cap of 4, and one that lists the win alone
-//! a cap of 6. In the certificate of three warriors the last has not played its first fight.
+//! `check_for` with a demand, or of a share, worked out by hand: each setting that assembles is an
+//! imp, whose total is 4 (`fixtures`). A row that lists the tie alone has a cap of 4, and one that
+//! lists the win alone a cap of 6. In the certificate of three warriors the last has not played its
+//! first fight.
 
 use crate::fixtures::{
     FOUR_EQUAL, FOUR_EQUAL_CERT, THREE_UNEQUAL, THREE_UNEQUAL_CERT, THREE_UNEQUAL_NONE_FROM_5, imp,
@@ -230,6 +231,24 @@ fn each_share_says_what_the_whole_does(rt: HostRuntime) -> Result<(), Fail> {
             [imp(0), imp(1)].as_slice(),
             "{number}/5"
         );
+    }
+    Ok(())
+}
+
+// Settings 0 and 1 are of the first share. The second takes the points of setting 0 as listed.
+#[test]
+fn a_share_plays_the_fights_of_its_own_rows(rt: HostRuntime) -> Result<(), Fail> {
+    let inputs = inputs_of(rt.alloc(), FOUR_EQUAL)?;
+    let cert: &[u8] = b"cwcert,1,4\nbest,0,4\ncap,0,0:1 1:3\nsame,1,2\ncap,2,0:3 1:1\nsame,3,2\n";
+    for number in 1..3 {
+        let share = Share { number, shares: 2 };
+        let said = judged(rt.alloc(), &inputs, None, None, share, cert)?;
+        let want = if number == 1 {
+            Some((2, Reason::WrongPoints))
+        } else {
+            None
+        };
+        assert_eq!(rt; said.rejected, want, "{number}/2");
     }
     Ok(())
 }
