@@ -12,7 +12,7 @@ use Rattle.tune_cert.specs.declared.share.Share.{Share}
 use Rattle.tune_runs.specs.DuelRun.{position_meant}
 use Rattle.tune_runs.specs.Runs.{Writer, writer}
 use Rattle.tune_runs.specs.SettingsRun.{WritesSettings}
-use Rattle.tune_runs.specs.declared.given.WhichSetting.{WhichSetting}
+use Rattle.tune_template.specs.declared.vector.WhichSetting.{WhichSetting}
 use Rattle.tune_problem.specs.declared.aim.Aim.{Aim}
 use Rattle.tune_search.specs.declared.method.Method.{Method}
 use Rattle.command_words.specs.CommandLine.{AsksForFight, command_of, is_command}

@@ -18,7 +18,7 @@ use Rattle.tune_runs.specs.SettingsRun.{WritesSettings}
 use Rattle.tune_runs.specs.TuneRun.{part_texts, WritesTuningFor}
 use Rattle.tune_runs.specs.CheckRun.{WritesCheck}
 use Rattle.tune_search.specs.declared.method.Method.{Method}
-use Rattle.tune_runs.specs.declared.given.WhichSetting.{WhichSetting}
+use Rattle.tune_template.specs.declared.vector.WhichSetting.{WhichSetting}
 use Rattle.tune_runs.specs.declared.fault.RunFault.{RunFault}
 use Rattle.tune_runs.specs.declared.fault.RunFault.TheVariants.{Write, OutOfMemory}
 use Rattle.command_runs.specs.Input.{IsInput}

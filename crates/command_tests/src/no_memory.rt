@@ -79,7 +79,10 @@ fn faults_are_told(rt: HostRuntime) -> Result<(), Fail> {
     let error = io::Error::from(io::ErrorKind::InvalidData);
     assert_eq!(rt; end_without_words(&mut err, &error), 2);
     let told = err.into_inner();
-    assert!(rt; told.as_slice().starts_with(b"ab\xff line 7 AssertFailederror: a word of"));
+    assert!(rt;
+        told.as_slice()
+            .starts_with(b"ab\xff line 7 AssertFailederror: a word of")
+    );
     ask(rt.alloc())
 }
 
@@ -112,6 +115,9 @@ fn findings_are_told(rt: HostRuntime) -> Result<(), Fail> {
     let mut err = Outlet::new(room);
     finding.tell_progress(&mut err);
     let told = err.into_inner();
-    assert_eq!(rt; told.as_slice(), b", best 1 total 3 K=1, START 3".as_slice());
+    assert_eq!(rt;
+        told.as_slice(),
+        b", best 1 total 3 K=1, START 3".as_slice()
+    );
     ask(rt.alloc())
 }

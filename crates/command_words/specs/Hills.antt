@@ -1,7 +1,7 @@
 -- The rules of hills, by their names.
 use Rattle.std.specs.Prelude.{if◌then◌else◌, ℕ, List, codes}
 use Rattle.std.specs.Str.{bytes_eq}
-use Rattle.tune_runs.specs.declared.given.RawRules.{RawRules}
+use Rattle.rc_instr.specs.declared.rules.RawRules.{RawRules}
 
 abbrev pub raw_rules : (core cycles tasks length distance : ℕ) → RawRules
 raw_rules core cycles tasks length distance = record { core = core; cycles = cycles; tasks = tasks; length = length; distance = distance }

@@ -4,7 +4,7 @@ use Rattle.std.specs.Str.Parse.{IsNumeral, without_leading_sign, signed_digits_v
 use Rattle.clap.specs.declared.parser.matches.Found.{Found}
 use Rattle.clap.specs.Matches.{first_value}
 use Rattle.tune_problem.specs.declared.part.Part.{Part}
-use Rattle.tune_runs.specs.declared.given.RawRules.{RawRules}
+use Rattle.rc_instr.specs.declared.rules.RawRules.{RawRules}
 use Rattle.command_words.specs.CommandLine.{part_word, IsCounted}
 use Rattle.command_words.specs.Hills.{raw_rules, hill_rules}
 

@@ -12,9 +12,11 @@ use crate::options::{asm_options, check_options, fight_numbers, tune_options};
 use crate::usage_error::{bad_value, not_first, one_file};
 use clap::{ArgMatches, Error};
 use mars_core::Side;
+use rc_instr::RawRules;
 use std::alloc::{AllocError, Global};
 use tune_cert::{Demand, Share};
-use tune_runs::{Part, RawRules, WhichSetting};
+use tune_problem::Part;
+use tune_template::WhichSetting;
 
 /// The rules, the names of the files and the part of a tuning, or of a check of its certificate.
 #[derive(Drop)]

@@ -5,9 +5,8 @@ ghost use Rattle.command_words.specs.Options.{hill_meant};
 
 use clap::builder::ValueParser;
 use clap::{Arg, ArgAction};
-use rc_instr::Rules;
+use rc_instr::{RawRules, Rules};
 use std::alloc::Global;
-use tune_runs::RawRules;
 
 // The names of the hills whose rules are within the limits.
 const NAMES: [&str; 4] = ["94nop", "tiny", "nano", "lp"];

@@ -10,8 +10,7 @@ use crate::number_option::CACHE;
 use crate::usage_error::BadValue;
 use clap::{Arg, ArgAction, ArgMatches};
 use std::alloc::{AllocError, Global};
-use tune_runs::Method;
-use tune_search::limits;
+use tune_search::{Method, limits};
 
 // The default of `--cache`.
 const DEFAULT_CAPACITY: u32 = 4096;

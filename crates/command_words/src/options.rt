@@ -14,9 +14,11 @@ use crate::setting_word::setting_of;
 use crate::share_word::share_of;
 use crate::usage_error::BadValue;
 use clap::{Arg, ArgAction, ArgMatches, Command};
+use rc_instr::RawRules;
 use std::alloc::{AllocError, Global};
 use tune_cert::{Demand, Share};
-use tune_runs::{Part, RawRules, WhichSetting};
+use tune_problem::Part;
+use tune_template::WhichSetting;
 
 /// Returns whether a flag is among the words before `--`. After it they are files.
 pub fn is_given(words: &[String], flag: &str) -> bool

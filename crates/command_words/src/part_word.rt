@@ -9,7 +9,7 @@ use crate::usage_error::BadValue;
 use clap::{Arg, ArgAction, ArgMatches};
 use rc_instr::{after, decimal_at, decimal_of};
 use std::alloc::Global;
-use tune_runs::Part;
+use tune_problem::Part;
 
 pub(crate) fn part_option<'a>(alloc: Global) -> Arg<'a> {
     Arg::new(alloc, "part")

@@ -3,7 +3,7 @@
 use crate::usage_error::BadValue;
 use clap::{Arg, ArgAction, ArgMatches};
 use std::alloc::Global;
-use tune_runs::WhichSetting;
+use tune_template::WhichSetting;
 
 pub(crate) fn setting_option<'a>(alloc: Global) -> Arg<'a> {
     Arg::new(alloc, "setting")

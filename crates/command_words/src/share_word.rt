@@ -10,7 +10,7 @@ use crate::usage_error::BadValue;
 use clap::{Arg, ArgAction, ArgMatches};
 use std::alloc::Global;
 use tune_cert::Share;
-use tune_runs::Part;
+use tune_problem::Part;
 
 pub(crate) fn share_option<'a>(alloc: Global) -> Arg<'a> {
     Arg::new(alloc, "share")

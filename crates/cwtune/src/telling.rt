@@ -27,14 +27,21 @@ const MOST_SHOWN: usize = 200;
 // The most bytes of a character of UTF-8 after its first.
 const MOST_FURTHER_BYTES: usize = 3;
 
+// Writes `before`, a number, and `after`.
+pub(crate) fn tell_number<V: Write>(err: &mut Outlet<V>, before: &str, number: u64, after: &str) {
+    tell(err, &[before, Buffer::new().format(number), after]);
+}
+
 // Writes the explanation `WHAT MOST`, as in `indices of settings are 0 to 118`.
 pub(crate) fn tell_greatest<V: Write>(err: &mut Outlet<V>, what: &str, most: u64) {
-    tell(err, &["  ", what, " ", Buffer::new().format(most), "\n"]);
+    tell(err, &["  ", what]);
+    tell_number(err, " ", most, "\n");
 }
 
 // Writes a limit, and the number that breaks it.
 pub(crate) fn tell_broken_limit<V: Write>(err: &mut Outlet<V>, limit: &str, number: u64) {
-    tell(err, &["  ", limit, ", not ", Buffer::new().format(number), "\n"]);
+    tell(err, &["  ", limit]);
+    tell_number(err, ", not ", number, "\n");
 }
 
 // Writes a name and what the system said of it, or nothing if memory ran out: `fail` has said that
@@ -75,7 +82,8 @@ pub(crate) fn tell_source<V: Write>(err: &mut Outlet<V>, file: &str, text: &[u8]
         tell(err, &["  ", file, "\n"]);
         return;
     }
-    tell(err, &["  ", file, ", line ", Buffer::new().format(number), ": "]);
+    tell(err, &["  ", file]);
+    tell_number(err, ", line ", number, ": ");
     tell_shown(err, line_at(text, number - 1));
     tell(err, &["\n"]);
 }

@@ -24,6 +24,6 @@ pub use loadfile::{LoadFault, read_loadfile, write_loadfile};
 pub use memory::OutOfMemory;
 pub use modifier::default_modifier;
 pub use outlet::{Outlet, WriteFailed};
-pub use rules::{Rules, RulesError};
+pub use rules::{RawRules, Rules, RulesError};
 pub use warrior::{Code, Refused, Warrior, WarriorError};
 pub use words::{modifier_named, opcode_named};

@@ -17,6 +17,21 @@ pub struct Rules {
     distance: u32,
 }
 
+/// The five numbers of rules, not yet checked.
+#[derive(Clone, Copy)]
+pub struct RawRules {
+    /// The size of the core in cells.
+    pub core: u32,
+    /// The cycles until a tie.
+    pub cycles: u32,
+    /// The most tasks of a warrior.
+    pub tasks: u32,
+    /// The most instructions of a warrior.
+    pub length: u32,
+    /// The least distance between two warriors in cells.
+    pub distance: u32,
+}
+
 /// Which number is out of its limits: the first in this order.
 #[derive(Clone, Copy, Debug, PartialEq, Eq, Error)]
 pub enum RulesError {

@@ -6,7 +6,7 @@ use Rattle.tune_runs.specs.FightText.{FightWords}
 use Rattle.tune_runs.specs.DuelRun.{Duel, duel}
 use Rattle.tune_runs.specs.TuneRun.{Texts, part_texts, texts}
 use Rattle.tune_runs.specs.declared.fight_text.FightText.{FightText}
-use Rattle.tune_runs.specs.declared.given.RawRules.{RawRules}
+use Rattle.rc_instr.specs.declared.rules.RawRules.{RawRules}
 use Rattle.tune_runs.specs.declared.given.DuelTexts.{DuelTexts}
 use Rattle.tune_runs.specs.declared.given.TuneTexts.{TuneTexts}
 

@@ -8,8 +8,8 @@ use Rattle.tune_template.specs.declared.span.Span.{Span}
 use Rattle.tune_template.specs.Vectors.{start_index}
 use Rattle.tune_template.specs.Instances.{setting_count, template_of, instance_of}
 use Rattle.tune_runs.specs.Runs.{asm_fault, template_fault}
-use Rattle.tune_runs.specs.declared.given.WhichSetting.{WhichSetting}
-use Rattle.tune_runs.specs.declared.given.WhichSetting.TheVariants.{Start, Index}
+use Rattle.tune_template.specs.declared.vector.WhichSetting.{WhichSetting}
+use Rattle.tune_template.specs.declared.vector.WhichSetting.TheVariants.{Start, Index}
 use Rattle.tune_runs.specs.declared.fault.RunFault.{RunFault}
 use Rattle.tune_runs.specs.declared.fault.RunFault.TheVariants.{NoSuchSetting}
 

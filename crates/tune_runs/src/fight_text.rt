@@ -7,9 +7,8 @@ ghost use Rattle.tune_runs.specs.FightLines.{cut_at, number_before, after_word, 
 ghost use Rattle.tune_runs.specs.FightText.{fight_words, line_feeds};
 ghost use Rattle.tune_runs.specs.Given.{words_said};
 
-use crate::given::RawRules;
 use mars_core::Side;
-use rc_instr::padded_decimal;
+use rc_instr::{RawRules, padded_decimal};
 
 // What a fight text says. The load files are slices of the text.
 #[derive(Clone, Copy)]

@@ -1,26 +1,11 @@
-//! What runs are given besides bytes: rules, texts, and which setting is meant.
+//! What runs are given: texts, and rules that are not yet checked.
 ghost use Rattle.std.specs.Prelude.{◌≡◌, IfOk};
 ghost use Rattle.rc_instr.specs.Checks.{rules_of};
 ghost use Rattle.tune_runs.specs.Given.{rules_given};
 
 use mars_core::Side;
-use rc_instr::{Rules, RulesError};
+use rc_instr::{RawRules, Rules, RulesError};
 use tune_problem::Part;
-
-/// The five numbers of rules, not yet checked.
-#[derive(Clone, Copy)]
-pub struct RawRules {
-    /// The size of the core in cells.
-    pub core: u32,
-    /// The cycles until a tie.
-    pub cycles: u32,
-    /// The most tasks of a warrior.
-    pub tasks: u32,
-    /// The most instructions of a warrior.
-    pub length: u32,
-    /// The least distance between two warriors in cells.
-    pub distance: u32,
-}
 
 /// Two Redcode texts, the rules of their fight, and how it begins.
 #[derive(Clone, Copy)]
@@ -35,15 +20,6 @@ pub struct DuelTexts<'a> {
     pub position: u32,
     /// Who moves first.
     pub first: Side,
-}
-
-/// Which setting of a template is meant.
-#[derive(Clone, Copy, Debug, PartialEq, Eq)]
-pub enum WhichSetting {
-    /// The setting of the start values.
-    Start,
-    /// The setting at this index, from 0. The first constant changes slowest, and values rise.
-    Index(u32),
 }
 
 /// The texts of a tuning, its rules, and the part of the template's settings that it searches.

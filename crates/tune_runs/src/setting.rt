@@ -7,12 +7,11 @@ ghost use Rattle.tune_runs.specs.SettingRun.{index_meant, index_within, setting_
 
 use crate::asm::loadfile_of;
 use crate::fault::RunFault;
-use crate::given::WhichSetting;
 use crate::inputs::template_of;
 use rc_instr::{Outlet, Rules, Warrior};
 use std::alloc::Global;
 use std::io::Write;
-use tune_template::Template;
+use tune_template::{Template, WhichSetting};
 
 /// Assembles a template with the values of one of its settings under `rules`, and writes the load
 /// file of the warrior. A tuning plays this setting with the same warrior.

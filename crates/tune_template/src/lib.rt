@@ -15,4 +15,4 @@ pub use fault::{TemplateFault, TemplateKind};
 pub use lines::is_range_line;
 pub use span::Span;
 pub use template::Template;
-pub use vector::Vector;
+pub use vector::{Vector, WhichSetting};

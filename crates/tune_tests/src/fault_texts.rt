@@ -40,10 +40,7 @@ fn texts_of_certificates(rt: HostRuntime) -> Result<(), Fail> {
     let text = error_text(rt.alloc(), &CertFault::Write)?;
     assert_eq!(rt; text.as_str(), "cannot write the certificate");
     let text = error_text(rt.alloc(), &ReadFault::Malformed { row: 3 })?;
-    assert_eq!(rt;
-        text.as_str(),
-        "record 3 of the certificate is malformed"
-    );
+    assert_eq!(rt; text.as_str(), "record 3 of the certificate is malformed");
     let text = error_text(rt.alloc(), &CertFault::OutOfMemory)?;
     assert_eq!(rt; text.as_str(), "out of memory");
     let text = error_text(rt.alloc(), &ReadFault::OutOfMemory)?;

@@ -2,9 +2,8 @@
 
 use crate::telling::line::{Line, bad_byte, line_of};
 use crate::telling::names_in::{Meaning, definition_of, like_name, range_of, unknown_name};
-use crate::telling::tell_name;
+use crate::telling::{tell_name, tell_number};
 use command_runs::{tell, tell_bytes};
-use itoa::Buffer;
 use rc_asm::AsmKind;
 use rc_expand::ExpandKind;
 use rc_instr::{Outlet, WarriorError};
@@ -130,7 +129,7 @@ fn tell_byte<V: Write>(err: &mut Outlet<V>, line: &[u8]) {
     let Some((column, byte)) = bad_byte(line) else {
         return;
     };
-    tell(err, &["  column ", Buffer::new().format(column), ": "]);
+    tell_number(err, "  column ", column as u64, ": ");
     match byte {
         0xef if line.starts_with(b"\xef\xbb\xbf") => {
             tell(
@@ -150,7 +149,7 @@ fn tell_byte<V: Write>(err: &mut Outlet<V>, line: &[u8]) {
                 &["\n  help: prose needs a `;` before it, also in a block that is dropped\n"],
             );
         }
-        _ => tell(err, &["byte ", Buffer::new().format(byte), "\n"]),
+        _ => tell_number(err, "byte ", u64::from(byte), "\n"),
     }
 }
 
@@ -160,8 +159,8 @@ fn tell_duplicate<V: Write>(err: &mut Outlet<V>, alloc: Global, text: &[u8], lin
         if let Some(number) = range_of(text, *word) {
             tell(err, &["  help: "]);
             tell_name(err, *word);
-            tell(err, &[" has its values in line ", Buffer::new().format(number)]);
-            tell(err, &[": take the EQU out, or rename the label\n"]);
+            let help = ": take the EQU out, or rename the label\n";
+            tell_number(err, " has its values in line ", number, help);
             return;
         }
     }
@@ -176,8 +175,8 @@ fn tell_unknown<V: Write>(err: &mut Outlet<V>, alloc: Global, text: &[u8], line:
     tell_name(err, name);
     tell(err, &[" has no value\n"]);
     if let Some(number) = range_of(text, name) {
-        tell(err, &["  help: it is the constant of line ", Buffer::new().format(number)]);
-        tell(err, &[": `cwtune asm --setting start` makes a warrior of a template\n"]);
+        let help = ": `cwtune asm --setting start` makes a warrior of a template\n";
+        tell_number(err, "  help: it is the constant of line ", number, help);
     } else if is_counter(alloc, text, name) {
         tell(
             err,

@@ -3,11 +3,11 @@
 use crate::telling::help_lines::tell_help;
 use crate::telling::range_line::{tell_bad_range, tell_neighbours};
 use crate::telling::{
-    line_at, records_in, tell_broken_limit, tell_fault, tell_greatest, tell_record, tell_source,
+    line_at, records_in, tell_broken_limit, tell_fault, tell_greatest, tell_number, tell_record,
+    tell_source,
 };
 use command_runs::tell;
 use command_words::TuneWords;
-use itoa::Buffer;
 use mars_fight::{ScheduleFault, ScheduleFaultKind};
 use rc_asm::{AsmFault, AsmKind};
 use rc_expand::ExpandKind;
@@ -54,8 +54,8 @@ pub(crate) fn tell_asm<V: Write>(
     tell_source(err, file, text, fault.line);
     match fault.kind {
         AsmKind::Warrior(WarriorError::TooLong) => {
-            tell(err, &["  a warrior has at most ", Buffer::new().format(rules.length())]);
-            tell(err, &[" instructions\n"]);
+            let most = u64::from(rules.length());
+            tell_number(err, "  a warrior has at most ", most, " instructions\n");
         }
         AsmKind::TextTooLong => tell_text_length(err, text),
         kind => tell_fault(err, alloc, kind),
@@ -108,7 +108,7 @@ pub(crate) fn tell_template<V: Write>(
 // Writes how many settings a template may have, and how many this one has up to a line.
 fn tell_settings<V: Write>(err: &mut Outlet<V>, settings: u64) {
     let limit = "  a template has at most 1000000 settings; up to this line there are ";
-    tell(err, &[limit, Buffer::new().format(settings), "\n"]);
+    tell_number(err, limit, settings, "\n");
 }
 
 // Counts the settings of the range lines up to a line. The last of them is the first with which
@@ -158,6 +158,6 @@ pub(crate) fn tell_schedule<V: Write>(
 // Writes where an opponent can be loaded.
 pub(crate) fn tell_positions<V: Write>(err: &mut Outlet<V>, rules: &Rules) {
     let last = rules.core().saturating_sub(rules.distance());
-    tell(err, &["  positions are ", Buffer::new().format(rules.distance())]);
-    tell(err, &[" to ", Buffer::new().format(last), "\n"]);
+    tell_number(err, "  positions are ", u64::from(rules.distance()), " to ");
+    tell_number(err, "", u64::from(last), "\n");
 }

@@ -1,8 +1,7 @@
 //! Warnings: what has no effect in a template or a schedule.
 
-use crate::telling::tell_source;
+use crate::telling::{tell_number, tell_source};
 use command_runs::{tell, tell_bytes};
-use itoa::Buffer;
 use mars_fight::Fight;
 use rc_instr::Outlet;
 use rc_text::{Lexer, is_blank, is_same_word};
@@ -32,8 +31,8 @@ pub(crate) fn tell_idle<V: Write>(err: &mut Outlet<V>, opponents: &[String], fig
     let mut index: u32 = 0;
     for name in opponents {
         if !has_fight(fights, index) {
-            tell(err, &["  no fight names opponent ", Buffer::new().format(index)]);
-            tell(err, &[", ", name.as_str(), "\n"]);
+            tell_number(err, "  no fight names opponent ", u64::from(index), ", ");
+            tell(err, &[name.as_str(), "\n"]);
         }
         index = index.saturating_add(1);
     }

@@ -3,10 +3,9 @@ ghost use Rattle.std.specs.Prelude.{◌≡◌, ◌<◌, ◌≤◌, ◌/◌, code
 
 use crate::telling::notes::{tell_idle, tell_lost_ranges, tell_template_notes, tell_unused};
 use crate::telling::refusal::explain;
-use crate::telling::{tell_error, tell_explanation};
+use crate::telling::{tell_error, tell_explanation, tell_number};
 use command_runs::{Finding, Refused, Witness, tell};
 use command_words::TuneWords;
-use itoa::Buffer;
 use rc_instr::Outlet;
 use std::alloc::{AllocError, Global};
 use std::io;
@@ -306,9 +305,4 @@ fn in_units(seconds: u64) -> (u64, &'static str)
     } else {
         (seconds / 3600, " h")
     }
-}
-
-// Writes `before`, a number, and `after`.
-fn tell_number<V: Write>(err: &mut Outlet<V>, before: &str, number: u64, after: &str) {
-    tell(err, &[before, Buffer::new().format(number), after]);
 }

@@ -60,14 +60,27 @@ pub(crate) fn tell_neighbours<V: Write>(err: &mut Outlet<V>, line: &[u8]) {
     match (below, above) {
         (Some(below), Some(above)) => tell_two(err, below, above),
         (Some(nearest), None) | (None, Some(nearest)) => {
-            tell(err, &["  help: the nearest value is ", Buffer::new().format(nearest), "\n"]);
+            tell(
+                err,
+                &[
+                    "  help: the nearest value is ",
+                    Buffer::new().format(nearest),
+                    "\n",
+                ],
+            );
         }
         (None, None) => {}
     }
 }
 
 fn tell_two<V: Write>(err: &mut Outlet<V>, below: i64, above: i64) {
-    tell(err, &["  help: the nearest values are ", Buffer::new().format(below)]);
+    tell(
+        err,
+        &[
+            "  help: the nearest values are ",
+            Buffer::new().format(below),
+        ],
+    );
     tell(err, &[" and ", Buffer::new().format(above), "\n"]);
 }
 

@@ -6,8 +6,8 @@ use rc_instr::Outlet;
 use std::alloc::Global;
 use std::test::Fail;
 use tune_cert::{
-    Answer, Best, CertFault, Listing, ReadFault, Row, Rows, read_cert, read_statement, write_answer,
-    write_cert,
+    Answer, Best, CertFault, Listing, ReadFault, Row, Rows, read_cert, read_statement,
+    write_answer, write_cert,
 };
 
 #[test]

@@ -1,7 +1,8 @@
 //! Calls that take no memory: inputs are made and looked at, fights have points, and settings are
 //! compared.
 use crate::fixtures::{
-    IMP_FILE, ONE_IMP, THREE_UNEQUAL, TWO_FIGHTS, ask, inputs_of, small_rules, two_opponents, use_up,
+    IMP_FILE, ONE_IMP, THREE_UNEQUAL, TWO_FIGHTS, ask, inputs_of, small_rules, two_opponents,
+    use_up,
 };
 use mars_core::{Arena, PackedCells};
 use mars_fight::Schedule;
@@ -20,7 +21,10 @@ fn inputs_are_made(rt: HostRuntime) -> Result<(), Fail> {
     let opponents = two_opponents(rt.alloc(), &rules)?;
     let schedule = Schedule::read(rt.alloc(), TWO_FIGHTS, 2, &rules)?;
     use_up(rt.alloc())?;
-    assert_eq!(rt; Inputs::new(template, opponents, schedule, rules).count(), 1);
+    assert_eq!(rt;
+        Inputs::new(template, opponents, schedule, rules).count(),
+        1
+    );
     ask(rt.alloc())
 }
 
