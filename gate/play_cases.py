@@ -14,7 +14,7 @@ from .lib.play import Place, end, report, status_of
 from .lib.running import side_by_side
 from .lib.tally import tally
 
-FILLED = ["stdin", "out", "err", "err_begins"]
+FILLED = ["stdin", "out", "err", "err_begins", "cert"]
 # The types of the keys of a file, a case, its tables in `each` or `runs`, and a long file.
 SHARED = {"files": dict, "folders": list, "words": dict, "usual": str, "case": list}
 CASE = {
