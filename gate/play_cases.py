@@ -65,11 +65,17 @@ def variants(case, key):
 
 
 def valued(case):
-    """Returns the case, or one for each of the texts of its `values`."""
-    return [case | {"name": f"{case['name']} ({number}: {text[:60]!r})",
-                    "fill": case["fill"] | {name: text}}
-            for name, texts in case["values"].items()
-            for number, text in enumerate(texts, 1)] if "values" in case else [case]
+    """Returns the case, or one for each row of its `values`: a text, or one for each name."""
+    cases = []
+    for names, rows in case.get("values", {}).items():
+        for number, row in enumerate(rows, 1):
+            texts = row if isinstance(row, list) else [row]
+            name = f"{case['name']} ({number}: {' '.join(texts)[:60]!r})"
+            if len(texts) != len(names.split()):
+                raise Fault(f"{name}: not a text for each of `{names}`")
+            cases.append(case | {"name": name,
+                                 "fill": case["fill"] | dict(zip(names.split(), texts))})
+    return cases or [case]
 
 
 def fill(text, names, where):

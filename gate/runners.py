@@ -39,6 +39,8 @@ CASES = {'words = "asm $smal dat.red"': "no words for `$smal`\n",
          'words = "asm dat.red"\nstate = 1': "unknown key `state`\n",
          'words = "asm dat.red"\nstatus = "0"': "`status` is of type str, not int\n",
          'words = "asm dat.red"\nreport = ["1"]': "`report` has six values, in place of `out`\n",
+         'words = "asm dat.red"\nvalues."a b" = [["0"]]':
+             "a (1: '0'): not a text for each of `a b`\n",
          '[files]\n"dat.red" = "DAT 1"': "gate/inputs.toml has `dat.red`, too\n"}
 
 
