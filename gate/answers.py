@@ -5,12 +5,13 @@ answers: its file is named, and with --delete it stays away. All other files are
 search may take longer than an answer did, so look at what a check of the crate costs before and
 after.
 """
-import pathlib, re, shutil, subprocess
+import re, shutil, subprocess
 
 from author.lib.endings import Fault, run_tool
 from author.lib.words import module_parser
 
-ROOT = pathlib.Path(__file__).resolve().parent.parent
+from .lib.running import ROOT
+
 PROVED = re.compile(r"fn (\S+): proved")
 
 
@@ -18,7 +19,7 @@ def function_of(crate, file):
     """Returns the path of a file's function: its folder below proofs/, where a `+` before a name
     tells a function from the module of that name."""
     folders = file.relative_to(crate / "proofs").parent.parts
-    return "::".join([crate.name, *(it.removeprefix("+") for it in folders)])
+    return "::".join([crate.name, *(folder.removeprefix("+") for folder in folders)])
 
 
 def without_answers(crate):

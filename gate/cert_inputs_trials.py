@@ -45,8 +45,8 @@ class Trial(Place):
     def inputs(self, words):
         """Runs a tuning. Returns CERT.inputs, and what it has to be."""
         self.run(words, keep=True)
-        came = self.read("CERT.inputs")
-        return came, cert_inputs.text_of(words, self.folder, self.version)
+        actual = self.read("CERT.inputs")
+        return actual, cert_inputs.text_of(words, self.folder, self.version)
 
     def remove_inputs(self):
         """Removes CERT.inputs, which a program at fault may not have written."""
@@ -59,16 +59,16 @@ class Trial(Place):
 
 def texts(place):
     for words in [TUNE, *OTHERS]:
-        came, wanted = place.inputs(words)
-        yield compare(" ".join(words), wanted, came)
+        actual, expected = place.inputs(words)
+        yield compare(" ".join(words), expected, actual)
 
 
 def replaced(place):
     """Has older files replaced."""
     for name, old in [("an older one", OLD), ("an empty one", "")]:
         place.write("CERT.inputs", old)
-        came, wanted = place.inputs(TUNE)
-        yield compare(f"{name} is replaced", wanted, came)
+        actual, expected = place.inputs(TUNE)
+        yield compare(f"{name} is replaced", expected, actual)
     place.write("CERT.inputs", OLD)
     place.inputs_path.chmod(0o640)
     place.inputs(TUNE)
@@ -77,8 +77,8 @@ def replaced(place):
     place.write("elsewhere", OLD)
     place.remove_inputs()
     place.inputs_path.symlink_to("elsewhere")
-    came, wanted = place.inputs(TUNE)
-    yield compare("a link is followed", (wanted, wanted), (came, place.read("elsewhere")))
+    actual, expected = place.inputs(TUNE)
+    yield compare("a link is followed", (expected, expected), (actual, place.read("elsewhere")))
     place.remove_inputs()
 
 
@@ -145,7 +145,7 @@ def rejections(place):
     check = ["check", *TUNE[1:]]
     yield compare("a changed certificate", unknown.format("is of another certificate"),
                   place.at_terminal(check))
-    digests = [cert_inputs.digest_of(it).encode() for it in (text, wrong)]
+    digests = [cert_inputs.digest_of(cert).encode() for cert in (text, wrong)]
     place.write("CERT.inputs", said.replace(*digests))
     yield compare("a wrong certificate with its digest", HOLDS + SAME.format(""),
                   place.at_terminal(check))

@@ -76,22 +76,22 @@ def cert_end(text, share=""):
 def is_whole(row, record):
     """Returns whether a cut of a record of `CERT` is well formed for its place."""
     fields = record.split(b",")
-    wanted = CERT.split(b"\n")[row].split(b",")
-    if len(fields) != 3 or fields[:2] != wanted[:2]:
+    expected = CERT.split(b"\n")[row].split(b",")
+    if len(fields) != 3 or fields[:2] != expected[:2]:
         return False
     if fields[0] == b"cap":
         return all(item[1:] in (b":0", b":1", b":3") for item in fields[2].split(b" "))
     return fields[2] != b""
 
 
-def is_of_form(text, came):
+def is_of_form(text, actual):
     """Returns whether an assembly ended with a fault at a line of the text, or, once all of the
     line with the label of its start is there, with a load file."""
-    if came.status == 0:
-        return (FIRST in text and came.out.startswith(b"ORG ") and came.out.endswith(b"\n")
-                and came.err == b"")
-    words = came.err.split()
-    if came.status != 1 or came.out or words[:3] != [b"refused:", b"Asm", b"line"]:
+    if actual.status == 0:
+        return (FIRST in text and actual.out.startswith(b"ORG ") and actual.out.endswith(b"\n")
+                and actual.err == b"")
+    words = actual.err.split()
+    if actual.status != 1 or actual.out or words[:3] != [b"refused:", b"Asm", b"line"]:
         return False
     return int(words[3]) <= text.count(b"\n") + 1 and len(words) > 4
 
@@ -116,10 +116,10 @@ def dwarf_end(text):
 
 def try_dwarf(program, text):
     """Assembles a cut of `DWARF`. Returns what is wrong, in a list."""
-    came, expected = play(program, ["asm", "x.red"], {"x.red": text}), dwarf_end(text)
+    actual, expected = play(program, ["asm", "x.red"], {"x.red": text}), dwarf_end(text)
     if expected is None:
-        return [] if is_of_form(text, came) else [f"came {came}"]
-    return compare("", expected, came)[1]
+        return [] if is_of_form(text, actual) else [f"got {actual}"]
+    return compare("", expected, actual)[1]
 
 
 def try_fight(program, text):

@@ -19,9 +19,9 @@ from author.lib.endings import run_tool
 from author.lib.words import program_word
 
 from .lib.play import status_of
+from .lib.running import ROOT
 from .lib.tally import tally
 
-ROOT = pathlib.Path(__file__).resolve().parent.parent
 # All documents share a folder: USING.md goes on with the files of README.md, which comes first.
 DOCUMENTS = [ROOT / "README.md", *sorted((ROOT / "docs").glob("*.md"), reverse=True)]
 # The folders for commands that are not typed at the top.
@@ -158,12 +158,12 @@ def played(program, document, folder):
     runs = [run for run in found if isinstance(run, Run)]
     yield from ((document.name, [lack]) for lack in found if isinstance(lack, str))
     write_files(folder, [saved, *(run.files for run in runs)])
-    came = typed(program, runs, folder)
-    for run, (out, status) in zip(runs, came):
+    results = typed(program, runs, folder)
+    for run, (out, status) in zip(runs, results):
         right = is_printed(run.printed, out) and int(status) == status_of(run.printed)
-        yield f"{document.name}: {run.name}", [] if right else [f"came {out!r}, status {status}"]
-    if len(came) < len(runs):
-        yield f"{document.name}: {runs[len(came)].name}", ["ended the shell, or did not end"]
+        yield f"{document.name}: {run.name}", [] if right else [f"got {out!r}, status {status}"]
+    if len(results) < len(runs):
+        yield f"{document.name}: {runs[len(results)].name}", ["ended the shell, or did not end"]
 
 
 def trials(program):

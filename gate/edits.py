@@ -23,15 +23,16 @@ The libraries under the crates must be built, but for those that an `rt ci` buil
 was judged as it should be is kept in ~/.cache by a checksum of all that the verdict depends on, and
 not tried again without --anew.
 """
-import collections, hashlib, importlib.util, os, pathlib, re, shutil, subprocess, sys, tempfile
+import collections, hashlib, importlib.util, itertools, os, pathlib, re, shutil, subprocess, sys
+import tempfile
 
 from author.lib.endings import Fault, run_tool
 from author.lib.words import module_parser, number_from
 
 from .functions import functions_of
 from .lib.lanes import Proofs, in_lanes, lanes
+from .lib.running import ROOT
 
-ROOT = pathlib.Path(__file__).resolve().parent.parent
 PARTS = ("src", "specs", "proofs")
 HOLE = """use Rattle.{crate}.proofs.{module}.Statement.{{statement}}
 
@@ -59,20 +60,13 @@ class Edit:
 
     def __init__(self, source, crate):
         self.name, self.source, self.pairs = source.stem, source, []
-        path = file = old = self.breaks = ""
+        fields = dict.fromkeys(["function", "file", "breaks", "old"], "")
         for line in source.read_text("utf-8").split("\n"):
-            word, _, rest = line.partition(":")
-            rest = rest.removeprefix(" ")
-            if word == "function":
-                path = rest
-            elif word == "file":
-                file = rest
-            elif word == "breaks":
-                self.breaks = rest
-            elif word == "old":
-                old = rest
-            elif word == "new":
-                self.pairs.append((old, rest))
+            key, _, value = line.partition(":")
+            fields[key] = value.removeprefix(" ")
+            if key == "new":
+                self.pairs.append((fields["old"], fields["new"]))
+        self.breaks, path, file = fields["breaks"], fields["function"], fields["file"]
         self.function = crate.functions.get(path)
         if not self.function or self.function.file != file:
             raise Fault(f"{source}: no function `{path}` with a body in {file}")
@@ -82,11 +76,11 @@ class Edit:
         """Returns the lines of the function with the texts replaced, its clauses as they were."""
         at, whole = self.function, "\n".join(lines)
         head, clauses = lines[at.head : at.first][:1], lines[at.head + 1 : at.first]
-        parts = ["\n".join(it) for it in (head, lines[at.first : at.last + 1])]
+        parts = ["\n".join(part) for part in (head, lines[at.first : at.last + 1])]
         for old, new in self.pairs:
-            if whole.count(old) != 1 or sum(it.count(old) for it in parts) != 1:
+            if whole.count(old) != 1 or sum(part.count(old) for part in parts) != 1:
                 raise Fault(f"{self.source}: `{old}` does not occur once in {at.path}")
-            whole, *parts = (it.replace(old, new) for it in (whole, *parts))
+            whole, *parts = (text.replace(old, new) for text in (whole, *parts))
         return [*parts[0].split("\n")[: len(head)], *clauses, *parts[1].split("\n")]
 
 
@@ -97,23 +91,18 @@ class Crate:
         self.kit, self.made, self.name = kit, made, made.name
         self.folder = pathlib.Path(made.folder)
         self.functions = functions_of(self.folder, self.name)
-        self.edits = [Edit(it, self) for it in sorted(self.folder.glob("must-fail/*.edit"))]
+        self.edits = [Edit(file, self) for file in sorted(self.folder.glob("must-fail/*.edit"))]
         harmless = ROOT / "gate" / "harmless" / f"{self.name}.edit"
         self.harmless = Edit(harmless, self) if self.edits else None
-        if any(it.function == self.harmless.function for it in self.edits):
+        if any(edit.function == self.harmless.function for edit in self.edits):
             raise Fault(f"{harmless}: `{self.harmless.function.path}` has an edit in must-fail/")
 
     def rounds(self):
         """Returns the edits in rounds, no two of one function or cycle of calls in a round."""
-        rounds = []
+        groups = collections.defaultdict(list)
         for edit in self.edits:
-            mark = edit.function.cycle or edit.function.path
-            found = next((it for it in rounds if mark not in it), None)
-            if found is None:
-                found = {}
-                rounds.append(found)
-            found[mark] = edit
-        return [[*it.values()] for it in rounds]
+            groups[edit.function.cycle or edit.function.path].append(edit)
+        return [[*filter(None, edits)] for edits in itertools.zip_longest(*groups.values())]
 
     def command(self, edits):
         """Returns the command that checks the functions of these edits, past holes."""
@@ -136,7 +125,7 @@ def folder_of(function):
 def write_edits(room, edits):
     """Applies the edits to the sources in `room`, each function's last lines first."""
     texts = {}
-    for edit in sorted(edits, key=lambda it: -it.function.head):
+    for edit in sorted(edits, key=lambda edit: -edit.function.head):
         file, at = room / edit.function.file, edit.function
         written = file.read_text("utf-8").split("\n")
         lines = texts.setdefault(file, written[:])
@@ -181,7 +170,7 @@ def check(crate, edits, changed, log=None):
 def read_check(text):
     """Returns what a check said of each function, and the file, goal and words of each error."""
     said = dict(re.findall(r"(?m)^fn (\S+): (.*)$", text))
-    return said, [it for it in ERROR.findall(text) if not UNKNOWN.search(it[2])]
+    return said, [error for error in ERROR.findall(text) if not UNKNOWN.search(error[2])]
 
 
 def words_on(edit, said):
@@ -202,19 +191,19 @@ def is_refused(edit, said, errors):
     words, name = words_on(edit, said), edit.function.path.rpartition("::")[2]
     if OPEN.match(words):
         return not edit.function.cycle or f"`{name}-" in words
-    own = [it[2] for it in errors if is_own(it, edit.function)]
-    return bool(FAILED.match(words)) and not all(LOST_NAME.search(it) for it in own)
+    own = [error[2] for error in errors if is_own(error, edit.function)]
+    return bool(FAILED.match(words)) and not all(map(LOST_NAME.search, own))
 
 
 def open_premises(edit, said):
     """Returns the goals that stay open if all of them are premises of calls that the edit adds, so
     that they show nothing of the contract."""
-    calls = [collections.Counter(CALL.findall(" ".join(it))) for it in zip(*edit.pairs)]
-    added = "|".join(calls[1] - calls[0])
+    old, new = (collections.Counter(CALL.findall(" ".join(texts))) for texts in zip(*edit.pairs))
+    added = "|".join(new - old)
     found = OPEN.match(words_on(edit, said))
     goals = re.findall("`([^`]*)`", found and found[1] or "")
     is_premise = re.compile(rf"(.*-)?({added})-requires(-.*)?").fullmatch
-    return goals if added and all(is_premise(it) for it in goals) else []
+    return goals if added and all(map(is_premise, goals)) else []
 
 
 def faults_of(crate, edits, text):
@@ -227,7 +216,7 @@ def faults_of(crate, edits, text):
         faults.append(f"{crate.harmless.function.path}: a harmless edit was refused: {words}")
     return faults + [f"{file}: an error that no edit explains: {words}"
                      for file, goal, words in errors
-                     if not any(is_own((file, goal, words), it.function) for it in edits)]
+                     if not any(is_own((file, goal, words), edit.function) for edit in edits)]
 
 
 def faults_without_edits(edits, text):
@@ -241,16 +230,15 @@ def faults_without_edits(edits, text):
 def sum_of(crate, edits):
     """Returns a checksum of all that the verdict on a round depends on."""
     rattle = os.stat(crate.kit.RATTLE)
-    made = hashlib.sha256(f"{rattle.st_size} {rattle.st_mtime_ns} ".encode())
-    files = [ROOT / "gate" / it for it in ("edits.py", "functions.py")]
+    digest = hashlib.sha256(f"{rattle.st_size} {rattle.st_mtime_ns} ".encode())
+    files = [ROOT / "gate" / name for name in ("edits.py", "functions.py")]
     files += [edit.source for edit in [*edits, crate.harmless]]
-    for it in [crate.made, *crate.made.below()]:
-        for part in PARTS:
-            files += sorted(pathlib.Path(it.folder, part).rglob("*.*"))
+    for made, part in itertools.product([crate.made, *crate.made.below()], PARTS):
+        files += sorted(pathlib.Path(made.folder, part).rglob("*.*"))
     for file in files:
         text = file.read_bytes()
-        made.update(f"{file.relative_to(ROOT)} {len(text)} ".encode() + text)
-    return made.hexdigest()
+        digest.update(f"{file.relative_to(ROOT)} {len(text)} ".encode() + text)
+    return digest.hexdigest()
 
 
 def kept_at(key):
@@ -272,8 +260,8 @@ def judge(crate, number, edits, options):
     """Tries a round. Returns how many edits it has, what is wrong, and its name."""
     label, key = f"{crate.name}, round {number}: {len(edits)} edits", sum_of(crate, edits)
     if kept_at(key).exists() and not options.anew and not options.control:
-        told = told_of(kept_at(key).read_text().split(), options)
-        return len(edits) + 1, [], f"{label}, judged before{told}"
+        by_proofs = refused_by_proofs(kept_at(key).read_text().split(), options)
+        return len(edits) + 1, [], f"{label}, judged before{by_proofs}"
     faults = faults_without_edits(edits, check(crate, edits, [])) if options.control else []
     log = options.logs and pathlib.Path(options.logs, f"{crate.name}-{number}.log")
     every = [*edits, crate.harmless]
@@ -289,13 +277,13 @@ def judge(crate, number, edits, options):
         keep(key, by_proofs)
     by_premises = "".join(f", {edit.name} only for a premise of a call that it adds: {goals}"
                           for edit in edits if (goals := " ".join(open_premises(edit, said))))
-    return len(edits) + 1, faults, label + told_of(by_proofs, options) + by_premises
+    return len(edits) + 1, faults, label + refused_by_proofs(by_proofs, options) + by_premises
 
 
-def told_of(by_proofs, options):
+def refused_by_proofs(names, options):
     """Returns how many edits a proof file refused, and with --names which."""
-    names = f": {' '.join(by_proofs)}" if options.names and by_proofs else ""
-    return f", {len(by_proofs)} refused by a proof file{names}"
+    shown = f": {' '.join(names)}" if options.names and names else ""
+    return f", {len(names)} refused by a proof file{shown}"
 
 
 def load_kit():
@@ -314,11 +302,11 @@ def load_kit():
 def crates_of(kit, names):
     """Returns the crates with edits, those above first, since their checks take longest."""
     every = kit.crates_below(str(ROOT))
-    unknown = set(names) - {it.name for it in every}
+    unknown = set(names) - {made.name for made in every}
     if unknown:
         raise Fault(f"no crate is called {min(unknown)}", 2)
-    crates = [Crate(kit, it) for it in every if not names or it.name in names]
-    return [it for it in crates if it.edits][::-1]
+    crates = [Crate(kit, made) for made in every if not names or made.name in names]
+    return [crate for crate in crates if crate.edits][::-1]
 
 
 def words():
@@ -344,13 +332,14 @@ def main():
     crates = crates_of(load_kit(), options.crates)
     if options.logs:
         os.makedirs(options.logs, exist_ok=True)
-    rounds = [(crate, *it, options) for crate in crates for it in enumerate(crate.rounds(), 1)]
+    rounds = [(crate, number, edits, options) for crate in crates
+              for number, edits in enumerate(crate.rounds(), 1)]
     if options.beside:
         os.nice(19)
     passed = failed = 0
     proofs = Proofs(sys.stdin.readline if options.beside else None)
     for count, faults, label in in_lanes(rounds, judge, options.jobs, proofs):
-        print("\n".join([label, *(f"  {it}" for it in faults)]), flush=True)
+        print("\n".join([label, *(f"  {fault}" for fault in faults)]), flush=True)
         passed, failed = passed + max(count - len(faults), 0), failed + len(faults)
     print(f"{passed} passed, {failed} failed")
     return 1 if failed or not passed else 0

@@ -6,14 +6,14 @@ from author.lib.endings import run_tool
 from author.lib.words import module_parser
 
 from .lib import lanes
+from .lib.running import ROOT
 from .lib.tally import compare, tally
 
-ROOT = pathlib.Path(__file__).resolve().parent.parent
 # A crate with an edit, the kit that checks it, and its `rt ci`.
 FILES = {
     "tree/crates/low/src/lib.rt":
         "fn first() -> u64 {\n    1\n}\n\nfn second() -> u64 {\n    2\n}\n",
-    "tree/crates/low/must-fail/it.edit":
+    "tree/crates/low/must-fail/wrong.edit":
         "function: low::first\nfile: src/lib.rt\nold:     1\nnew:     one(2)\n",
     "tree/gate/harmless/low.edit":
         "function: low::second\nfile: src/lib.rt\nold:     2\nnew:     1 + 1\n",
@@ -36,12 +36,12 @@ VERDICTS = [
     ([OPEN + "`returns`, `one-requires`; it calls `low::one`", HARMLESS], ""),
     ([OPEN + "`two-requires`", HARMLESS], ""),
     ([OPEN + "`one-requires`, `in-Ok-one-requires-clause-found`", HARMLESS], ""),
-    (["fn low::first: no holes", HARMLESS], "it: NOT REFUSED: low::first: no holes"),
-    ([HARMLESS], "it: NOT REFUSED: low::first: the check does not name it"),
+    (["fn low::first: no holes", HARMLESS], "wrong: NOT REFUSED: low::first: no holes"),
+    ([HARMLESS], "wrong: NOT REFUSED: low::first: the check does not name it"),
     ([ERROR + "`returns`: it differs", NOT_PROVED, HARMLESS],
-     f"it: a proof file refused it: {ASKS}it breaks the contract"),
+     f"wrong: a proof file refused it: {ASKS}it breaks the contract"),
     ([ERROR + "`c.gone` is not in scope", NOT_PROVED, HARMLESS],
-     "it: NOT REFUSED: low::first: not proved"),
+     "wrong: NOT REFUSED: low::first: not proved"),
     ([OPEN + "`returns`", "fn low::second: not proved"],
      "low::second: a harmless edit was refused: not proved"),
     (["proofs/Lib.antt:1:1: error: it differs", OPEN + "`returns`", HARMLESS],
@@ -69,7 +69,7 @@ class Room:
         file.chmod(0o755)
 
     def check_says(self, lines):
-        self.write("kit/said", "".join(f"echo '{it}'\n" for it in lines))
+        self.write("kit/said", "".join(f"echo '{line}'\n" for line in lines))
 
     def run(self, *words):
         """Runs Python, with the kit on the PATH. Returns the status and the lines."""
@@ -85,7 +85,7 @@ def verdicts(room):
     for said, wrong in VERDICTS:
         room.check_says(said)
         status, lines = room.run("-m", "gate.edits", "--anew")
-        faults = [it.removeprefix("  ") for it in lines if it.startswith("  ")]
+        faults = [line.removeprefix("  ") for line in lines if line.startswith("  ")]
         yield compare(f"a verdict on {said}", (bool(wrong), [wrong] if wrong else []),
                       (status, faults))
 
@@ -101,7 +101,8 @@ def kept(room):
 
 def gates(room):
     """Runs the gate without its steps after the proofs. An `rt ci` that fails ends the edits."""
-    words = ["-c", "import sys, gate.gate as it; it.STEPS = []; sys.exit(it.main())", "--anew"]
+    words = ["-c", "import sys; from gate import gate; gate.STEPS = []; sys.exit(gate.main())",
+             "--anew"]
     passes = "echo 3 passed, 0 failed"
     for name, at, ends, expected in [
             ("all is right", 0, passes, (0, "5 passed, 0 failed")),
@@ -130,7 +131,7 @@ def beside():
     proofs, below = lanes.Proofs(lambda: said.get(timeout=20)), []
     crates = []
     for name in ("low", "middle", "high"):
-        made = types.SimpleNamespace(name=name, rlib="none", below=lambda it=[*below]: it)
+        made = types.SimpleNamespace(name=name, rlib="none", below=[*below].copy)
         below.append(made)
         crates.insert(0, types.SimpleNamespace(made=made))
 
@@ -144,8 +145,8 @@ def beside():
 
     said.put("rt: low: its tests are proved\n")
     said.put("rt: low proved\n")
-    came = list(lanes.in_lanes([(it,) for it in crates], judge, 1, proofs))
-    yield compare("rounds beside `rt ci`", (["middle", "high", "low"],) * 2, (begun, came))
+    actual = list(lanes.in_lanes([(crate,) for crate in crates], judge, 1, proofs))
+    yield compare("rounds beside `rt ci`", (["middle", "high", "low"],) * 2, (begun, actual))
 
 
 def trials():

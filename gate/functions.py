@@ -30,15 +30,15 @@ class Function:
 def named(text):
     """Returns the name of a type or a trait, and the names of what it is applied to."""
     name, _, rest = text.strip().partition("<")
-    given, depth = [""], 0
+    applied, depth = [""], 0
     for sign in rest.removesuffix(">"):
         depth += (sign == "<") - (sign == ">")
         if sign == "," and not depth:
-            given.append("")
+            applied.append("")
         else:
-            given[-1] += sign
-    names = [it.partition("<")[0].rpartition("::")[2].strip() for it in given]
-    return name.rpartition("::")[2], [it for it in names if it and it[0] != "'"]
+            applied[-1] += sign
+    names = [path.partition("<")[0].rpartition("::")[2].strip() for path in applied]
+    return name.rpartition("::")[2], [given for given in names if given and given[0] != "'"]
 
 
 def owner_of(line):
@@ -55,8 +55,8 @@ def owner_of(line):
     of_trait, _, of_type = found["rest"].rpartition(" for ")
     trait, trait_given = named(of_trait)
     name, given = named(of_type)
-    return "".join([name, *(f"+{it}" for it in given if it not in parameters),
-                    trait, *(it for it in trait_given if it not in parameters)])
+    return "".join([name, *(f"+{path}" for path in given if path not in parameters),
+                    trait, *(path for path in trait_given if path not in parameters)])
 
 
 def body_of(lines, at, indent):

@@ -11,7 +11,8 @@ import contextlib, os, pathlib, re, resource, shutil, signal, subprocess, sys, t
 from author.lib.endings import run_tool
 from author.lib.words import module_parser
 
-ROOT = pathlib.Path(__file__).resolve().parent.parent
+from .lib.running import ROOT
+
 EDITS = "gate.edits"
 STEPS = ["gate.edits_trials", "author.tests.run", "gate.documents", "gate.play_cases", "gate.pipes",
          "gate.terminals", "gate.cert_inputs_trials", "gate.cuts", "gate.shares",
@@ -57,7 +58,7 @@ def follow(step, left_out, edits=None):
             step.terminate()
             raise
     count = re.search(r"(\d+) passed, (\d+) failed", last)
-    passed, failed = (int(it) for it in count.groups()) if count else (0, 0)
+    passed, failed = map(int, count.groups()) if count else (0, 0)
     return passed, max(failed, int(step.returncode != 0 or not count))
 
 

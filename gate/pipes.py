@@ -7,24 +7,22 @@ exceeds the size that it may write, leaves an older certificate as it was. CERT 
 keeps its permissions; a new one has those that the umask leaves. Expected values follow from
 `docs/COMMANDS.md`.
 """
-import os, pathlib, pty, resource, shutil, signal, subprocess, tempfile, threading, time
+import functools, os, pathlib, resource, shutil, signal, subprocess, tempfile, threading, time
 
 from author.lib.endings import run_tool
 from author.lib.words import program_word
 
 from .lib import inputs
 from .lib.inputs import RULES
-from .lib.play import SECONDS, Place, end, ended, report
+from .lib.play import SECONDS, Place, end, ended, open_terminal, report
+from .lib.running import take_interrupts
 from .lib.tally import compare, tally
 
 FILES = {
-    **inputs.files("dat.red", "imp.red", "one.red", "imps.red", "both.csv", "imps.fight",
-                   "one.cert"),
+    **inputs.files("dat.red", "imp.red", "one.red", "imps.red", "slow.red", "both.csv", "far.csv",
+                   "imps.fight", "one.cert"),
     # equal warriors, so that a long certificate takes one fight
     "many.red": ";@tune K 0 19999 1 0\nMOV 0, 1\n",
-    # warriors that differ, so that a tuning takes long
-    "long.red": ";@tune K 0 7999 1 0\n;@tune L 0 99 1 0\nSPL 0\nMOV K, L\nJMP -1\n",
-    "far.csv": "opponent,position,first\n0,4000,c\n",
     "typo.csv": "opponent,position,first\n0,8,x\n",
 }
 CERT = FILES["one.cert"]
@@ -34,7 +32,7 @@ TUNE = ["tune", *RULES, "one.red", "both.csv", "CERT", *WARRIORS]
 MANY = ["tune", *RULES, "many.red", "both.csv", "CERT", *WARRIORS]
 TYPO = ["tune", *RULES, "one.red", "typo.csv", "CERT", *WARRIORS]
 CHECK = ["check", *RULES, "one.red", "both.csv", "one.cert", *WARRIORS]
-LONG = ["tune", "long.red", "far.csv", "CERT", "imp.red"]
+SLOW = ["tune", "slow.red", "far.csv", "CERT", "imp.red"]
 NOBODY = 65534
 NO_WRITE = end(3, err="failed: Write\n")
 NO_CERT = end(3, err="failed: Write\nfound: best 0 total 4\n")
@@ -82,15 +80,15 @@ def readers_that_go_away(place):
     for words in [[], ["asm", "imp.red"], CHECK, ["tune", "--help"], ["--help"]]:
         name = " ".join(words[:1]) or "fight"
         yield f"nobody reads the output of {name}", NO_WRITE, to_broken_pipe(place, words, "stdout")
-    came = to_broken_pipe(place, TUNE, "stdout")
+    actual = to_broken_pipe(place, TUNE, "stdout")
     yield "nobody reads a report: the certificate is whole", NO_WRITE._replace(
-        files=TUNED.files), came
+        files=TUNED.files), actual
     for name, words, status in [("a refusal", TYPO, 1), ("a usage error", ["fights"], 2),
                                 ("a file that cannot be read", ["asm", "none.red"], 3)]:
-        came = to_broken_pipe(place, words, "stderr")
-        yield f"nobody reads the standard error of {name}", end(status), came
-    came = to_broken_pipe(place, [], "stdout", "stderr")
-    yield "nobody reads a result, nor the line that says so", end(3), came
+        actual = to_broken_pipe(place, words, "stderr")
+        yield f"nobody reads the standard error of {name}", end(status), actual
+    actual = to_broken_pipe(place, [], "stdout", "stderr")
+    yield "nobody reads a result, nor the line that says so", end(3), actual
 
 
 def read_slowly(path, most, text):
@@ -109,39 +107,37 @@ def to_named_pipe(place, most, **streams):
     os.mkfifo(path)
     reader = threading.Thread(target=read_slowly, args=(path, most, text), daemon=True)
     reader.start()
-    came = place.run(MANY, **streams)
+    actual = place.run(MANY, **streams)
     reader.join(SECONDS)
     path.unlink()
-    return came, b"".join(text)
+    return actual, b"".join(text)
 
 
 def certificates_for_pipes(place):
     """Tries a certificate that goes to a named pipe."""
     rows = b"".join(b"same,%d,0\n" % number for number in range(1, 20000))
     whole = b"cwcert,1,20000\nbest,0,4\ncap,0,0:3 1:1\n" + rows
-    came, text = to_named_pipe(place, 2 * len(whole))
-    yield "a named pipe gets the whole certificate", (0, b"", whole), (came.status, came.err, text)
-    came = to_named_pipe(place, 10)
+    actual, text = to_named_pipe(place, 2 * len(whole))
+    yield "a named pipe gets the whole certificate", (0, b"", whole), (
+        actual.status, actual.err, text)
+    actual = to_named_pipe(place, 10)
     lost = end(3, err="failed: Write\nfound: best 0 total 4 K=0\n")
-    yield "a reader leaves amid the certificate: no report", (lost, whole[:10]), came
-    came = to_named_pipe(place, 2 * len(whole), preexec_fn=lambda: os.close(1))
-    yield "a named pipe is not taken for a closed output", (NO_WRITE, whole), came
+    yield "a reader leaves amid the certificate: no report", (lost, whole[:10]), actual
+    actual = to_named_pipe(place, 2 * len(whole), preexec_fn=lambda: os.close(1))
+    yield "a named pipe is not taken for a closed output", (NO_WRITE, whole), actual
 
 
 def at_terminal(place, typed):
     """Runs with a terminal as standard input, at which `typed` is typed, or None: it is hung up."""
-    terminal, program_end = pty.openpty()
-    process = place.start([], stdin=program_end)
-    os.close(program_end)
-    time.sleep(0.2)
-    if typed is None:
-        os.close(terminal)
-    else:
-        os.write(terminal, typed)
-    came = ended(process)
-    if typed is not None:
-        os.close(terminal)
-    return end(*came)
+    with open_terminal() as (screen, program_end):
+        process = place.start([], stdin=program_end)
+        program_end.close()
+        time.sleep(0.2)
+        if typed is None:
+            screen.close()
+        else:
+            screen.write(typed)
+        return end(*ended(process))
 
 
 def standard_inputs(place):
@@ -160,10 +156,10 @@ def inputs_without_end(place):
     yield "an endless standard input", NO_READ, from_file(place, "/dev/zero")
     with subprocess.Popen(["yes"], stdout=subprocess.PIPE) as lines:
         yield "endless lines from a pipe", NO_READ, place.run([], stdin=lines.stdout)
-    came = from_file(place, "/dev/zero", megabytes=512)
-    yield "an endless standard input in 512 MB", NO_MEMORY, came
-    came = place.run(["asm", "/dev/zero"])
-    yield "an endless file", end(3, err="failed: read /dev/zero\n"), came
+    actual = from_file(place, "/dev/zero", megabytes=512)
+    yield "an endless standard input in 512 MB", NO_MEMORY, actual
+    actual = place.run(["asm", "/dev/zero"])
+    yield "an endless file", end(3, err="failed: read /dev/zero\n"), actual
     (place.folder / "most").touch()
     for size, expected in [(1 << 30, end(1, err="refused: Asm line 0 TextTooLong\n")),
                            ((1 << 30) + 1, end(3, err="failed: read most\n"))]:
@@ -188,15 +184,10 @@ def closed_streams(place):
     for name, words in [("a load file", ["asm", "imp.red"]), ("a verdict", CHECK),
                         ("help", ["tune", "--help"])]:
         yield f"{name} without a standard output", NO_WRITE, without(place, 1, words)
-    came = without(place, 1, TUNE)
-    yield "a report without a standard output", NO_WRITE._replace(files=TUNED.files), came
+    actual = without(place, 1, TUNE)
+    yield "a report without a standard output", NO_WRITE._replace(files=TUNED.files), actual
     yield "a refusal without a standard error", end(1), without(place, 2, TYPO)
     yield "a tuning without a standard input", TUNED, without(place, 0, TUNE)
-
-
-def take_interrupts():
-    """Lets a run be interrupted, also if this runs in the background of a script."""
-    signal.signal(signal.SIGINT, signal.SIG_DFL)
 
 
 def interrupted(place):
@@ -206,11 +197,11 @@ def interrupted(place):
             if old:
                 place.write("CERT", old)
             before = place.texts()
-            process = place.start(LONG, preexec_fn=take_interrupts)
+            process = place.start(SLOW, preexec_fn=take_interrupts)
             time.sleep(1)
             process.send_signal(sign)
-            came = (*ended(process), place.texts())
-            yield f"a tuning ended by {sign.name}", (-sign, b"", b"", before), came
+            actual = (*ended(process), place.texts())
+            yield f"a tuning ended by {sign.name}", (-sign, b"", b"", before), actual
             (place.folder / "CERT").unlink(missing_ok=True)
 
 
@@ -218,14 +209,14 @@ def limited(place):
     """Tries a tuning that may write only few bytes to a file, or open only one."""
     place.write("CERT", OLD)
     for most in [1, 10, len(CERT) - 1]:
-        limit = lambda: resource.setrlimit(resource.RLIMIT_FSIZE, (most, most))
-        came = place.run(TUNE, preexec_fn=limit, restore_signals=False)
-        yield f"a limit of {most} bytes", NO_CERT, came
-        came = place.run(TUNE, preexec_fn=limit)
+        limit = functools.partial(resource.setrlimit, resource.RLIMIT_FSIZE, (most, most))
+        actual = place.run(TUNE, preexec_fn=limit, restore_signals=False)
+        yield f"a limit of {most} bytes", NO_CERT, actual
+        actual = place.run(TUNE, preexec_fn=limit)
         left = end(-signal.SIGXFSZ, files={"CERT.unfinished-1": CERT[:most]})
-        yield f"a limit of {most} bytes that kills", left, came
+        yield f"a limit of {most} bytes that kills", left, actual
     # Leaves one handle after the three streams: a file can be opened, and its handle not copied.
-    few = lambda: resource.setrlimit(resource.RLIMIT_NOFILE, (4, 4))
+    few = functools.partial(resource.setrlimit, resource.RLIMIT_NOFILE, (4, 4))
     yield "a limit of four open files", NO_CREATE, place.run(TUNE, preexec_fn=few)
     (place.folder / "CERT").unlink()
     yield "a limit of four open files, no CERT", NO_CREATE, place.run(TUNE, preexec_fn=few)
@@ -249,8 +240,8 @@ def links(place):
     inside = place.folder / "inside"
     inside.mkdir()
     (inside / "link").symlink_to("real")
-    came = place.run(tune_to("inside/link"))
-    yield "a link leads on from its own folder", end(0, REPORT, files={"inside/real": CERT}), came
+    actual = place.run(tune_to("inside/link"))
+    yield "a link leads on from its own folder", end(0, REPORT, files={"inside/real": CERT}), actual
 
 
 def chains(place):
@@ -266,8 +257,8 @@ def certificates_in_place(place):
     """Tries a new CERT, files that other runs have left beside it, and a CERT that may not be
     written, or not read."""
     path = place.folder / "CERT"
-    came = place.run(TUNE, keep=True, preexec_fn=lambda: os.umask(0o027))
-    yield "a new file's permissions", (TUNED, 0o640), (came, path.stat().st_mode & 0o777)
+    actual = place.run(TUNE, keep=True, preexec_fn=lambda: os.umask(0o027))
+    yield "a new file's permissions", (TUNED, 0o640), (actual, path.stat().st_mode & 0o777)
     path.unlink()
     for number in range(1, 1000):
         place.write(f"CERT.unfinished-{number}", "")
@@ -278,13 +269,13 @@ def certificates_in_place(place):
         (place.folder / f"CERT.unfinished-{number}").unlink()
     place.write("CERT", OLD)
     path.chmod(0o444)
-    came = place.run(TUNE, **as_owner(path, place.program))
-    yield "a CERT that may not be written", NO_CREATE, came
+    actual = place.run(TUNE, **as_owner(path, place.program))
+    yield "a CERT that may not be written", NO_CREATE, actual
     path.chmod(0o644)
     place.write("CERT", "mine\n")
     path.chmod(0o200)
-    came = place.run(TUNE, **as_owner(path, place.program))
-    yield "a CERT that may not be read", end(3, err="failed: read CERT\n"), came
+    actual = place.run(TUNE, **as_owner(path, place.program))
+    yield "a CERT that may not be read", end(3, err="failed: read CERT\n"), actual
 
 
 def as_owner(path, program):

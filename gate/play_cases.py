@@ -2,7 +2,7 @@
 
 gate/cases/README.md says what a case has. One that says anything else, or no `name`, is refused.
 """
-import os, pathlib, re, shlex, string, tempfile, tomllib
+import functools, os, pathlib, re, shlex, string, tempfile, tomllib
 
 from author.lib.endings import Fault, run_tool
 from author.lib.program import program_of
@@ -14,19 +14,18 @@ from .lib.play import Place, end, report, status_of
 from .lib.running import side_by_side
 from .lib.tally import tally
 
-FILLED = ["stdin", "out", "err", "err_begins"]
-NEEDED = {"name": str}
-OPTIONAL = {
-    "files": dict, "folders": list, "stdin": str, "stdin_from": str, "out_to": str, "cert": str,
-    "each": list, "values": dict, "out": str, "report": list, "out_begins": str,
-    "out_contains": list, "out_is": str, "err": str, "err_begins": str, "words": str,
-    "runs": list, "fill": dict, "long": dict, "accepted": bool, "terminal": bool,
-    "seconds": int, "megabytes": int, "status": int,
-}
-# what the tables of `runs` and `each` may say
-MERGED = {**OPTIONAL, **NEEDED, "runs": None, "each": None}
-LONG = {"head": str, "text": str, "times": int, "tail": str}
+FILLED = ["stdin", "out", "err", "err_begins", "cert"]
+# The types of the keys of a file, a case, its tables in `each` or `runs`, and a long file.
 SHARED = {"files": dict, "folders": list, "words": dict, "usual": str, "case": list}
+CASE = {
+    "name": str, "words": str, "files": dict, "folders": list, "long": dict, "stdin": str,
+    "stdin_from": str, "out_to": str, "seconds": int, "megabytes": int,
+    "status": int, "out": str, "err": str, "report": list, "out_begins": str, "err_begins": str,
+    "out_contains": list, "out_is": str, "cert": str, "accepted": bool,
+    "each": list, "runs": list, "values": dict, "fill": dict, "terminal": bool,
+}
+TABLE = {key: kind for key, kind in CASE.items() if key not in ("each", "runs")}
+LONG = {"head": str, "text": str, "times": int, "tail": str}
 SECONDS = 120
 # How deep names may be: their texts may have names, too.
 DEEPEST = 3
@@ -39,7 +38,7 @@ def check_keys(table, kinds, needed, where):
     for key in sorted({*needed, *table}):
         if key not in table:
             raise Fault(f"{where}: no key `{key}`")
-        if kinds.get(key) is None:
+        if key not in kinds:
             raise Fault(f"{where}: unknown key `{key}`")
         if type(table[key]) is not kinds[key]:
             raise Fault(f"{where}: `{key}` is of type {type(table[key]).__name__}, not "
@@ -53,10 +52,10 @@ def variants(case, key):
     cases = []
     for number, table in enumerate(case[key], 1):
         name = f"{case['name']} ({'table' if key == 'each' else 'run'} {number})"
-        check_keys(table, MERGED, [], name)
+        check_keys(table, TABLE, [], name)
         texts = [*table.get("fill", {}).values(), *table.get("files", {}).values()]
-        told = table.get("name") or table.get("words") or repr(texts)[:100]
-        merged = {"name": f"{name}: {told}"}
+        label = table.get("name") or table.get("words") or repr(texts)[:100]
+        merged = {"name": f"{name}: {label}"}
         for part in ["files", "fill", "long"]:
             merged[part] = case[part] | table.get(part, {})
         cases.append(case | table | merged)
@@ -66,11 +65,17 @@ def variants(case, key):
 
 
 def valued(case):
-    """Returns the case, or one for each of the texts of its `values`."""
-    return [case | {"name": f"{case['name']} ({number}: {text[:60]!r})",
-                    "fill": case["fill"] | {name: text}}
-            for name, texts in case["values"].items()
-            for number, text in enumerate(texts, 1)] if "values" in case else [case]
+    """Returns the case, or one for each row of its `values`: a text, or one for each name."""
+    cases = []
+    for names, rows in case.get("values", {}).items():
+        for number, row in enumerate(rows, 1):
+            texts = row if isinstance(row, list) else [row]
+            name = f"{case['name']} ({number}: {' '.join(texts)[:60]!r})"
+            if len(texts) != len(names.split()):
+                raise Fault(f"{name}: not a text for each of `{names}`")
+            cases.append(case | {"name": name,
+                                 "fill": case["fill"] | dict(zip(names.split(), texts))})
+    return cases or [case]
 
 
 def fill(text, names, where):
@@ -103,7 +108,7 @@ def words_of(case):
 def filled(case):
     """Returns the case with its words parted, its long files made, and names put in by `fill`."""
     words = words_of(case)
-    put_in = lambda text: fill(text, case["fill"], case["name"])
+    put_in = functools.partial(fill, names=case["fill"], where=case["name"])
     named = {os.path.normpath(word) for word in [*words, case.get("stdin_from", "")]}
     files = inputs.files(*named & inputs.FILES.keys())
     files |= {name: put_in(text) for name, text in case["files"].items()}
@@ -117,8 +122,8 @@ def filled(case):
             raise Fault(f"{case['name']}: `report` has six values, in place of `out`")
         case = case | {"out": report(*case["report"])}
     made = {key: put_in(case[key]) for key in FILLED if key in case}
-    said = status_of("\n".join(made.get(key, "") for key in ("out", "err", "err_begins")))
-    return {"status": said} | case | made | {"files": files, "words": words}
+    status = status_of("\n".join(made.get(key, "") for key in ("out", "err", "err_begins")))
+    return {"status": status} | case | made | {"files": files, "words": words}
 
 
 def ways(case):
@@ -144,10 +149,12 @@ def read_cases(path):
     except ValueError as error:
         raise Fault(f"{path}: {error}") from None
     check_keys(table, SHARED, ["case"], path)
+    if twice := table.get("files", {}).keys() & inputs.FILES.keys():
+        raise Fault(f"{path}: gate/inputs.toml has `{min(twice)}`, too")
     cases = []
     for case in table["case"]:
         name = f"{path}: {case.get('name')}"
-        check_keys(case, NEEDED | OPTIONAL, NEEDED, name)
+        check_keys(case, CASE, ["name"], name)
         case["name"] = name
         if "usual" in table:
             case.setdefault("words", table["usual"])
@@ -155,9 +162,8 @@ def read_cases(path):
         case["files"] = table.get("files", {}) | case.get("files", {})
         case["folders"] = table.get("folders", []) + case.get("folders", [])
         case = {"long": {}} | case | {"fill": inputs.TEXTS | case.get("fill", {})}
-        tables = [one for run in variants(case, "runs") for table in variants(run, "each")
-                  for one in valued(table)]
-        cases += [way for one in tables for way in ways(filled(one))]
+        cases += [way for run in variants(case, "runs") for table in variants(run, "each")
+                  for single in valued(table) for way in ways(filled(single))]
     if len({case["name"] for case in cases}) < len(cases):
         raise Fault(f"{path}: two cases have one name")
     return cases
@@ -178,35 +184,35 @@ def run(place, case):
     """Runs the program as a case says. Returns its end, without the progress."""
     opened = streams_of(case, place)
     try:
-        came = place.run(case["words"], text=None if "stdin" in opened else case.get("stdin", ""),
-                         keep=True, seconds=case.get("seconds", SECONDS),
-                         terminal=case.get("terminal", False), megabytes=case.get("megabytes"),
-                         **opened)
+        actual = place.run(case["words"], None if "stdin" in opened else case.get("stdin", ""),
+                           keep=True, seconds=case.get("seconds", SECONDS),
+                           terminal=case.get("terminal", False), megabytes=case.get("megabytes"),
+                           **opened)
     finally:
         for stream in opened.values():
             os.close(stream)
     if case.get("terminal"):
-        return came._replace(err=re.sub(PROGRESS_AT_TERMINAL, b"", came.err))
+        return actual._replace(err=re.sub(PROGRESS_AT_TERMINAL, b"", actual.err))
     if "--progress" in case["words"] and "terminal" in case:
-        return came._replace(err=re.sub(PROGRESS, b"", came.err))
-    return came
+        return actual._replace(err=re.sub(PROGRESS, b"", actual.err))
+    return actual
 
 
 def shown(text):
-    """Decodes what came, of which any bytes can be shown."""
+    """Decodes an output, of which any bytes can be shown."""
     return text.decode(errors="backslashreplace")
 
 
-def text_differences(case, key, came):
-    """Returns how the output `came` differs from what the case says of it."""
+def text_differences(case, key, actual):
+    """Returns how the output `actual` differs from what the case says of it."""
     begins, parts = case.get(f"{key}_begins", ""), case.get(f"{key}_contains", [])
     whole = case["files"][case["out_is"]] if key == "out" and "out_is" in case else case.get(key)
-    wrong = [f"{key}: expected lines with {part!r}" for part in parts if part not in came]
-    if begins and not (came.startswith(begins) and came.endswith("\n")):
+    wrong = [f"{key}: expected lines with {part!r}" for part in parts if part not in actual]
+    if begins and not (actual.startswith(begins) and actual.endswith("\n")):
         wrong.append(f"{key}: expected lines that begin with {begins!r}")
-    if (whole is not None or not (begins or parts)) and came != (whole or ""):
+    if (whole is not None or not (begins or parts)) and actual != (whole or ""):
         wrong.append(f"{key}: expected {whole or ''!r}")
-    return [f"{line}, came {came!r}"[:2000] for line in wrong]
+    return [f"{line}, got {actual!r}"[:2000] for line in wrong]
 
 
 def check_differences(place, case):
@@ -215,9 +221,9 @@ def check_differences(place, case):
     if not best:
         return ["`out` has no best setting"]
     words = ["check", *(word for word in case["words"][1:] if not word.startswith("--cache"))]
-    wanted = end(0, f"accepted best {best[1]} total {best[2]}\n")
-    came = place.run(words, seconds=SECONDS)
-    return [] if came == wanted else [f"its check: expected {wanted}, came {came}"[:2000]]
+    expected = end(0, f"accepted best {best[1]} total {best[2]}\n")
+    actual = place.run(words, seconds=SECONDS)
+    return [] if actual == expected else [f"its check: expected {expected}, got {actual}"[:2000]]
 
 
 def differences(program, case):
@@ -226,21 +232,22 @@ def differences(program, case):
         for name in case["folders"]:
             pathlib.Path(folder, name).mkdir()
         place = Place(program, folder, case["files"])
-        came = run(place, case)
-        wrong = text_differences(case, "out", shown(came.out))
-        wrong += text_differences(case, "err", shown(came.err))
-        if came.status != case["status"]:
-            wrong.append(f"status: expected {case['status']}, came {came.status}")
-        files = {name: None if text is None else shown(text) for name, text in came.files.items()}
+        actual = run(place, case)
+        wrong = text_differences(case, "out", shown(actual.out))
+        wrong += text_differences(case, "err", shown(actual.err))
+        if actual.status != case["status"]:
+            wrong.append(f"status: expected {case['status']}, got {actual.status}")
+        files = {name: None if text is None else shown(text) for name, text in actual.files.items()}
         if case.get("accepted") and files.pop("CERT", None):
             wrong += check_differences(place, case)
         elif case.get("accepted"):
-            wrong.append("CERT: expected one, came none")
-    wanted = {"CERT": case["cert"]} if "cert" in case else {}
-    if wanted.get("CERT") == case["files"].get("CERT"):
-        wanted = {}
-    return wrong + [f"file {name}: expected {wanted.get(name)!r}, came {files.get(name)!r}"[:2000]
-                    for name in sorted({**wanted, **files}) if wanted.get(name) != files.get(name)]
+            wrong.append("CERT: expected one, got none")
+    expected = {"CERT": case["cert"]} if "cert" in case else {}
+    if expected.get("CERT") == case["files"].get("CERT"):
+        expected = {}
+    return wrong + [f"file {name}: expected {expected.get(name)!r}, got {files.get(name)!r}"[:2000]
+                    for name in sorted({**expected, **files})
+                    if expected.get(name) != files.get(name)]
 
 
 def main():

@@ -124,10 +124,10 @@ def said_trials():
     race, text = Race("stone", "search", 60, 1), "a line\nover START: -0.3% +- 0.7, no gain\n"
     yield compare("a printed gain", (-0.3, 0.7), gain_said(race, text))
     try:
-        came = gain_said(race, "START is best\n")
+        actual = gain_said(race, "START is best\n")
     except Fault as fault:
-        came = str(fault)
-    yield compare("no printed gain", f"{race}: no line `over START: GAIN% +- ERROR`", came)
+        actual = str(fault)
+    yield compare("no printed gain", f"{race}: no line `over START: GAIN% +- ERROR`", actual)
 
 
 def naive_trials(program, folder):

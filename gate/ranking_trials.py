@@ -12,7 +12,8 @@ from author.lib.tuning_files import Certificate, Template, read_schedule
 from author.lib.words import program_word
 
 from .lib.play import in_folder
-from .lib.ranking_model import Aim, Search, Table, first_too_high, listed, rank_line, row_line
+from .lib.ranking_model import (Aim, Search, Table, first_too_high, rank_line, ranking_of,
+                                row_line)
 from .lib.running import side_by_side
 from .lib.tally import compare, tally
 
@@ -63,7 +64,7 @@ class Drawn:
 
     def warrior(self, a, b):
         try:
-            numbers = [EXPRESSIONS[it](a, b) % CORE for line in self.lines for it in line[3:]]
+            numbers = [EXPRESSIONS[text](a, b) % CORE for line in self.lines for text in line[3:]]
         except ZeroDivisionError:
             return None
         return tuple(numbers) if ASSERTS[self.check](a, b) else None
@@ -75,7 +76,7 @@ def drawn_schedule(dice):
     head = "opponent,position,first"
     if dice.random() < 0.4:
         head, fights = f"{head},weight", [[*fight, dice.randint(1, 4)] for fight in fights]
-    return "".join(f"{line}\n" for line in [head, *(",".join(map(str, it)) for it in fights)])
+    return "".join(f"{line}\n" for line in [head, *(",".join(map(str, fight)) for fight in fights)])
 
 
 class Trial:
@@ -94,8 +95,8 @@ class Trial:
         out, err = job.communicate()
         return job.returncode, out.decode() + err.decode()
 
-    def see(self, name, expected, came):
-        self.wrong += [f"{name}: {it}" for it in compare(name, expected, came)[1]]
+    def see(self, name, expected, actual):
+        self.wrong += [f"{name}: {line}" for line in compare(name, expected, actual)[1]]
 
     def read_table(self):
         """Reads the points of all fights from CERT, and compares which settings assemble. Without
@@ -104,20 +105,22 @@ class Trial:
         template, points = Template(folder / "t.red"), [None] * len(self.warriors)
         if self.place.read("CERT"):
             found = Certificate(folder / "CERT")
-            points = [found.points(v) for v in range(found.count)]
+            points = [found.points(setting) for setting in range(found.count)]
         self.see("what assembles", [warrior is not None for warrior in self.warriors],
-                 [own is not None for own in points])
-        self.table = Table(read_schedule(folder / "s.csv"), points, self.warriors,
-                           [template.constants(v) for v in range(len(points))], template.start)
-        v = self.dice.randrange(len(points))
-        alike = [u for u, warrior in enumerate(self.warriors) if warrior == self.warriors[v]]
-        loads = {self.load(u) for u in {v, *self.dice.choices(alike, k=2)}}
-        self.see("equal warriors have one load file", (1, self.warriors[v] is None),
+                 [listing is not None for listing in points])
+        constants = [template.constants(setting) for setting in range(len(points))]
+        self.table = Table(read_schedule(folder / "s.csv"), points, self.warriors, constants,
+                           template.start)
+        setting = self.dice.randrange(len(points))
+        warrior = self.warriors[setting]
+        twins = [twin for twin, other in enumerate(self.warriors) if other == warrior]
+        loads = {self.load(twin) for twin in {setting, *self.dice.choices(twins, k=2)}}
+        self.see("equal warriors have one load file", (1, warrior is None),
                  (len(loads), b"" in loads))
 
-    def load(self, v):
-        """Returns the load file of setting v, empty if it does not assemble."""
-        job = self.place.start(["asm", *RULES, "--setting", str(v), "t.red"])
+    def load(self, setting):
+        """Returns the load file of a setting, empty if it does not assemble."""
+        job = self.place.start(["asm", *RULES, "--setting", str(setting), "t.red"])
         return job.communicate()[0]
 
     def tune(self, aim, *more, table=None):
@@ -127,12 +130,12 @@ class Trial:
         options += [f"--keep={aim.keep}"] * (aim.keep > 1) + [f"--floor={aim.floor}"] * (
             aim.floor > 0)
         (self.place.folder / "CERT").unlink(missing_ok=True)
-        came = self.run("tune", *options)
+        actual = self.run("tune", *options)
         cert = self.place.read("CERT")
         report = model.report()
         expected = (0, report) if report else (1, "refused: NoCandidate\n")
         self.seen |= kinds_of(model)
-        self.see(f"tune {' '.join(options)}", expected, came)
+        self.see(f"tune {' '.join(options)}", expected, actual)
         self.see(f"the certificate of tune {' '.join(options)}",
                  model.certificate().encode() if report else None, cert)
         return model
@@ -146,13 +149,13 @@ class Trial:
     def accepted(self, rows, keep=1, floor=0, share="", table=None):
         """Returns what a check prints of these rows, if they are right."""
         table = table or self.table
-        ranking = listed(rows, table.fights, floor)[:keep]
+        ranking = ranking_of(rows, table.fights, floor)[:keep]
         if not ranking:
             return f"accepted {share}none below {floor}\n"
         (total, best), shown = ranking[0], ranking if keep > 1 else []
         return f"accepted {share}best {best} total {-total}\n" + "".join(
-            rank_line(rank, v, -total, table.constants[v])
-            for rank, (total, v) in enumerate(shown, 1))
+            rank_line(rank, setting, -total, table.constants[setting])
+            for rank, (total, setting) in enumerate(shown, 1))
 
     def judged(self, name, rows, keep, floor=0):
         """Checks the first `keep` of CERT, which has these rows, whatever they show."""
@@ -171,7 +174,7 @@ class Trial:
     def write(self, model, rows):
         """Writes CERT with other rows than the model's."""
         head, best, *_ = model.certificate().splitlines()
-        lines = [head, best, *(row_line(v, row) for v, row in enumerate(rows))]
+        lines = [head, best, *(row_line(setting, row) for setting, row in enumerate(rows))]
         self.place.write("CERT", "".join(f"{line}\n" for line in lines))
 
 
@@ -180,8 +183,8 @@ def kinds_of(model):
     kinds = {kind for kind, _ in model.rows}
     shown = {
         "a copied row": model.copied is not None,
-        "a ranked row that names another": any(model.rows[v][0] == "same"
-                                               for _, v in model.ranking),
+        "a ranked row that names another": any(model.rows[setting][0] == "same"
+                                               for _, setting in model.ranking),
         "none assembles": kinds == {"refused"},
         "none reaches the floor": kinds != {"refused"} and not model.ranking,
         "a ranking that is not full": len(model.ranking) < model.aim.keep,
@@ -206,9 +209,10 @@ def firsts(trial):
     table = trial.table
     for keep in [2, 5, 10, len(table.points) + 1]:
         model = trial.tune(Aim(keep, capacity=trial.dice.choice([1, 2, 4096])))
-        trial.see(f"the first {keep}", table.ranked()[:keep], [v for _, v in model.ranking])
+        trial.see(f"the first {keep}", table.ranked()[:keep],
+                  [setting for _, setting in model.ranking])
         trial.see(f"the first {keep} are listed", model.ranking,
-                  listed(model.rows, table.fights)[:keep])
+                  ranking_of(model.rows, table.fights)[:keep])
         trial.check(f"keep {keep}", trial.accepted(model.rows, keep), f"--keep={keep}")
     trial.check("the first of all", trial.accepted(model.rows))
     keep = trial.dice.choice([2, 3, 5])
@@ -219,14 +223,14 @@ def firsts(trial):
 
 def damaged(trial, model, keep):
     """Takes the last fight from each row of the first of the ranking."""
-    for _, v in model.ranking:
+    for _, setting in model.ranking:
         rows = list(model.rows)
-        u = rows[v][1] if rows[v][0] == "same" else v
-        made = dict(sorted(rows[u][1].items())[:-1])
-        rows[u] = "cap", made
+        kind, rest = rows[setting]
+        own = rest if kind == "same" else setting
+        rows[own] = "cap", dict(sorted(rows[own][1].items())[:-1])
         trial.write(model, rows)
-        name = f"row {u} without its last fight"
-        if u == model.ranking[0][1]:
+        name = f"row {own} without its last fight"
+        if own == model.ranking[0][1]:
             trial.check(name, "rejected row 1 BestRow\n", f"--keep={keep}")
         else:
             trial.judged(name, rows, keep)
@@ -237,15 +241,15 @@ def floors(trial):
     table, dice = trial.table, trial.dice
     ranked = table.ranked()
     most = table.total(ranked[0])
-    wanted = {most - 1, most, most + 1, table.fights.greatest + 1,
+    totals = {most - 1, most, most + 1, table.fights.greatest + 1,
               table.total(dice.choice(ranked))}
-    wanted |= {table.total(table.start)} if table.points[table.start] else set()
-    wanted = [floor for floor in sorted(wanted) if floor > 0]
-    for floor in dice.sample(wanted, min(3, len(wanted))):
+    totals |= {table.total(table.start)} if table.points[table.start] else set()
+    totals = [total for total in sorted(totals) if total > 0]
+    for floor in dice.sample(totals, min(3, len(totals))):
         keep = dice.choice([1, 1, 2, 4])
         model = trial.tune(Aim(keep, floor, dice.choice([1, 4096])))
         trial.see(f"the first {keep} from {floor}", table.ranked(floor)[:keep],
-                  [v for _, v in model.ranking])
+                  [setting for _, setting in model.ranking])
         with_floor(trial, model, keep, floor)
 
 
@@ -260,12 +264,13 @@ def with_floor(trial, model, keep, floor):
     trial.check(name, "rejected row 1 BestRow\n", f"--floor={floor + 1}")
     trial.shares(name, model.rows, keep, floor, *options)
     rows = list(model.rows)
-    v = trial.dice.choice([v for v, (kind, _) in enumerate(rows) if kind == "cap"])
-    rows[v] = "cap", {}
+    fought = [setting for setting, (kind, _) in enumerate(rows) if kind == "cap"]
+    setting = trial.dice.choice(fought)
+    rows[setting] = "cap", {}
     if 3 * sum(fight.weight for fight in trial.table.fights) >= floor:
         trial.write(model, rows)
-        trial.check(f"{name}, row {v} without a fight",
-                    f"rejected row {v + 2} CapTooHigh\n", *options)
+        trial.check(f"{name}, row {setting} without a fight",
+                    f"rejected row {setting + 2} CapTooHigh\n", *options)
 
 
 def parts(trial):

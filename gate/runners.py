@@ -1,10 +1,10 @@
 """Asks the modules for help, runs them with a program that does not exist or always fails, and
 looks whether `classes.py` has something to write.
 
-Each module that can be run has to be in a list here, and each of `gate` in those of gate.gate and
-of gate/__init__.py, but for those that are run by hand.
+Each module of `gate` that can be run has to be in the lists of gate.gate and of gate/__init__.py,
+but for those that are run by hand.
 """
-import itertools, pathlib, re, sys, tempfile
+import pathlib, re, sys, tempfile
 
 import gate.lib
 from author.lib.endings import Fault, run_tool
@@ -16,21 +16,16 @@ from .lib.running import ROOT, ran, ran_module
 from .lib.tally import compare, tally
 
 ROOMS = ["author", "bench", "gate", "pmars", "release"]
-# The end of a module that can be run.
-MAIN = '\nif __name__ == "__main__":\n'
-# The steps of the gate that take no program, and the other modules that are only asked for help.
-OTHER_STEPS = ["gate.edits_trials", "gate.runners", "gate.refuse.growth"]
-HELPED = ["gate.gate", "gate.answers", EDITS, "gate.edits_trials", "gate.runners", "release.dist",
-          "release.manual"]
+# The end of a module that can be run, and a line of one that takes a program alone.
+MAIN, TAKES_PROGRAM = '\nif __name__ == "__main__":\n', "import program_word\n"
 # The modules of gate that are no step after the proofs.
 NO_STEPS = {"gate.gate", "gate.answers", EDITS}
-# The others, which take a program as their last word, by the command that builds it.
+# The other modules that take a program, as their last word, by the command that builds it.
 REFUSED = {
-    "make build": [*(step for step in STEPS if step not in OTHER_STEPS),
-                   "author.tests.own_folders", "bench.measure --program",
-                   "bench.loop_place --program", "bench.limit --pmars=none --program",
-                   "bench.searches none --program", "bench.races --results=none --program",
-                   "bench.naive 1 1 none none --program"],
+    "make build": ["author.tests.run", "author.tests.own_folders", "gate.play_cases",
+                   "release.manual none", "bench.measure --program", "bench.loop_place --program",
+                   "bench.limit --pmars=none --program", "bench.searches none --program",
+                   "bench.races --results=none --program", "bench.naive 1 1 none none --program"],
     "make pmars": ["pmars.compare", "bench.measure --pmars", "bench.random_pairs --pmars",
                    "bench.races --results=none --pmars"],
     "rt test": ["gate.refuse.growth"],
@@ -43,7 +38,10 @@ CASES = {'words = "asm $smal dat.red"': "no words for `$smal`\n",
          "status = 0": "`words` is missing\n",
          'words = "asm dat.red"\nstate = 1': "unknown key `state`\n",
          'words = "asm dat.red"\nstatus = "0"': "`status` is of type str, not int\n",
-         'words = "asm dat.red"\nreport = ["1"]': "`report` has six values, in place of `out`\n"}
+         'words = "asm dat.red"\nreport = ["1"]': "`report` has six values, in place of `out`\n",
+         'words = "asm dat.red"\nvalues."a b" = [["0"]]':
+             "a (1: '0'): not a text for each of `a b`\n",
+         '[files]\n"dat.red" = "DAT 1"': "gate/inputs.toml has `dat.red`, too\n"}
 
 
 def failing():
@@ -65,8 +63,8 @@ def left_out():
     """Has trials counted of which one is left out, without CWTUNE_ALL and with it."""
     for value, expected in [("", (0, "left out: b: no x\n1 passed, 0 failed\n")),
                             ("1", (1, "b: left out\nleft out: b: no x\n1 passed, 1 failed\n"))]:
-        came = ran([sys.executable, "-c", TALLY], CWTUNE_ALL=value)
-        yield compare(f"a trial that is left out, {value!r}", (*expected, ""), came)
+        actual = ran([sys.executable, "-c", TALLY], CWTUNE_ALL=value)
+        yield compare(f"a trial that is left out, {value!r}", (*expected, ""), actual)
 
 
 def played(text):
@@ -74,16 +72,16 @@ def played(text):
     case's file is left out of what is said."""
     with tempfile.TemporaryDirectory() as folder:
         path = pathlib.Path(folder, "a.toml")
-        path.write_text(f'[[case]]\nname = "it"\n{text}\n')
+        path.write_text(f'[[case]]\nname = "a"\n{text}\n')
         status, out, err = ran_module("gate.play_cases", FAILING, path)
-        return status, out, err.replace(f"refused: {path}: it: ", "")
+        return status, out, err.removeprefix(f"refused: {path}: ").removeprefix("a: ")
 
 
 def refused_listing():
     """Reads a listing that `cwtune asm` refuses. Returns what is wrong, in a list."""
     with tempfile.TemporaryDirectory() as folder:
         try:
-            return [f"came {Programs(FAILING, '/bin/echo', folder).listing('')!r}"]
+            return [f"got {Programs(FAILING, '/bin/echo', folder).listing('')!r}"]
         except Fault:
             return []
 
@@ -98,8 +96,6 @@ def modules_of(rooms, text=""):
 def listed():
     """Compares the lists of modules with the files that are there."""
     run_in_gate = modules_of(["gate"], MAIN)
-    here = {words.split()[0] for words in itertools.chain(HELPED, *REFUSED.values())}
-    yield same("gate.runners", modules_of(ROOMS, MAIN), here)
     steps = {words.split()[0] for words in STEPS if words.startswith("gate.")}
     yield same("gate.gate", run_in_gate - NO_STEPS, steps)
     first = {f"gate.{name}" for name in re.findall("(?m)^([a-z_.]+)(?:  .*)?$", gate.__doc__)}
@@ -121,17 +117,18 @@ def trials():
         status, out, _ = ran_module(module, "--help")
         yield compare(f"{module} --help", (0, f"usage: python3 -m {module}"), (
             status, out.partition(" [")[0]))
+    status, _, err = ran_module("gate.cuts", "none", "x")
     yield compare("a word too many", (2, "gate.cuts: error: unrecognized arguments: x\n"), (
-        (came := ran_module("gate.cuts", "none", "x"))[0], came[2].rpartition("python3 -m ")[2]))
+        status, err.rpartition("python3 -m ")[2]))
     yield compare("the tables of classes", (0, "", ""),
                   ran([sys.executable, "crates/mars_core/classes.py", "--check"]))
     yield compare("pmars.sh takes no options", (2, "", "use: pmars/pmars.sh [FOLDER]\n"),
                   ran(["sh", "pmars/pmars.sh", "--help"]))
-    for command, modules in REFUSED.items():
-        for module in modules:
-            said = f"error: no program none (`{command}` builds one)\n"
-            yield compare(f"{module} none", (2, "", said),
-                          ran_module(*module.split(), "none"))
+    refused = [("make build", module) for module in sorted(modules_of(ROOMS, TAKES_PROGRAM))]
+    refused += [(command, module) for command, modules in REFUSED.items() for module in modules]
+    for command, module in refused:
+        said = f"error: no program none (`{command}` builds one)\n"
+        yield compare(f"{module} none", (2, "", said), ran_module(*module.split(), "none"))
     yield from failing()
 
 

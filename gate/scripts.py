@@ -7,9 +7,8 @@ from author.lib.words import program_word
 from .lib import inputs
 from .lib.inputs import RULES
 from .lib.play import in_folder
-from .lib.running import ROOT, ran
+from .lib.running import ROOT, ran, take_interrupts
 from .lib.tally import compare, tally
-from .pipes import take_interrupts
 
 EXAMPLES = ROOT / "examples"
 DEMO = ["sh", EXAMPLES / "demo.sh"]
@@ -44,7 +43,7 @@ REFUSED = (1, "", "refused: Template: a range line is malformed\n")
 def programs(program):
     """Gives the script of `make demo` a program, one that does not exist, and a wrong one."""
     status, out, err = ran([*DEMO, program])
-    yield "demo.sh PROGRAM", [] if status == 0 else [f"came {out}{err}"]
+    yield "demo.sh PROGRAM", [] if status == 0 else [f"got {out}{err}"]
     yield compare("demo.sh none", (1, "", "demo.sh: no program none\n"),
                   ran([*DEMO, "none"]))
     status, out, _ = ran([*DEMO, "/bin/true"])
@@ -80,22 +79,22 @@ def searches(program):
         options = [*RULES, f"--cache={cache}"]
         with in_folder(program, FILES) as place:
             tuned = place.run(["tune", *options, template, "both.csv", "CERT", *OPPONENTS])
-            came = ran([*CERTIFY, "--like-tune", "--report=REPORT", *options, program, template,
-                        "both.csv", *OPPONENTS], place.folder)
-            wanted = 0, tuned.files.get("CERT", b"").decode(), "", tuned.out
-            yield compare(f"certify.py --like-tune --cache={cache}: {template}", wanted,
-                          (*came, place.read("REPORT")))
+            actual = ran([*CERTIFY, "--like-tune", "--report=REPORT", *options, program, template,
+                          "both.csv", *OPPONENTS], place.folder)
+            expected = 0, tuned.files.get("CERT", b"").decode(), "", tuned.out
+            yield compare(f"certify.py --like-tune --cache={cache}: {template}", expected,
+                          (*actual, place.read("REPORT")))
 
 
 def checks(program):
     """Has the program and certify.py check certificates."""
     for (old, new), line in CHECKED.items():
         with in_folder(program, {**FILES, "CERT": CERT.replace(old, new, 1)}) as place:
-            wanted = int(line.startswith("rejected")), f"{line}\n", ""
+            expected = int(line.startswith("rejected")), f"{line}\n", ""
             words = [*RULES, "imps.red", "both.csv"]
-            yield compare(f"check: {line}", wanted,
+            yield compare(f"check: {line}", expected,
                           ran([program, "check", *words, "CERT", *OPPONENTS], place.folder))
-            yield compare(f"certify.py --check: {line}", wanted,
+            yield compare(f"certify.py --check: {line}", expected,
                           ran([*CERTIFY, "--check=CERT", program, *words, *OPPONENTS],
                               place.folder))
 

@@ -1,6 +1,6 @@
 """Checks certificates, whole ones and damaged ones, at once and in shares.
 
-All shares of one K have to accept a certificate exactly if the whole check does, with its best
+All shares of one count have to accept a certificate exactly if the whole check does, with its best
 setting and total, and their rejections, put together, have to give its line. Each kind of damage is
 done to each row of the certificates of templates of at most six settings.
 """
@@ -14,7 +14,7 @@ from .lib.play import in_folder, play
 from .lib.running import side_by_side
 from .lib.tally import compare, tally
 
-SHARES = [1, 2, 3, 7]
+SHARE_COUNTS = [1, 2, 3, 7]
 # Templates with rows of all kinds: refused ones, and ones that share a warrior.
 TEMPLATES = {
     "half.red": inputs.FILES["half.red"],
@@ -70,20 +70,20 @@ def of_refused(setting, rest, count):
 
 def of_same(setting, other, count):
     return [f"cap,{setting},-", f"refused,{setting},-", f"same,{setting},{setting}",
-            f"same,{setting},{count}", *(f"same,{setting},{u}" for u in range(count))]
+            f"same,{setting},{count}", *(f"same,{setting},{twin}" for twin in range(count))]
 
 
 def of_cap(setting, listing, count):
     fights = [] if listing == "-" else listing.split(" ")
     yield f"refused,{setting},-"
-    yield from (f"same,{setting},{u}" for u in range(count))
+    yield from (f"same,{setting},{twin}" for twin in range(count))
     yield f"cap,{setting},-"
-    for k, fight in enumerate(fights):
-        index, points = fight.split(":")
-        others = [[f"{index}:{other}"] for other in (0, 1, 3)]
-        others += [[], [fight, fight], [f"{index}:2"], [f"{int(index) + 9}:{points}"]]
+    for index, item in enumerate(fights):
+        fight, points = item.split(":")
+        others = [[f"{fight}:{other}"] for other in (0, 1, 3)]
+        others += [[], [item, item], [f"{fight}:2"], [f"{int(fight) + 9}:{points}"]]
         for other in others:
-            yield f"cap,{setting},{' '.join(fights[:k] + other + fights[k + 1:]) or '-'}"
+            yield f"cap,{setting},{' '.join(fights[:index] + other + fights[index + 1:]) or '-'}"
     if len(fights) > 1:
         yield f"cap,{setting},{' '.join(reversed(fights))}"
 
@@ -98,13 +98,13 @@ def line_of(place, *words):
     return job.communicate()[0].decode(), job.returncode
 
 
-def in_shares(place, words, shares):
+def in_shares(place, words, share_count):
     """Returns the line and the status of a check in shares, as `cwtune-spread` puts them together,
     or what a share printed in place of a verdict."""
     lines = []
-    for number in range(1, shares + 1):
-        line, status = line_of(place, f"--share={number}/{shares}", *words)
-        if not is_verdict(line, status, number, shares):
+    for number in range(1, share_count + 1):
+        line, status = line_of(place, f"--share={number}/{share_count}", *words)
+        if not is_verdict(line, status, number, share_count):
             return line, status
         lines.append(line)
     line = verdict_of(lines, place.folder / "CERT")
@@ -115,10 +115,11 @@ def compared(program, words, records):
     """Checks a certificate at once and in shares. Returns the status of the first, and a trial."""
     text = "".join(f"{record}\n" for record in records)
     with in_folder(program, {**FILES, "CERT": text}) as place:
-        wanted = line_of(place, *words)
-        came = {k: in_shares(place, words, k) for k in [*SHARES, len(records) + 3]}
+        expected = line_of(place, *words)
+        actual = {share_count: in_shares(place, words, share_count)
+                  for share_count in [*SHARE_COUNTS, len(records) + 3]}
     name = f"{' '.join(words)}: {' '.join(records)}"
-    return wanted[1], compare(name, dict.fromkeys(came, wanted), came)
+    return expected[1], compare(name, dict.fromkeys(actual, expected), actual)
 
 
 def trials(program):

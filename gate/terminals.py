@@ -5,23 +5,19 @@ standard input is a terminal, the program says what it waits for. What a termina
 of a run is played by the cases `explanations` and `help-lines`. Expected values follow from
 `docs/COMMANDS.md`.
 """
-import os, pty, re, select, tempfile, time
+import re, select, tempfile, time
 
 from author.lib.endings import run_tool
 from author.lib.words import program_word
 
-from . import pipes
 from .lib import inputs
 from .lib.inputs import RULES
-from .lib.play import Place, end, report, shown
+from .lib.play import Place, end, open_terminal, report, shown, shown_next
 from .lib.tally import compare, tally
 
 FILES = {
-    **inputs.files("dat.red", "imp.red", "both.csv"),
-    **{name: pipes.FILES[name] for name in ("long.red", "far.csv")},
-    "two.red": ";@tune K 0 1 1 0\nMOV 0, K+1-K\n",
-    "none.red": ";@tune K 0 1 1 0\nMOV 0, K\nDAT 1/0\n",
-    "two.cert": "cwcert,1,2\nbest,0,4\ncap,0,0:3 1:1\nsame,1,0\n",
+    **inputs.files("dat.red", "imp.red", "two.red", "never.red", "slow.red", "both.csv", "far.csv",
+                   "two.cert"),
     "long.csv": "opponent,position,first\n" + "0,4000,c\n" * 10000,
     "four.csv": "opponent,position,first\n" + "0,4000,c\n" * 4,
     "forty.red": ";@tune K 0 39 1 0\nMOV 0, 1\nDAT K\n",
@@ -31,16 +27,16 @@ ONE = report(1, 1, 0, "K=1", "4 of 6", "2 of 2")
 CERT = FILES["two.cert"]
 PART = "cwcert,1,1\nbest,0,4\ncap,0,0:3 1:1\n"
 BEGUN = "0% 0 of 2 settings, 0 fights"
-LONG_BEGUN = b"0% 0 of 800000 settings, 0 fights"
+SLOW_BEGUN = b"0% 0 of 800000 settings, 0 fights"
 PROGRESS = rb"\r\x1b\[\?7l([^\r\n]*)\x1b\[K\x1b\[\?7h"
 AT_TERMINAL = f"\r\x1b[?7l{BEGUN}\x1b[K\x1b[?7h\r\x1b[K"
-LINE = rb"\d+% \d+ of 800000 settings, [1-9]\d* fights, \d+ a second, best \d+ total \d" \
-       rb"( \w+=-?\d+)+, START \d, \d+ (s|min|h) left"
+LINE = (rb"\d+% \d+ of 800000 settings, [1-9]\d* fights, \d+ a second, best \d+ total \d"
+        rb"( \w+=-?\d+)+, START \d, \d+ (s|min|h) left")
 MEANWHILE = rb"0% 0 of 1 settings, [1-9]\d* fights, \d+ a second"
-STEADY = rb"(\d+)% (\d+) of 40 settings, (\d+) fights, (\d+) a second, best 0 total \d+ " \
-         rb"K=0, START \d+, (\d+) s left"
+STEADY = (rb"(\d+)% (\d+) of 40 settings, (\d+) fights, (\d+) a second, best 0 total \d+ "
+          rb"K=0, START \d+, (\d+) s left")
 CHECK = ["check", *RULES, "two.red", "both.csv", "two.cert", "dat.red", "imp.red"]
-SLOW = ["long.red", "far.csv", "CERT", "imp.red"]
+SLOW = ["slow.red", "far.csv", "CERT", "imp.red"]
 
 
 def tune(template, *options):
@@ -49,11 +45,11 @@ def tune(template, *options):
 
 def shown_whole(place, words):
     """Runs with a terminal as standard output, too. Returns the status and what was shown."""
-    screen, program_end = pty.openpty()
     before = place.texts()
-    process = place.start(words, stdout=program_end, stderr=program_end)
-    os.close(program_end)
-    status, text = process.wait(), shown(screen)
+    with open_terminal() as (screen, program_end):
+        process = place.start(words, stdout=program_end, stderr=program_end)
+        program_end.close()
+        text, status = shown(screen), process.wait()
     place.put_back(before, place.texts().keys() - before.keys())
     return status, text
 
@@ -63,48 +59,39 @@ def progress(place):
     tuned, accepted = end(0, REPORT, CERT=CERT), end(0, "accepted best 0 total 4\n")
     for name, words, expected in [("a tuning", tune("two.red"), tuned),
                                   ("a check", CHECK, accepted)]:
-        told = expected._replace(err=AT_TERMINAL.encode())
-        yield f"the progress of {name}", told, place.run(words, terminal=True)
+        at_terminal = expected._replace(err=AT_TERMINAL.encode())
+        yield f"the progress of {name}", at_terminal, place.run(words, terminal=True)
         yield f"the progress of {name} is cleared before it prints", (
-            0, told.err + expected.out), shown_whole(place, words)
+            0, at_terminal.err + expected.out), shown_whole(place, words)
         words = [*words, "--progress"]
-        yield f"--progress of {name} at a terminal", told, place.run(words, terminal=True)
+        yield f"--progress of {name} at a terminal", at_terminal, place.run(words, terminal=True)
         line = expected._replace(err=f"{BEGUN}\n".encode())
         yield f"--progress of {name}", line, place.run(words)
         yield f"no progress of {name} on a pipe", expected, place.run(words[:-1])
-    came = place.run(tune("two.red", "--part=2/2", "--progress"))
-    yield "--progress of a part", end(0, ONE, "0% 0 of 1 settings, 0 fights\n", CERT=PART), came
-    came = place.run(tune("none.red"), terminal=True)
-    cleared = came.err.startswith(AT_TERMINAL.encode() + b"refused: NoCandidate\n")
-    yield "the progress is cleared before a refusal", True, cleared or came
+    actual = place.run(tune("two.red", "--part=2/2", "--progress"))
+    yield "--progress of a part", end(0, ONE, "0% 0 of 1 settings, 0 fights\n", CERT=PART), actual
+    actual = place.run(tune("never.red"), terminal=True)
+    cleared = actual.err.startswith(AT_TERMINAL.encode() + b"refused: NoCandidate\n")
+    yield "the progress is cleared before a refusal", True, cleared or actual
 
 
 def seen_within(place, words, seconds):
     """Runs for some seconds with a terminal as standard error. Returns the progress lines, and
     after how many seconds the first came."""
-    terminal, program_end = pty.openpty()
-    process = place.start(words, stderr=program_end)
-    os.close(program_end)
-    began, first, text = time.monotonic(), None, b""
-    while (left := began + seconds - time.monotonic()) > 0:
-        if select.select([terminal], [], [], left)[0]:
-            piece = piece_of(terminal)
-            if not piece:
-                break
-            text += piece
-            first = first or time.monotonic() - began
-    process.kill()
-    process.communicate()
-    os.close(terminal)
+    with open_terminal() as (screen, program_end):
+        process = place.start(words, stderr=program_end)
+        program_end.close()
+        began, first, text = time.monotonic(), None, b""
+        while (left := began + seconds - time.monotonic()) > 0:
+            if select.select([screen], [], [], left)[0]:
+                piece = shown_next(screen)
+                if not piece:
+                    break
+                text += piece
+                first = first or time.monotonic() - began
+        process.kill()
+        process.communicate()
     return re.findall(PROGRESS, text), first
-
-
-def piece_of(terminal):
-    """Returns what a terminal shows next, or nothing once the program has ended."""
-    try:
-        return os.read(terminal, 4096)
-    except OSError:
-        return b""
 
 
 def long_tunings(place):
@@ -112,7 +99,7 @@ def long_tunings(place):
     lines, first = seen_within(place, ["tune", *SLOW], 3.2)
     yield "two lines a second at most", True, 4 <= len(lines) <= 8 or lines
     wrong = [line for line in lines[1:] if not re.fullmatch(LINE, line)]
-    yield "what the lines say", ([], [LONG_BEGUN]), (wrong, lines[:1])
+    yield "what the lines say", ([], [SLOW_BEGUN]), (wrong, lines[:1])
     # There is half a second or more from a line to the next.
     wrong = [line for index, line in enumerate(lines[1:], 1)
              if not index / 2 <= seconds_of(line) < 10]
@@ -121,8 +108,8 @@ def long_tunings(place):
     process = place.start(["tune", "--progress", *SLOW])
     time.sleep(2.2)
     process.kill()
-    came = process.communicate()[1]
-    yield "--progress prints no second line within two seconds", LONG_BEGUN + b"\n", came
+    actual = process.communicate()[1]
+    yield "--progress prints no second line within two seconds", SLOW_BEGUN + b"\n", actual
 
 
 def long_settings(place):
@@ -155,21 +142,19 @@ def agrees(line):
     if not found:
         return b" left" not in line
     percent, done, fights, rate, left = map(int, found.groups())
-    wanted = fights / max(rate, 1) * (40 - done) / done
-    return percent == 100 * done // 40 and abs(left - wanted) <= 1 + wanted / 10
+    expected = fights / max(rate, 1) * (40 - done) / done
+    return percent == 100 * done // 40 and abs(left - expected) <= 1 + expected / 10
 
 
 def invitations(place):
     """Tries whether a terminal is told what is read from it, if anything is."""
-    terminal, program_end = pty.openpty()
-    other = place.run(["asm", "imp.red"], terminal=True, stdin=program_end)
-    yield "a terminal that is not read", end(0, "ORG 0\nMOV.I $0, $1\n"), other
-    os.write(terminal, b"\x04")
-    came = place.run([], terminal=True, stdin=program_end)
-    os.close(program_end)
-    os.close(terminal)
+    with open_terminal() as (screen, program_end):
+        other = place.run(["asm", "imp.red"], terminal=True, stdin=program_end)
+        yield "a terminal that is not read", end(0, "ORG 0\nMOV.I $0, $1\n"), other
+        screen.write(b"\x04")
+        actual = place.run([], terminal=True, stdin=program_end)
     said = "reading a fight text, which Ctrl-D ends; `cwtune --help` lists the commands\n"
-    yield "a fight text from a terminal", end(1, err=f"{said}refused: FightText line 1\n"), came
+    yield "a fight text from a terminal", end(1, err=f"{said}refused: FightText line 1\n"), actual
 
 
 def main():

@@ -1,11 +1,11 @@
 """Plays `cwtune-spread`: kills it and starts it again, and gives it what it has to refuse."""
-import os, pathlib, pty, re, signal, subprocess, threading, time
+import os, pathlib, re, signal, subprocess, threading, time
 from unittest import mock
 
 from author.lib import tuning_files
 from gate.lib import inputs
 from gate.lib.inputs import RULES
-from gate.lib.play import shown
+from gate.lib.play import open_terminal, shown
 
 from .spread_trial import (DECOY, OPPONENTS, RANKED, SCHEDULE, SMALL, TWELVE, SpreadTrial,
                            left_over, without_fights)
@@ -255,9 +255,9 @@ case $1 in tune) {self.program} "$@" | head -c -5;; *) {self.program} "$@";; esa
 
     def screen_of(self, words):
         """Returns what `cwtune-spread` shows on a terminal."""
-        screen, terminal = pty.openpty()
-        with self.started("cwtune-spread", *words, stderr=terminal) as job:
-            os.close(terminal)
+        with (open_terminal() as (screen, program_end),
+              self.started("cwtune-spread", *words, stderr=program_end) as job):
+            program_end.close()
             alarm = threading.Timer(SECONDS, job.kill)
             alarm.start()
             try:

@@ -1,5 +1,5 @@
 """Gives the commands names, texts and files that a stranger chose, and looks what they leave."""
-import ast, contextlib, fcntl, itertools, os, pathlib, pty, re, signal, struct, subprocess, termios
+import ast, contextlib, fcntl, itertools, os, pathlib, re, signal, struct, subprocess, termios
 import time
 from unittest import mock
 
@@ -249,12 +249,12 @@ class Memory(Trial):
         completed = python(READ, cwd=self.folder)
         self.same("how far it is", (0, "rows of big.cert: 1024 of 10000"), (
             completed.returncode, completed.stderr.splitlines()[0]))
-        screen, terminal = pty.openpty()
-        fcntl.ioctl(terminal, termios.TIOCSWINSZ, struct.pack("4H", 9, 20, 0, 0))
-        python(READ, cwd=self.folder, capture_output=False, stdout=subprocess.DEVNULL,
-               stderr=terminal)
-        os.close(terminal)
-        lines = play.shown(screen).decode().split("\r")
+        with play.open_terminal() as (screen, program_end):
+            fcntl.ioctl(program_end, termios.TIOCSWINSZ, struct.pack("4H", 9, 20, 0, 0))
+            python(READ, cwd=self.folder, capture_output=False, stdout=subprocess.DEVNULL,
+                   stderr=program_end)
+            program_end.close()
+            lines = play.shown(screen).decode().split("\r")
         self.same("a terminal's line is cut to its width, and cleared", (
             "rows of big.cert: 1\x1b[K", "\x1b[K"), (lines[1], lines[-1]))
 

@@ -35,13 +35,14 @@ def text_of(words, folder, version):
     hill = HILLS[options.get("hill", "94nop")]._asdict()
     rules = [options.get(name, number) for name, number in hill.items()]
     method = "all" if "all" in options else f"cache {options.get('cache', 4096)}"
-    digest = lambda name: digest_of(pathlib.Path(folder, name).read_bytes())
     files = [("template", template), ("schedule", schedule)]
     files += [("opponent", name) for name in opponents]
     lines = ["cwtune inputs 1", f"program {version}", f"rules {' '.join(map(str, rules))}",
-             f"part {options.get('part', '1/1')}", f"method {method}", f"cert {digest(cert)}",
+             f"part {options.get('part', '1/1')}", f"method {method}",
+             f"cert {digest_of(pathlib.Path(folder, cert).read_bytes())}",
              f"folder {os.path.realpath(folder)}"]
-    lines += [f"{word} {digest(name)} {name}" for word, name in files]
+    lines += [f"{word} {digest_of(pathlib.Path(folder, name).read_bytes())} {name}"
+              for word, name in files]
     return "".join(f"{line}\n" for line in lines).encode()
 
 

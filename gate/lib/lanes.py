@@ -12,8 +12,8 @@ PROVED = re.compile(r"rt: (\w+) (?:proved$|is kept: )")
 
 def free_memory():
     """Returns the free memory in kB."""
-    with open("/proc/meminfo") as it:
-        return next(int(line.split()[1]) for line in it if line.startswith("MemAvailable"))
+    with open("/proc/meminfo") as lines:
+        return next(int(line.split()[1]) for line in lines if line.startswith("MemAvailable"))
 
 
 def lanes():
@@ -38,16 +38,16 @@ class Proofs:
         """Returns whether the crate's rounds may begin. None does before `rt ci` has proved a
         crate: it plans by the memory that is free when it starts."""
         below = crate.made.below()
-        unbuilt = [it.name for it in below if not os.path.isdir(it.rlib)]
+        unbuilt = [made.name for made in below if not os.path.isdir(made.rlib)]
         if self.are_over and unbuilt:
             raise Fault(f"{unbuilt[0]} is not built (`make build` builds it)", 2)
-        return self.are_over or self.names and self.names.issuperset(it.name for it in below)
+        return self.are_over or self.names and self.names.issuperset(made.name for made in below)
 
 
 def has_room(begun):
     """Returns whether a round has memory beside `rt ci`, which may still take as much, and beside
     the rounds that were begun at these times."""
-    young = sum(time.monotonic() - it < SETTLED for it in begun)
+    young = sum(time.monotonic() - at < SETTLED for at in begun)
     return free_memory() > (2 + young) * ROOM
 
 
@@ -60,7 +60,7 @@ def in_lanes(rounds, judge, jobs, proofs):
         while left or running:
             if not reading and not proofs.are_over:
                 reading = pool.submit(proofs.read)
-            allowed = [it for it in left if proofs.allow(it[0])]
+            allowed = [args for args in left if proofs.allow(args[0])]
             if allowed and len(running) < jobs and (proofs.are_over or has_room(running.values())):
                 left.remove(allowed[0])
                 running[pool.submit(judge, *allowed[0])] = time.monotonic()
@@ -68,9 +68,9 @@ def in_lanes(rounds, judge, jobs, proofs):
             done, _ = concurrent.futures.wait(
                 [*running, *([reading] if reading else [])], SETTLED,
                 concurrent.futures.FIRST_COMPLETED)
-            for it in done:
-                if it == reading:
-                    reading = it.result()
+            for future in done:
+                if future == reading:
+                    reading = future.result()
                 else:
-                    del running[it]
-                    yield it.result()
+                    del running[future]
+                    yield future.result()

@@ -1,5 +1,5 @@
 """Runs the program in a folder, and says how the run ended and which files it changed."""
-import contextlib, os, pathlib, pty, re, subprocess, tempfile
+import contextlib, pathlib, pty, re, subprocess, tempfile
 from typing import NamedTuple
 
 from . import cert_inputs
@@ -79,20 +79,21 @@ class Place:
         before = self.texts()
         if text is not None:
             streams["stdin"] = subprocess.PIPE
-        if terminal:
-            screen, streams["stderr"] = pty.openpty()
-        status, out, err = ended(self.start(words, **streams), as_bytes(text), seconds)
-        if terminal:
-            os.close(streams["stderr"])
-            err = shown(screen)
+        with contextlib.ExitStack() as stack:
+            if terminal:
+                screen, streams["stderr"] = stack.enter_context(open_terminal())
+            status, out, err = ended(self.start(words, **streams), as_bytes(text), seconds)
+            if terminal:
+                streams["stderr"].close()
+                err = shown(screen)
         after = self.texts()
         changed = {name: after.get(name) for name in {**before, **after}
                    if before.get(name) != after.get(name)}
-        told = {name: text for name, text in changed.items()
-                if not self.is_right_inputs(name, text)}
+        reported = {name: text for name, text in changed.items()
+                    if not self.is_right_inputs(name, text)}
         if not keep:
             self.put_back(before, changed)
-        return End(status, out, err, told)
+        return End(status, out, err, reported)
 
     def is_right_inputs(self, name, text):
         """Returns whether a file is a right CERT.inputs, beside a certificate."""
@@ -125,16 +126,25 @@ def ended(process, text=None, seconds=SECONDS):
         return "no end", b"", b""
 
 
-def shown(screen):
-    """Returns what a terminal shows until nobody writes to it, and closes it."""
-    text = b""
+@contextlib.contextmanager
+def open_terminal():
+    """Gives a block a terminal: the screen, and the end for a program, which the block closes once
+    the program has it, so that the screen ends with the program."""
+    with contextlib.ExitStack() as stack:
+        yield [stack.enter_context(open(end, "r+b", buffering=0)) for end in pty.openpty()]
+
+
+def shown_next(screen):
+    """Returns what a terminal shows next, or nothing once nobody writes to it."""
     try:
-        while piece := os.read(screen, 65536):
-            text += piece
+        return screen.read(65536)
     except OSError:  # the other end is closed
-        pass
-    os.close(screen)
-    return text.replace(b"\r\n", b"\n")
+        return b""
+
+
+def shown(screen):
+    """Returns what a terminal shows until nobody writes to it."""
+    return b"".join(iter(lambda: shown_next(screen), b"")).replace(b"\r\n", b"\n")
 
 
 def text_of(path):

@@ -38,14 +38,14 @@ class Table(NamedTuple):
         return Table(self.fights, self.points[first:end], self.warriors[first:end],
                      self.constants[first:end], start)
 
-    def total(self, v):
-        return cap_of(self.points[v], self.fights)
+    def total(self, setting):
+        return cap_of(self.points[setting], self.fights)
 
     def ranked(self, floor=0):
         """Returns the settings that total `floor` or more, the greatest total first."""
-        own = [v for v, points in enumerate(self.points)
-               if points is not None and self.total(v) >= floor]
-        return sorted(own, key=lambda v: (-self.total(v), v))
+        own = [setting for setting, points in enumerate(self.points)
+               if points is not None and self.total(setting) >= floor]
+        return sorted(own, key=lambda setting: (-self.total(setting), setting))
 
 
 class Aim(NamedTuple):
@@ -57,60 +57,61 @@ class Aim(NamedTuple):
 
 
 class Search:
-    """A search of a table. `rows[v]` is ("refused", None), ("same", twin) or ("cap", points)."""
+    """A search of a table. Its `rows` are ("refused", None), ("same", twin) or ("cap", points)."""
 
     def __init__(self, table, aim):
         self.table, self.aim, self.played = table, aim, 0
         # Pairs of minus the total and the setting, so that they sort as the ranking does.
         self.ranking, self.rows, self.copied = [], [None] * len(table.points), None
         self.cache, self.order = collections.OrderedDict(), list(range(len(table.fights)))
-        for v in sorted(range(len(table.points)), key=lambda v: (v != table.start, v)):
-            self.visit(v)
+        for setting in sorted(range(len(table.points)), key=lambda each: each != table.start):
+            self.visit(setting)
 
-    def contends(self, cap, v, floor):
+    def contends(self, cap, setting, floor):
         last = self.ranking[self.aim.keep - 1:]
-        return cap >= floor and (not last or (-cap, v) < last[0])
+        return cap >= floor and (not last or (-cap, setting) < last[0])
 
-    def visit(self, v):
-        warrior = self.table.warriors[v]
+    def visit(self, setting):
+        warrior = self.table.warriors[setting]
         if warrior is None:
-            self.rows[v] = "refused", None
+            self.rows[setting] = "refused", None
         elif warrior in self.cache:
             self.cache.move_to_end(warrior)
-            self.share(v, self.cache[warrior])
+            self.share(setting, self.cache[warrior])
         else:
-            self.fight(v)
-            self.cache[warrior] = v
+            self.fight(setting)
+            self.cache[warrior] = setting
             if len(self.cache) > self.aim.capacity:
                 self.cache.popitem(last=False)
 
-    def fight(self, v):
+    def fight(self, setting):
         """Plays the fights of a setting until its cap does not contend. START is not dropped."""
-        points, made, is_start = self.table.points[v], {}, v == self.table.start
+        points, listing, is_start = self.table.points[setting], {}, setting == self.table.start
         floor = 0 if is_start else self.aim.floor
-        for i in self.order:
-            if self.aim.capacity and not self.contends(cap_of(made, self.table.fights), v, floor):
+        for fight in self.order:
+            cap = cap_of(listing, self.table.fights)
+            if self.aim.capacity and not self.contends(cap, setting, floor):
                 break
-            made[i] = points[i]
-        self.played += len(made)
-        self.rows[v] = "cap", made
+            listing[fight] = points[fight]
+        self.played += len(listing)
+        self.rows[setting] = "cap", listing
         if is_start:
-            self.order.sort(key=lambda i: (made[i], i))
-        self.rank(v, made)
+            self.order.sort(key=lambda fight: (listing[fight], fight))
+        self.rank(setting, listing)
 
-    def share(self, v, u):
-        """Gives setting v the fights of setting u, which has the same warrior."""
-        leads = self.ranking[:1] == [(-cap_of(self.rows[u][1], self.table.fights), u)]
-        made = self.rows[u][1]
-        self.rows[v] = "same", u
-        if u == self.table.start and leads and v < u:
-            self.rows[v], self.copied = self.rows[u], v
-        self.rank(v, made)
+    def share(self, setting, twin):
+        """Gives a setting the fights of its twin, which has the same warrior."""
+        listing = self.rows[twin][1]
+        leads = self.ranking[:1] == [(-cap_of(listing, self.table.fights), twin)]
+        self.rows[setting] = "same", twin
+        if twin == self.table.start and leads and setting < twin:
+            self.rows[setting], self.copied = self.rows[twin], setting
+        self.rank(setting, listing)
 
-    def rank(self, v, made):
-        cap = cap_of(made, self.table.fights)
-        if self.contends(cap, v, self.aim.floor):
-            self.ranking = sorted([*self.ranking, (-cap, v)])[:self.aim.keep]
+    def rank(self, setting, listing):
+        cap = cap_of(listing, self.table.fights)
+        if self.contends(cap, setting, self.aim.floor):
+            self.ranking = sorted([*self.ranking, (-cap, setting)])[:self.aim.keep]
 
     def report(self):
         """Returns what the program prints, or None if no setting assembles."""
@@ -129,55 +130,57 @@ class Search:
     def rank_lines(self):
         """Returns the lines of the ranking, none if only the best setting is asked for."""
         shown = self.ranking if self.aim.keep > 1 else []
-        return "".join(rank_line(rank, v, -cap, self.table.constants[v])
-                       for rank, (cap, v) in enumerate(shown, 1))
+        return "".join(rank_line(rank, setting, -cap, self.table.constants[setting])
+                       for rank, (cap, setting) in enumerate(shown, 1))
 
     def certificate(self):
         version = 1 if all(fight.weight == 1 for fight in self.table.fights) else 2
         lines = [f"cwcert,{version},{len(self.rows)}",
                  f"best,{self.ranking[0][1]},{-self.ranking[0][0]}" if self.ranking
                  else f"none,-,{self.aim.floor}",
-                 *(row_line(v, row) for v, row in enumerate(self.rows))]
+                 *(row_line(setting, row) for setting, row in enumerate(self.rows))]
         return "".join(f"{line}\n" for line in lines)
 
 
-def rank_line(rank, v, total, constants):
+def rank_line(rank, setting, total, constants):
     said = "" if constants == "-" else f" {constants}"
-    return f"rank {rank} setting {v} total {total}{said}\n"
+    return f"rank {rank} setting {setting} total {total}{said}\n"
 
 
-def row_line(v, row):
+def row_line(setting, row):
     """Returns the record of a row. The fights rise."""
     kind, rest = row
     if kind == "refused":
-        return f"refused,{v},-"
+        return f"refused,{setting},-"
     if kind == "same":
-        return f"same,{v},{rest}"
-    return f"cap,{v},{' '.join(f'{i}:{made}' for i, made in sorted(rest.items())) or '-'}"
+        return f"same,{setting},{rest}"
+    listing = " ".join(f"{fight}:{points}" for fight, points in sorted(rest.items()))
+    return f"cap,{setting},{listing or '-'}"
 
 
-def listing(rows, v):
-    """Returns the points that are listed for setting v: by its row, or by the row that it names."""
-    kind, rest = rows[v]
+def listing_of(rows, setting):
+    """Returns the points that are listed for a setting: by its row, or by the row that it names."""
+    kind, rest = rows[setting]
     return rows[rest][1] if kind == "same" else rest
 
 
-def listed(rows, fights, floor=0):
+def ranking_of(rows, fights, floor=0):
     """Returns the ranking that rows list: of the settings whose fights are all listed, and that
     total `floor` or more, as pairs of minus the total and the setting."""
-    own = ((v, listing(rows, v)) for v in range(len(rows)))
-    totals = [(cap_of(made, fights), v) for v, made in own if made and len(made) == len(fights)]
-    return sorted((-total, v) for total, v in totals if total >= floor)
+    listings = [listing_of(rows, setting) for setting in range(len(rows))]
+    totals = [(cap_of(listing, fights), setting) for setting, listing in enumerate(listings)
+              if listing and len(listing) == len(fights)]
+    return sorted((-total, setting) for total, setting in totals if total >= floor)
 
 
 def first_too_high(rows, fights, keep, floor=0):
     """Returns the record of the first row in which fights are missing and whose cap contends, or
     None. A check looks at the cap rows first, then at the `same` rows."""
-    last, found = listed(rows, fights, floor)[keep - 1:keep], []
-    for v, (kind, _) in enumerate(rows):
-        made = listing(rows, v)
-        if made is not None and len(made) < len(fights):
-            cap = cap_of(made, fights)
-            if cap >= floor and (not last or (-cap, v) < last[0]):
-                found.append((kind == "same", v + 2))
+    last, found = ranking_of(rows, fights, floor)[keep - 1:keep], []
+    for setting, (kind, _) in enumerate(rows):
+        listing = listing_of(rows, setting)
+        if listing is not None and len(listing) < len(fights):
+            cap = cap_of(listing, fights)
+            if cap >= floor and (not last or (-cap, setting) < last[0]):
+                found.append((kind == "same", setting + 2))
     return min(found)[1] if found else None

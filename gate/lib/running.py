@@ -1,5 +1,5 @@
 """Runs commands and modules, and trials side by side."""
-import concurrent.futures, os, pathlib, subprocess, sys
+import concurrent.futures, os, pathlib, signal, subprocess, sys
 
 ROOT = pathlib.Path(__file__).resolve().parents[2]
 
@@ -8,6 +8,11 @@ def side_by_side(call, jobs):
     """Returns what a call returns for each job, in a list. All processors are used."""
     with concurrent.futures.ThreadPoolExecutor(os.cpu_count()) as pool:
         return list(pool.map(call, jobs))
+
+
+def take_interrupts():
+    """Lets a run be interrupted, also if this runs in the background of a script."""
+    signal.signal(signal.SIGINT, signal.SIG_DFL)
 
 
 def ran(words, folder=ROOT, **variables):

@@ -6,9 +6,9 @@ class LeftOut(Exception):
     """Why a trial is left out, as `no rsync`."""
 
 
-def compare(name, expected, came):
+def compare(name, expected, actual):
     """Returns a name, and what was wrong, in a list."""
-    return name, [] if came == expected else [f"expected {expected!r}, came {came!r}"[:2000]]
+    return name, [] if actual == expected else [f"expected {expected!r}, got {actual!r}"[:2000]]
 
 
 def tally(trials, before=""):

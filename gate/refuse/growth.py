@@ -52,7 +52,7 @@ def tests_of(program, module):
 def run(library, program, test, **variables):
     """Runs a test with the library and its variables. Returns its status and standard error."""
     status, out, err = ran([program, test], LD_PRELOAD=library,
-                           **{key: str(it) for key, it in variables.items()})
+                           **{name: str(value) for name, value in variables.items()})
     return status if status or out.endswith("test result: ok\n") else -1, err
 
 
@@ -64,14 +64,14 @@ def refuse_each_of(library, program, test):
 
 def refuse_all_of(library, program, test):
     """Refuses all requests of a test after its largest one. Returns 0, and what was wrong."""
-    came = [run(library, program, test), run(library, program, test, REFUSE_AFTER=LARGEST)]
-    return 0, [] if came == [PASSED, ENDED] else [f"came {came}"]
+    actual = [run(library, program, test), run(library, program, test, REFUSE_AFTER=LARGEST)]
+    return 0, [] if actual == [PASSED, ENDED] else [f"got {actual}"]
 
 
 def count_arenas_of(library, program, test):
     """Counts the large requests of a test. Returns 0, and what was wrong."""
-    came = run(library, program, test, REFUSE_COUNT=1, REFUSE_LEAST=LARGE)
-    return 0, [] if came == (0, "2\n") else [f"large requests: {came}"]
+    actual = run(library, program, test, REFUSE_COUNT=1, REFUSE_LEAST=LARGE)
+    return 0, [] if actual == (0, "2\n") else [f"large requests: {actual}"]
 
 
 TRIED = {"memory": refuse_each_of, "no_memory": refuse_all_of, "arenas": count_arenas_of}
@@ -87,12 +87,12 @@ def main():
              for name in tests_of(program, module)]
     with tempfile.TemporaryDirectory() as work:
         library = library_of("memory.c", work)
-        came = side_by_side(lambda test: test[0](library, *test[1:]), tests)
-    total = sum(requests for requests, _ in came)
+        results = side_by_side(lambda test: test[0](library, *test[1:]), tests)
+    total = sum(requests for requests, _ in results)
     tried = {program for _, program, _ in tests}
     trials = [(f"tests of {pathlib.Path(program).name}", [] if program in tried else ["none"])
               for program in programs]
-    trials += [(name, wrong) for (_, _, name), (_, wrong) in zip(tests, came)]
+    trials += [(name, wrong) for (_, _, name), (_, wrong) in zip(tests, results)]
     return tally(trials, f"{total} requests refused: ")
 
 

@@ -27,13 +27,13 @@ def refuse_each_of(program, library, words, text, expected):
 
 
 def main():
-    program, tried = program_word("gate.refuse.memory", __doc__), all_runs()
+    program, jobs = program_word("gate.refuse.memory", __doc__), all_runs()
     with tempfile.TemporaryDirectory() as work:
         library = library_of("memory.c", work)
-        came = side_by_side(lambda one: refuse_each_of(program, library, *one[1:]), tried)
+        results = side_by_side(lambda job: refuse_each_of(program, library, *job[1:]), jobs)
         again = list(once_each.trials(program, library))
-    total = sum(requests for requests, _ in came)
-    trials = [(name, wrong) for (name, *_), (_, wrong) in zip(tried, came)]
+    total = sum(requests for requests, _ in results)
+    trials = [(name, wrong) for (name, *_), (_, wrong) in zip(jobs, results)]
     return tally([*trials, *again], f"{total} requests refused: ")
 
 

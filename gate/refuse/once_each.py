@@ -37,15 +37,15 @@ LARGE = 30_000
 
 def requests(program, library, words, files, text="", least=0):
     """Returns the number of requests of at least `least` bytes."""
-    came = run(program, library, words, files, text, REFUSE_COUNT=1, REFUSE_LEAST=least)
-    return int(came.err.splitlines()[-1])
+    actual = run(program, library, words, files, text, REFUSE_COUNT=1, REFUSE_LEAST=least)
+    return int(actual.err.splitlines()[-1])
 
 
 def requests_of_end(program, library, words, files, status=0, least=0):
     """Returns the number of requests of a run, which has to end with `status`: it is run twice."""
-    came = run(program, library, words, files)
-    if came.status != status:
-        raise Fault(f"{' '.join(words)} ended with status {came.status}: {came.err}", 1)
+    actual = run(program, library, words, files)
+    if actual.status != status:
+        raise Fault(f"{' '.join(words)} ended with status {actual.status}: {actual.err}", 1)
     return requests(program, library, words, files, least=least)
 
 
@@ -78,7 +78,7 @@ def trials(program, library):
     alone = [requests(program, library, with_rules("asm a.red", RULES), {"a.red": before + IMP})
              for before in ("", LONG)]
     if alone[0] >= alone[1]:
-        yield "requests are seen", [f"came {alone}"]
+        yield "requests are seen", [f"got {alone}"]
         return
     for kind in KINDS:
         short, long = (one_more(program, library, kind, before) for before in ("", LONG))
@@ -86,11 +86,11 @@ def trials(program, library):
         times = (long - short) / (alone[1] - alone[0])
         yield f"one more: {kind}", [] if 0.5 < times < 1.5 else [f"costs {times} assemblies"]
     fight = with_rules("fight one.red one.red", RULES)
-    came = [requests(program, library, [word.replace("=20", cycles) for word in fight],
-                     {"one.red": IMP}) for cycles in ("=10000", "=40000")]
-    yield "turns take no memory", [] if came[0] == came[1] else [f"requests: {came}"]
+    counts = [requests(program, library, [word.replace("=20", cycles) for word in fight],
+                       {"one.red": IMP}) for cycles in ("=10000", "=40000")]
+    yield "turns take no memory", [] if counts[0] == counts[1] else [f"requests: {counts}"]
     for words in ARENAS:
-        came = [requests_of_end(program, library, with_rules(words, RULES),
-                                many(count, "", IMP, "same,{},0\n"), least=LARGE)
-                for count in (1, 60)]
-        yield f"arenas: {words}", [] if came == [2, 2] else [f"large requests: {came}"]
+        counts = [requests_of_end(program, library, with_rules(words, RULES),
+                                  many(count, "", IMP, "same,{},0\n"), least=LARGE)
+                  for count in (1, 60)]
+        yield f"arenas: {words}", [] if counts == [2, 2] else [f"large requests: {counts}"]

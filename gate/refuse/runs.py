@@ -95,30 +95,32 @@ def version():
 
 def all_runs():
     """Returns name, words, standard input and the end of each run."""
-    runs = [(name, [], text, wanted) for name, text, wanted in FIGHTS]
+    runs = [(name, [], text, expected) for name, text, expected in FIGHTS]
     settings = end(0, "vectors 3\nconstant K 3 1\n")
     runs.append(("settings step.red", ["settings", "step.red"], "", settings))
     runs.append(("--version", ["--version"], "", end(0, version())))
-    return runs + [(words, with_rules(words), "", wanted) for words, wanted in TEXTS + TUNINGS]
+    return runs + [(words, with_rules(words), "", expected)
+                   for words, expected in TEXTS + TUNINGS]
 
 
 def run(program, library, words, files, text="", **variables):
     """Runs with the library. Returns the end. `variables` are those that the library reads, as
     SHORT=1: a byte a step."""
-    env = {**os.environ, "LD_PRELOAD": library, **{key: str(it) for key, it in variables.items()}}
+    variables = {name: str(value) for name, value in variables.items()}
+    env = {**os.environ, "LD_PRELOAD": library, **variables}
     return play(program, words, files, text=text, env=env)
 
 
 def refuse_each(run, count, expected, refused):
     """Refuses each request of a run in turn: `run` takes a variable for the library, and `count`
     says how many requests there are. Returns that number, and what was wrong."""
-    came = run()
-    wrong = [] if came == expected else [f"nothing refused: expected {expected}, came {came}"]
-    ends = [run(REFUSE=number) for number in range(1, count() + 1)]
-    wrong += [f"request {number} refused: came {came}" for number, came in enumerate(ends, 1)
-              if came != expected and came not in refused]
-    wrong += ["no run ended out of memory"] * (not any(came in refused for came in ends))
-    return len(ends), wrong
+    actual = run()
+    wrong = [] if actual == expected else [f"nothing refused: expected {expected}, got {actual}"]
+    results = [run(REFUSE=number) for number in range(1, count() + 1)]
+    wrong += [f"request {number} refused: got {result}" for number, result in enumerate(results, 1)
+              if result != expected and result not in refused]
+    wrong += ["no run ended out of memory"] * (not any(result in refused for result in results))
+    return len(results), wrong
 
 
 def library_of(source, work):

@@ -12,14 +12,14 @@ from ..lib.play import end
 from ..lib.tally import compare, tally
 from .runs import FILES, TUNINGS, library_of, run, with_rules
 
-WORDS, WANTED = TUNINGS[0]
+WORDS, TUNED = TUNINGS[0]
 NAMED = "error: CERT is another word's file, too, and is not overwritten: CERT\n"
 
 
 def trials(program):
     with tempfile.TemporaryDirectory() as work:
         library = library_of("two_devices.c", work)
-        for name, variables, expected in [("two devices", {"DEVICES": 1}, WANTED),
+        for name, variables, expected in [("two devices", {"DEVICES": 1}, TUNED),
                                           ("one device", {}, end(2, err=NAMED))]:
             yield compare(name, expected,
                           run(program, library, with_rules(WORDS), FILES, **variables))

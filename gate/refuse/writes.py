@@ -8,7 +8,7 @@ standard output. CERT.inputs is written after the report; a step of it that fail
 how the run ends. Only a kill leaves an unfinished file. The last line says how many steps failed,
 too. Needs `cc` and a system with LD_PRELOAD.
 """
-import signal, tempfile
+import itertools, signal, tempfile
 
 from author.lib.endings import run_tool
 from author.lib.words import program_word
@@ -36,16 +36,16 @@ def length_of_inputs(program, words, text):
         return len(place.read("CERT.inputs") or b"")
 
 
-def expected_at(how, number, wanted):
-    """Returns how a run has to end whose step `number` fails."""
-    cert = wanted.files.get("CERT")
+def expected_at(how, number, normal):
+    """Returns how a run has to end whose step `number` fails, and whose end is else `normal`."""
+    cert = normal.files.get("CERT")
     first = steps_of(cert)
     if how == "NOTHING" and first - 1 <= number <= first:
-        return wanted
-    if number > first + len(wanted.out):
-        return wanted if how != "KILL" else end(-signal.SIGKILL, wanted.out, CERT=cert)
+        return normal
+    if number > first + len(normal.out):
+        return normal if how != "KILL" else end(-signal.SIGKILL, normal.out, CERT=cert)
     done = number if how == "KILL" else number - 1
-    out = wanted.out[: max(0, done - first)]
+    out = normal.out[: max(0, done - first)]
     left = {}
     if cert and done >= first:
         left = {"CERT": cert}
@@ -53,12 +53,12 @@ def expected_at(how, number, wanted):
         left = {BESIDE: cert[:done]}
     if how == "KILL":
         return end(-signal.SIGKILL, out, files=left)
-    return end(3, out, "failed: Write\n" + found(wanted) * (number <= first), left)
+    return end(3, out, "failed: Write\n" + found(normal) * (number <= first), left)
 
 
-def found(wanted):
+def found(normal):
     """Returns the line of the best setting of a tuning whose certificate cannot be written."""
-    lines = dict(line.split(" ", 1) for line in wanted.out.decode().splitlines())
+    lines = dict(line.split(" ", 1) for line in normal.out.decode().splitlines())
     constants = lines.get("constants", "-")
     return (f"found: best {lines.get('best')} total {lines.get('total', '').split(' ')[0]}"
             + f" {constants}" * (constants != "-") + "\n")
@@ -70,43 +70,41 @@ def some_of(first, last):
     return sorted({*steps[:3], *steps[::50], *steps[-5:]})
 
 
-def fail_each(program, library, words, text, wanted):
+def fail_each(program, library, words, text, normal):
     """Fails each step of a run in turn. Returns how many there were, and what was wrong."""
     wrong, count = [], 0
-    told = steps_of(wanted.files.get("CERT")) + len(wanted.out)
-    inputs = steps_of(b" " * length_of_inputs(program, words, text))
-    for files in [FILES, WITHOUT_CERT] if "CERT" in words else [FILES]:
-        for number in [*range(1, told + 1), *some_of(told + 1, told + inputs + 1)]:
-            for how in FAILURES:
-                expected = expected_at(how, number, wanted)
-                if number > told + inputs:
-                    expected = wanted
-                came = run(program, library, words, files, text, SHORT=1, **{how: number})
-                came.files.pop(BESIDE_INPUTS, None)
-                count += expected != wanted
-                if came != expected:
-                    wrong.append(f"{how} {number}: expected {expected}, came {came}")
+    printed = steps_of(normal.files.get("CERT")) + len(normal.out)
+    last = printed + steps_of(b" " * length_of_inputs(program, words, text))
+    beginnings = [FILES, WITHOUT_CERT] if "CERT" in words else [FILES]
+    steps = [*range(1, printed + 1), *some_of(printed + 1, last + 1)]
+    for files, number, how in itertools.product(beginnings, steps, FAILURES):
+        expected = expected_at(how, number, normal) if number <= last else normal
+        actual = run(program, library, words, files, text, SHORT=1, **{how: number})
+        actual.files.pop(BESIDE_INPUTS, None)
+        count += expected != normal
+        if actual != expected:
+            wrong.append(f"{how} {number}: expected {expected}, got {actual}")
     return count, wrong
 
 
 def explain_flush(program, library):
     """Fails the flush of a certificate with --explain. Returns what was wrong, in a list."""
-    words, wanted = TUNINGS[0]
+    words, normal = TUNINGS[0]
     said = ("  one.red has no range line, so it has one setting\nfailed: Write\n"
             "found: best 0 total 4\n  CERT: Input/output error (os error 5)\n")
-    came = run(program, library, [*with_rules(words), "--explain"], FILES, SHORT=1,
-               FAIL=steps_of(wanted.files["CERT"]) - 1)
-    return [] if came == end(3, err=said) else [f"expected {said!r}, came {came}"]
+    actual = run(program, library, [*with_rules(words), "--explain"], FILES, SHORT=1,
+                 FAIL=steps_of(normal.files["CERT"]) - 1)
+    return [] if actual == end(3, err=said) else [f"expected {said!r}, got {actual}"]
 
 
 def main():
-    program, runs = program_word("gate.refuse.writes", __doc__), all_runs()
+    program, jobs = program_word("gate.refuse.writes", __doc__), all_runs()
     with tempfile.TemporaryDirectory() as work:
         library = library_of("writes.c", work)
-        came = side_by_side(lambda one: fail_each(program, library, *one[1:]), runs)
+        results = side_by_side(lambda job: fail_each(program, library, *job[1:]), jobs)
         explained = explain_flush(program, library)
-    total = sum(steps for steps, _ in came)
-    trials = [(name, wrong) for (name, *_), (_, wrong) in zip(runs, came)]
+    total = sum(steps for steps, _ in results)
+    trials = [(name, wrong) for (name, *_), (_, wrong) in zip(jobs, results)]
     trials.append(("a flush that fails, with --explain", explained))
     return tally(trials, f"{total} steps failed: ")
 
