@@ -20,7 +20,6 @@ KINDS = ["template", "schedule", "opponent"]
 MOST_BYTES = 1 << 20
 # A size and a SHA-256 digest as one text. `cwtune` reads no file above 1 GiB.
 Digest = Annotated[str, re.compile(r"\d{1,10} [0-9a-f]{64}")]
-FIELD = re.compile(r"(?s)(\d+ [0-9a-f]+) (.+)")
 # A file of the tuning: its size and digest, and its name.
 File = tuple[Digest, Annotated[str, range(1, 1 << 16)]]
 
@@ -41,12 +40,14 @@ def inputs_of(text):
     """Returns what the text of such a file says. Raises a ValueError if it is malformed."""
     # A name goes to the line feed, and may have other bytes at which `splitlines` would split.
     lines = [line.split(" ", 1) for line in os.fsdecode(text).removesuffix("\n").split("\n")]
-    fields = dict(lines)
-    fields["rules"] = [int(number) if re.fullmatch("[0-9]{1,10}", number) else None
-                       for number in fields.get("rules", "").split()]
-    for kind in KINDS:
-        fields[kind] = [list(FIELD.fullmatch(field).groups()) if FIELD.fullmatch(field) else []
-                        for word, field in lines if word == kind]
+    if lines[0] != ["cwtune", "inputs 1"]:
+        raise ValueError
+    fields = dict(lines) | {kind: [] for kind in KINDS}
+    fields["rules"] = list(map(int, dict(lines).get("rules", "").split()))
+    for word, field in lines:
+        if word in KINDS:
+            size, sha256, name = field.split(" ", 2)
+            fields[word].append([f"{size} {sha256}", name])
     return checked(CertInputs, fields)
 
 

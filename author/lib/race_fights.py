@@ -175,8 +175,9 @@ class Arena:
                             for piece in firsts])
         points = []
         for of_setting in futures:
-            pieces = [future.result() for future in of_setting]
+            pieces, seconds = zip(*(future.result() for future in of_setting))
             points.append(None if None in pieces else list(itertools.chain(*pieces)))
+            self.seconds_of_jobs += sum(seconds)
             self.tell_progress()
         self.plays_of_jobs += len(settings) * len(blocks)
         return points
@@ -187,6 +188,7 @@ class Arena:
                 "/dev/stdout", *opponents]
 
     def run_process(self, number, piece):
+        """Returns the points of a setting in some blocks, and how many seconds that took."""
         began_at = time.monotonic()
         words = self.words(self.args.program, self.folder / f"{number}.red",
                            self.folder / f"{piece}.csv", self.opponents)
@@ -197,14 +199,14 @@ class Arena:
                 process.kill()
             stdout, stderr = process.communicate()
             self.running.discard(process)
-        self.seconds_of_jobs += time.monotonic() - began_at
+        seconds = time.monotonic() - began_at
         completed = subprocess.CompletedProcess(words, process.returncode, stdout, stderr)
         if process.returncode == 1 and stderr.endswith(NO_CANDIDATE.encode()):
-            return None
+            return None, seconds
         if process.returncode:
             raise fault_of(completed)
         with reading_output(self.args.program, "tune"):
-            return points_of(stdout.split(b"\n", 3)[2], len(self.opponents))
+            return points_of(stdout.split(b"\n", 3)[2], len(self.opponents)), seconds
 
     def tell_estimate(self, what):
         if not self.seconds_of_jobs:

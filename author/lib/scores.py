@@ -23,7 +23,8 @@ def scores_of(setting, cert, fights, template):
     opponents = sorted({fight.opponent for fight in fights})
     return {"setting": setting, "values": template and template.values_by_name(setting),
             "total": cert.total_of(setting, fights),
-            "opponents": points and [score_of(opponent, points, fights) for opponent in opponents]}
+            "opponents": None if points is None else [score_of(opponent, points, fights)
+                                                      for opponent in opponents]}
 
 
 def score_of(opponent, points, fights):

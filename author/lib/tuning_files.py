@@ -4,7 +4,7 @@ A file that is none of these is refused in a few words; what exactly is wrong wi
 says. A setting is its index here, as in the output of `cwtune`; `settings` of a template has the
 values of each.
 """
-import array, bisect, collections.abc, csv, functools, itertools, math, os, re
+import array, bisect, collections.abc, contextlib, csv, functools, itertools, math, os, re
 from typing import NamedTuple
 
 from .endings import Fault, escaped
@@ -292,15 +292,12 @@ def read_records(path):
 
 def read_schedule(path):
     """Returns the fights of a schedule. Without the field `weight` each weight is 1."""
-    try:
+    with contextlib.suppress(ValueError, csv.Error):
         header, *records = read_records(path)
-        has_weights = header == [*HEADER, "weight"]
-        fights = Fights(read_fight(record if has_weights else [*record, "1"]) for record in records)
-    except (ValueError, csv.Error):
-        header, fights = None, []
-    if not 0 < len(fights) <= MOST_FIGHTS or not (has_weights or header == HEADER):
-        raise Fault(f"{path}: not a schedule")
-    return fights
+        if header in (HEADER, [*HEADER, "weight"]) and 0 < len(records) <= MOST_FIGHTS:
+            weight = [] if "weight" in header else ["1"]
+            return Fights(read_fight([*record, *weight]) for record in records)
+    raise Fault(f"{path}: not a schedule")
 
 
 def schedule_text(fights):

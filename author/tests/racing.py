@@ -1,5 +1,5 @@
 """Plays `cwtune-seek` with the program, and races with made-up fights."""
-import argparse, json, os, random, signal, subprocess
+import argparse, json, os, random, signal, subprocess, threading, time
 from unittest import mock
 
 from author.lib import grid, race, race_fights
@@ -135,6 +135,23 @@ class Racing(Trial):
             with mock.patch.object(racing, "improve", ended(racing.improve)):
                 racing.run()
         self.same("the race ends in time", (True, True), (bool(slow), 55 < now[0] <= 60))
+
+    def test_seconds(self):
+        """Plays with a clock that goes on by one whenever a thread reads it, as others run."""
+        ticks, args = threading.local(), argparse.Namespace(
+            seed=1, jobs=4, hosts=None, hill="nano", program=self.program)
+
+        def tick():
+            time.sleep(0.05)
+            ticks.count = getattr(ticks, "count", 0) + 1
+            return ticks.count
+
+        values = grid.Grid(self.folder / "plane.red")
+        with (mock.patch.object(time, "monotonic", tick),
+              race_fights.Arena(args, race_fights.Budget(1000), values, [self.folder / "dat.red"],
+                                [1], [], self.folder) as arena):
+            arena.run([[1, 0]] * 8, arena.new_blocks(1))
+        self.same("the seconds of all processes count", 8, arena.seconds_of_jobs)
 
     def test_finds(self):
         """Races in a plane of 45 settings, against two opponents. One counts three times."""

@@ -57,6 +57,13 @@ start.run("files")
 READ = """from author.lib import files, watching; import sys
 watching.PACE.pause = 0; sys.argv = ['f', 'big.cert']; files.main()
 """
+# Runs a command for a user without a home.
+HOMELESS = """import os, pwd
+for name in ["HOME", "XDG_CACHE_HOME"]:
+    os.environ.pop(name, None)
+pwd.getpwuid = {}.__getitem__
+from author.lib import start; start.run("adapt")
+"""
 # Starts a command as a Python 3.10 does.
 OLD = """import runpy, sys; sys.version_info = (3, 10, 4, 'final', 0)
 sys.path.insert(0, sys.argv[1]); runpy.run_path(sys.argv[2], run_name='__main__')
@@ -292,6 +299,11 @@ class Endings(Trial):
                 3, "", f"failed: {path.name} needs Python 3.11, and this is Python 3.10\n"),
                 (completed.returncode, completed.stdout, completed.stderr))
 
+    def test_homeless(self):
+        """Runs a command that looks for pMARS, for a number that is no user's."""
+        completed = python(HOMELESS, f"--program={self.program}", "dat.red", cwd=self.folder)
+        self.same("no home", (0, FILES["dat.red"]), (completed.returncode, completed.stdout))
+
     def pids(self):
         return list(map(int, (self.read("pids") or b"").split()))
 
@@ -330,7 +342,7 @@ echo $$ >> {self.folder}/pids; exec sleep 99""")
         os.mkfifo(self.folder / "pipe")
         for signal_number, words in itertools.product([signal.SIGINT, signal.SIGHUP], [
                 "cwtune-files pipe", "cwtune-vary pipe", "cwtune-scores pipe s.csv",
-                "cwtune-warrior --setting=0 pipe", "cwtune-landscape pipe step.cert x.svg"]):
+                "cwtune-landscape pipe step.cert x.svg"]):
             with self.started(words, stderr=subprocess.PIPE) as job:
                 # It is waiting in the open of the pipe.
                 wait_until(lambda: re.search(b"wait_for_partner|fifo_open", wchan(job.pid)), job)

@@ -222,6 +222,6 @@ class HostJobs:
         self.guard.stdin.close()
         self.guard.wait()
         self.parallel.wait()
-        temporary = pathlib.Path.home() / ".parallel/tmp"
+        temporary = pathlib.Path(os.path.expanduser("~/.parallel/tmp"))
         for left in temporary.glob(f"{socket.gethostname()}-{self.parallel.pid}-*"):
             shutil.rmtree(left, ignore_errors=True)
