@@ -12,7 +12,7 @@ from typing import NamedTuple
 
 from .endings import Fault, shown
 from .grid import NAME
-from .pmars_tokens import code_of
+from .pmars.tokens import code_of
 from .traced import Place
 from .words import counted
 

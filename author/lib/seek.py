@@ -22,7 +22,7 @@ from .endings import Fault, note, tell
 from .grid import Grid
 from .program import run_program
 from .race import Race
-from .race_fights import Arena, add_budget, budget_of
+from .race.fights import Arena, add_budget, budget_of
 from .tuning_files import MOST_SETTINGS
 from .words import (add_files, add_json, add_cwtune, add_number, command_parser, number_from,
                     print_json)

@@ -20,7 +20,7 @@ from .endings import Fault, note
 from .grid import ADAPTED, KEPT, is_range_line
 from .openings import constant_of, opening_from
 from .places import FIELDS, OPCODES, Span, lines_of, spot_of, spots_in
-from .pmars_tokens import code_of
+from .pmars.tokens import code_of
 from .program import assemble_bytes, load_file_of, refuse_other_warrior, rules_of
 from .slots import code_of_kept
 from .tuning_files import MOST_CONSTANTS, MOST_SETTINGS

@@ -2,7 +2,8 @@
 import argparse, json, os, random, signal, subprocess, threading, time
 from unittest import mock
 
-from author.lib import grid, race, race_fights
+from author.lib import grid, race
+from author.lib.race import fights as race_fights
 
 from .trial import SECONDS, Refusal, Trial, came_of, usage_errors, wait_until
 

@@ -3,7 +3,8 @@ and what hosts do for a race on this one."""
 import argparse, contextlib, io
 from unittest import mock
 
-from author.lib import grid, race, race_fights, race_hosts
+from author.lib import grid, race
+from author.lib.race import fights as race_fights, hosts as race_hosts
 from author.lib.spread.jobs import LocalJobs
 from author.lib.writing import temporary_folder
 

@@ -27,7 +27,7 @@ from ..grid import Grid
 from ..holdout import gain_text
 from ..program import Rules, rules_of
 from ..race import Contender
-from ..race_fights import Arena, Budget, add_budget
+from ..race.fights import Arena, Budget, add_budget
 from ..series import series_fights
 from ..tuning_files import MOST_FIGHTS, MOST_SETTINGS, Certificate, read_schedule, schedule_text
 from ..words import add_cwtune, add_json, add_number, command_parser, number_from, print_json
@@ -35,7 +35,7 @@ from ..writing import temporary_folder
 from .folder import StudyFolder
 from .fresh import FIRST_HEAT_PLAYERS, find_winner
 from .inputs import read_inputs
-from .race import RaceOfStudy
+from .raced import RaceOfStudy
 from .report import html_of, shown_values
 from .result import raced_numbers, tuned_numbers
 

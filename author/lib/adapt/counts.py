@@ -3,9 +3,9 @@ may still change: as `(4+2*(DECOYS))` after a block of two instructions. Such a 
 part of a count itself."""
 from typing import NamedTuple
 
-from .pmars_text import given_names
-from .pmars_tokens import tokens_of
-from .traced import Traced, joined
+from ..pmars.text import given_names
+from ..pmars.tokens import tokens_of
+from ..traced import Traced, joined
 
 # A longer sum is written as its value, since pMARS reads 255 bytes of a line.
 LONGEST_SUM = 200

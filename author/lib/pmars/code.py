@@ -1,7 +1,7 @@
 """Makes the load file of the instructions of a text, as pMARS 0.9.2 makes its listing."""
-from .pmars_text import Chars, PmarsFault
-from .pmars_tokens import MODIFIERS, PSEUDO_OPCODES, token_at
-from .pmars_values import NoValue, ParserThere
+from .text import Chars, PmarsFault
+from .tokens import MODIFIERS, PSEUDO_OPCODES, token_at
+from .values import NoValue, ParserThere
 
 # What may follow in an operand after its first token, though it is a mode too.
 OPERATORS = "<>*"

@@ -2,8 +2,8 @@
 import json, re
 from typing import Annotated, TypedDict
 
-from .endings import Fault
-from .schema import Malformed, from_json
+from ..endings import Fault
+from ..schema import Malformed, from_json
 
 # More than a line has.
 MOST_BYTES = 1 << 20

@@ -10,8 +10,8 @@ import contextlib, math, time
 from ..endings import tell
 from ..holdout import gain_of
 from ..race import Race
-from ..race_fights import Arena, budget_of
-from ..race_journal import Journal
+from ..race.fights import Arena, budget_of
+from ..race.journal import Journal
 from ..tuning_files import Template, schedule_text
 from ..writing import temporary_folder
 from .fresh import FIRST_HEAT_PLAYERS

@@ -8,13 +8,13 @@ import argparse, concurrent.futures, itertools, operator, os, pathlib, random, r
 import subprocess, time
 from typing import NamedTuple
 
-from .endings import Fault, fault_of, tell
-from .program import NO_CANDIDATE, reading_output, rules_of
-from .race_hosts import Hosts, points_of
-from .spread.hosts import read_hosts, refuse_missing_tools
-from .tuning_files import Fight, schedule_text
-from .watching import Pace
-from .words import counted, number_from
+from ..endings import Fault, fault_of, tell
+from ..program import NO_CANDIDATE, reading_output, rules_of
+from ..spread.hosts import read_hosts, refuse_missing_tools
+from ..tuning_files import Fight, schedule_text
+from ..watching import Pace
+from ..words import counted, number_from
+from .hosts import Hosts, points_of
 
 # The fights of a race that is given no budget.
 DEFAULT_FIGHTS = 300000

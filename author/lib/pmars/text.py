@@ -8,8 +8,8 @@ as it is met.
 import enum
 from typing import NamedTuple
 
-from .pmars_tokens import BLANKS, LETTERS, OPCODES, PSEUDO_OPCODES, code_of, token_at, tokens_of
-from .pmars_values import NoValue, ParserThere, Registers
+from .tokens import BLANKS, LETTERS, OPCODES, PSEUDO_OPCODES, code_of, token_at, tokens_of
+from .values import NoValue, ParserThere, Registers
 
 # What pMARS takes at most: labels of one instruction, lines of code, bytes of a line.
 MOST_LABELS, MOST_CODE, MOST_LINE_BYTES = 7, 1000, 255

@@ -4,7 +4,7 @@ so that it does.
 import random, re
 from typing import NamedTuple
 
-from .pmars_tokens import BLANKS, LETTERS, tokens_of
+from .tokens import BLANKS, LETTERS, tokens_of
 
 # How tightly an operator binds, in pMARS and here.
 THERE = {"*": 5, "/": 5, "%": 5, "+": 4, "-": 4, **dict.fromkeys([">", "<", "==", "!=", ">=", "<="],

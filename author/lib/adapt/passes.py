@@ -1,10 +1,10 @@
 """Makes the changes that a reading of a text asks for, pass by pass."""
 import collections, re
 
-from .adapt_changes import DROPPED, ONE_COPY, TOKENS, Change
-from .pmars_text import is_head
-from .pmars_tokens import code_of, comment_sign, token_at, tokens_of
-from .traced import Traced, joined
+from ..pmars.text import is_head
+from ..pmars.tokens import code_of, comment_sign, token_at, tokens_of
+from ..traced import Traced, joined
+from .changes import DROPPED, ONE_COPY, TOKENS, Change
 
 HEAD_HERE = ";redcode"
 # A text of more copies is refused by `cwtune`.

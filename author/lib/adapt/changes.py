@@ -6,11 +6,11 @@ each copy; a change that not all copies ask for is not made, and the block is un
 import collections, re
 from typing import NamedTuple
 
-from .adapt_counts import Curline
-from .pmars_tokens import OPCODES, P_SPACE_OPCODES, comment_sign, tokens_of
-from .pmars_values import (Registers, can_stay, extents_of, has_large_number, is_large,
+from ..pmars.tokens import OPCODES, P_SPACE_OPCODES, comment_sign, tokens_of
+from ..pmars.values import (Registers, can_stay, extents_of, has_large_number, is_large,
                            is_other_here, written)
-from .traced import Traced, joined
+from ..traced import Traced, joined
+from .counts import Curline
 
 DEEPEST_BLOCK = 8
 RESERVED = [*(word for word in OPCODES if word not in P_SPACE_OPCODES), "EQU", "FOR", "ROF"]

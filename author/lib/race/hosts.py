@@ -6,19 +6,19 @@ the same way, as without hosts. A piece of the work is some settings in some blo
 import math, os, pathlib, shutil, subprocess
 from typing import NamedTuple
 
-from .endings import Fault, fault_of
-from .program import reading_output
-from .race import SETTINGS_AT_ONCE
-from .spread.hosts import HostJobs, read_hosts
-from .spread.jobs import ended
-from .tuning_files import MOST_FIGHTS, schedule_text
+from ..endings import Fault, fault_of
+from ..program import reading_output
+from ..spread.hosts import HostJobs, read_hosts
+from ..spread.jobs import ended
+from ..tuning_files import MOST_FIGHTS, schedule_text
+from . import SETTINGS_AT_ONCE
 
 # Hosts play what takes longer than that here; for one of their processors it is a piece.
 SECONDS = 60
 # How many pieces a processor of the hosts gets before the race goes on, and how many plays may wait
 # in memory: this much is lost by a kill.
 PIECES_AT_ONCE, MOST_PLAYS = 4, 500000
-SCRIPT = pathlib.Path(__file__).with_name("race_job.sh")
+SCRIPT = pathlib.Path(__file__).with_name("job.sh")
 
 
 def points_of(row, width):
