@@ -33,7 +33,8 @@ pmars.code       the load file
 pmars.program    pMARS itself, run to compare
 
 adapt            `cwtune-adapt`, and how commands adapt a text by themselves
-adapt.changes    what has to be written otherwise
+adapt.finders    what has to be written otherwise
+adapt.changes    the changes that say so
 adapt.counts     how CURLINE is written
 adapt.passes     the changes made, pass by pass
 

@@ -15,11 +15,11 @@ Example: cwtune-vary my.red STEP=5:4000:10 'throw.a-mode=<,>,{' > my-template.re
 import itertools, math, re, sys
 from typing import NamedTuple
 
-from .adapt import adapted_by, add_as_is
+from .adapt import Adapted, adapted_by, add_as_is
 from .endings import Fault, note
 from .grid import ADAPTED, KEPT, is_range_line
-from .openings import constant_of, opening_from
-from .places import FIELDS, OPCODES, Span, lines_of, spot_of, spots_in
+from .openings import Constant, constant_of, opening_from
+from .places import FIELDS, OPCODES, Span, Spot, lines_of, spot_of, spots_in
 from .pmars.tokens import code_of
 from .program import assemble_bytes, load_file_of, refuse_other_warrior, rules_of
 from .slots import code_of_kept
@@ -34,7 +34,7 @@ class Source(NamedTuple):
     """A text that is read, and it as an `Adapted` if the author's own is another one, else None."""
 
     text: str
-    adapted: object
+    adapted: Adapted | None
 
     def lines(self):
         return lines_of(self.text, self.adapted)
@@ -43,8 +43,8 @@ class Source(NamedTuple):
 class Opened(NamedTuple):
     """A place that is open, its constant, and whether the range line of that follows it."""
 
-    spot: object
-    constant: object
+    spot: Spot
+    constant: Constant
     has_range: bool
 
 
