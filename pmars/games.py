@@ -21,8 +21,7 @@ class Game:
         # Without an assertion pMARS prints a warning for each warrior.
         self.warriors = [self.write(name, f";assert 1\n{text}")
                          for name, text in [("a.red", candidate), ("b.red", opponent)]]
-        # a template with one setting
-        self.template = self.write("t.red", f";@tune ONE 0 0 1 0\n{candidate}")
+        self.template = self.write("t.red", candidate)
 
     def write(self, name, text):
         path = self.folder / name

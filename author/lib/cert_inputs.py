@@ -11,13 +11,14 @@ from .endings import Fault, note
 from .program import HILLS, Rules, fill_rules
 from .regular import NotRegular, digest_of, read_regular
 from .schema import checked
-from .tuning_files import MOST_OPPONENTS
+from .tuning_files import MOST_OPPONENTS, Certificate, Template
 
 # What follows CERT in the name of its file.
 SUFFIX = ".inputs"
-KINDS = ["template", "schedule", "opponent"]
+FILES = ["template", "schedule"]
+KINDS = [*FILES, "opponent"]
 # More than such a file has, with the longest names.
-MOST_BYTES = 1 << 20
+MOST_INPUTS_BYTES = 1 << 20
 # A size and a SHA-256 digest as one text. `cwtune` reads no file above 1 GiB.
 Digest = Annotated[str, re.compile(r"\d{1,10} [0-9a-f]{64}")]
 # A file of the tuning: its size and digest, and its name.
@@ -55,7 +56,7 @@ def read(cert):
     """Returns which inputs a certificate is for, or a text that says why that is not known."""
     name = f"{cert}{SUFFIX}"
     try:
-        inputs = inputs_of(read_regular(MOST_BYTES, name))
+        inputs = inputs_of(read_regular(MOST_INPUTS_BYTES, name))
     except FileNotFoundError:
         return f"{name} is not there"
     except NotRegular as fault:
@@ -87,12 +88,20 @@ def settle(args):
         return inputs
     fill_rules(args, Rules(*inputs.rules))
     refuse_other_rules(args, inputs.rules)
-    for kind in KINDS[:2]:
+    for kind in FILES:
         if hasattr(args, kind):
             setattr(args, kind, settled_file(inputs, kind, 0, getattr(args, kind)))
     if hasattr(args, "opponents"):
         args.opponents = settled_opponents(inputs, args.opponents)
     return ""
+
+
+def read_tuning(args):
+    """Returns the certificate, its template or None, and why CERT.inputs is not used."""
+    cert = Certificate(args.cert)
+    why_unused = settle(args)
+    template = Template(args.template).checked_for(cert) if args.template else None
+    return cert, template, why_unused
 
 
 def print_note(why_unused):
@@ -114,9 +123,9 @@ def refuse_other_tuning(args, cert, part, method):
         if inputs.method != method:
             raise Fault(f"its method is `{inputs.method}`, not `{method}`", 2)
         refuse_other_rules(args, inputs.rules)
-        for kind in KINDS[:2]:
+        for kind in FILES:
             settled_file(inputs, kind, 0, getattr(args, kind))
-        settled_opponents(inputs, args.opponent)
+        settled_opponents(inputs, args.opponents)
     except Fault as fault:
         raise Fault(f"{cert} is not part {part} of this tuning: {fault}", 2) from None
 
@@ -153,7 +162,7 @@ def text_of(version, rules, method, cert, files):
     """Returns the text of CERT.inputs. `files`: the template, the schedule, the opponents."""
     if any("\n" in name for name in [*files, os.getcwd()]):
         raise ValueError
-    kinds = KINDS[:2] + ["opponent"] * (len(files) - 2)
+    kinds = FILES + ["opponent"] * (len(files) - 2)
     return "".join([
         f"cwtune inputs 1\nprogram {version}\nrules {' '.join(map(str, rules))}\npart 1/1\n",
         f"method {method}\ncert {digest_of(cert)}\nfolder {os.getcwd()}\n",

@@ -178,15 +178,16 @@ def make_parser():
 def main():
     parser = make_parser()
     args = parser.parse_mixed()
-    why_unused = cert_inputs.settle(args)
+    cert, template, why_unused = cert_inputs.read_tuning(args)
     if args.schedule is None:
         parser.error(f"give SCHEDULE: {why_unused or 'the schedule of the tuning is not there'}")
-    cert = tuning_files.Certificate(args.cert)
     fights = cert.fights(args.schedule)
-    template = tuning_files.Template(args.template).checked_for(cert) if args.template else None
     if args.csv:
         print_totals(cert, fights, template)
     else:
         numbers = numbers_of(args, cert, fights, template)
-        print_json(numbers) if args.json else print_numbers(numbers, template, args.top)
+        if args.json:
+            print_json(numbers)
+        else:
+            print_numbers(numbers, template, args.top)
     cert_inputs.print_note(why_unused)

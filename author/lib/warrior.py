@@ -217,14 +217,12 @@ def has_mark(path):
 
 
 def print_text(args, path):
-    template, totals = tuning_files.Template(path), (None, None)
-    args.schedule, why_unused = None, ""
+    args.schedule, totals, why_unused = None, (None, None), ""
     if args.cert is None:
+        template = tuning_files.Template(path)
         setting = setting_of(template, args.setting)
     else:
-        cert = tuning_files.Certificate(args.cert)
-        why_unused = cert_inputs.settle(args)
-        template.checked_for(cert)
+        cert, template, why_unused = cert_inputs.read_tuning(args)
         setting = cert.best
         totals = cert.total, total_of_start(cert, template, args.schedule)
     sys.stdout.buffer.write(template.with_start(setting) if args.as_template

@@ -13,7 +13,7 @@ from ..program import NO_CANDIDATE, reading_output, rules_of
 from ..spread.hosts import read_hosts, refuse_missing_tools
 from ..tuning_files import Fight, schedule_text
 from ..watching import Pace
-from ..words import counted, number_from
+from ..words import add_jobs, counted, number_from
 from .hosts import Hosts, points_of
 
 # The fights of a race that is given no budget.
@@ -102,7 +102,8 @@ class Processes:
         """Writes a schedule for the blocks of each process. Yields its path."""
         for first in range(0, len(blocks), BLOCKS_OF_PROCESS):
             path = self.folder / f"{first}.csv"
-            path.write_text(schedule_text(itertools.chain(*blocks[first:first + BLOCKS_OF_PROCESS])))
+            fights = itertools.chain(*blocks[first:first + BLOCKS_OF_PROCESS])
+            path.write_text(schedule_text(fights))
             yield path
 
     def templates_of(self, settings):
@@ -257,8 +258,7 @@ def add_budget(parser):
                        f"1000 or more [default: {DEFAULT_FIGHTS}, unless --minutes is given]")
     group.add_argument("--minutes", type=minutes, metavar="N",
                        help="end after N minutes, such as 10 or 0.5")
-    group.add_argument("--jobs", type=number_from(1), default=os.cpu_count(), metavar="N",
-                       help="jobs that run side by side [default: the processors]")
+    add_jobs(group)
     group.add_argument("--hosts", type=hosts_file, metavar="FILE", help="run on these hosts what "
                        "takes more than a minute here, as `cwtune-spread --hosts`")
 

@@ -30,7 +30,8 @@ from ..race import Contender
 from ..race.fights import Arena, Budget, add_budget
 from ..series import series_fights
 from ..tuning_files import MOST_FIGHTS, MOST_SETTINGS, Certificate, read_schedule, schedule_text
-from ..words import add_cwtune, add_json, add_number, command_parser, number_from, print_json
+from ..words import (add_anew, add_cwtune, add_json, add_number, command_parser, number_from,
+                     print_json)
 from ..writing import temporary_folder
 from .folder import StudyFolder
 from .fresh import FIRST_HEAT_PLAYERS, find_winner
@@ -184,7 +185,10 @@ def print_raced(report):
 
 def print_end(folder, report):
     gain = report["gain"]
-    print_raced(report) if report["race"] else print_tuned(report)
+    if report["race"]:
+        print_raced(report)
+    else:
+        print_tuned(report)
     if gain and report["winner"]["values"] != report["start"]["values"]:
         print(f"over START: {gain_text(gain)}")
         if gain["words"] != "a gain":
@@ -214,8 +218,7 @@ def make_parser():
                         "winner with all fights, check the certificate, and draw its totals")
     parser.add_argument("--by-kind", action="store_true",
                         help="have each folder of opponents count as much as the others")
-    parser.add_argument("--anew", action="store_true",
-                        help="throw away what is done, and begin again")
+    add_anew(parser)
     add_budget(parser)
     add_json(parser)
     add_cwtune(parser)
@@ -240,7 +243,10 @@ def main():
         with contextlib.redirect_stdout(sys.stderr if args.json else sys.stdout):
             study.go()
         with study.folder.reading("report.json") as report:
-            print_json(report) if args.json else print_end(study.folder, report)
+            if args.json:
+                print_json(report)
+            else:
+                print_end(study.folder, report)
     except KeyboardInterrupt:
         tell(f"stopped: what is done is kept in {study.folder.given_path}: repeat the command to "
              "go on")
