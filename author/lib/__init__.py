@@ -64,8 +64,7 @@ study.result     the numbers of report.json
 study.report     the page of these
 study.charts     bars and lines
 study.maps       totals as lines and maps
-study.page       pieces of a page
-study.style      the style sheet
+study.page       pieces of a page, in the styles of style.css
 
 Where nothing else is said, a name means this:
 
