@@ -14,7 +14,7 @@ from .watching import watched
 HEADER = ["opponent", "position", "first"]
 # What `cwtune` takes at most: of a template its bytes, constants and settings, of a schedule its
 # fights and their weights, of a tuning its opponents and how many of the ranking it keeps.
-MOST_BYTES, MOST_CONSTANTS, MOST_SETTINGS = 65536, 8, 1000000
+MOST_TEMPLATE_BYTES, MOST_CONSTANTS, MOST_SETTINGS = 65536, 8, 1000000
 MOST_FIGHTS, MOST_WEIGHT, MOST_OPPONENTS, MOST_KEPT = 10000, 1000, 64, 1000
 # The points of a cap row that lists a fight.
 LISTED = re.compile(r"[0-9]{1,10}:[013](?: [0-9]{1,10}:[013])*")
@@ -90,10 +90,10 @@ class Template(Grid):
     def read(self, path):
         """Returns the text. Refuses one that cannot be that of a template."""
         with open(path, "rb") as file:
-            text = file.read(MOST_BYTES + 1)
+            text = file.read(MOST_TEMPLATE_BYTES + 1)
             size = max(len(text), os.fstat(file.fileno()).st_size)
-        if size > MOST_BYTES:
-            raise Fault(f"{path}: {size} bytes, more than the {MOST_BYTES} of a template")
+        if size > MOST_TEMPLATE_BYTES:
+            raise Fault(f"{path}: {size} bytes, more than the {MOST_TEMPLATE_BYTES} of a template")
         if b"\0" in text or not text.strip():
             raise Fault(f"{path}: not a template, a schedule or a certificate")
         return text

@@ -226,7 +226,7 @@ class Race:
             self.arena.hosts.play_ahead(pair, blocks, math.inf, limit * self.share)
             for player_points, of_blocks in zip(points, self.arena.play(pair, blocks)):
                 player_points.extend(of_blocks)
-        return tuple(["".join(column) for column in zip(*blocks)] for blocks in points)
+        return tuple(["".join(column) for column in zip(*of_player)] for of_player in points)
 
 
 def plays_of_exploring():

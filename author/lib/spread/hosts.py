@@ -163,7 +163,8 @@ class HostJobs:
 
     def take_ended(self):
         """Returns the numbers of the jobs that have ended since the last call, with their
-        statuses. A status that is no result counts once GNU parallel has tried all hosts."""
+        statuses. A status that is not in RESULTS counts only once GNU parallel has tried all
+        hosts."""
         is_over = self.parallel.poll() is not None
         for number in self.returned():
             self.statuses[number] = self.unpack(number)

@@ -119,7 +119,7 @@ class StudyFolder(OwnFolder):
         return {**NAMES, "opponents": "|".join(map(re.escape, self.opponents))}
 
     def read_mark(self):
-        """Returns the mark. Refuses one whose stages have results that are none."""
+        """Returns the mark. Refuses one with a malformed result of a stage."""
         mark = super().read_mark()
         try:
             for name, stage in mark.stages.items() if mark else ():
