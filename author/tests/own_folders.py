@@ -149,7 +149,8 @@ def in_process(module, words, folder):
             finally:
                 os._exit(99)
         status = os.waitstatus_to_exitcode(os.waitpid(pid, 0)[1])
-        out.seek(0), err.seek(0)
+        out.seek(0)
+        err.seek(0)
         return status, *(file.read().decode(errors="replace") for file in (out, err))
 
 

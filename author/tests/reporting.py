@@ -128,7 +128,7 @@ class Reporting(Trial):
             if name not in ("many settings", "many values"):
                 self.wrong(f"the numbers of {name}", missing(report, " ".join(reader.words)))
 
-    def test_alone(self):
+    def test_nothing_fetched(self):
         """Looks for what a page would fetch. The words of a report are text, and may name it."""
         for name in ("one constant", "two constants", "four constants"):
             page = html_of(REPORTS[name]).lower()

@@ -45,14 +45,13 @@ class Slurm:
     def __enter__(self):
         for name in [".", "munge", "state", "spool", "temporary"]:
             (self.folder / name).mkdir()
-        (self.folder / "munge/key").write_bytes(os.urandom(1024))
-        (self.folder / "munge/key").chmod(0o400)
+        (self.folder / "munge/key-file").write_bytes(os.urandom(1024))
+        (self.folder / "munge/key-file").chmod(0o400)
         (self.folder / "slurm.conf").write_text(CONFIG.format(
             host=socket.gethostname().partition(".")[0], ports=[free_port(), free_port()],
             user=getpass.getuser(), folder=self.folder, processors=os.cpu_count()))
         of_munge = [f"--{name}={self.folder}/munge/{name}"
                     for name in ["key-file", "pid-file", "log-file", "seed-file"]]
-        (self.folder / "munge/key").rename(self.folder / "munge/key-file")
         try:
             self.start("munged", "--foreground", "--force", f"--socket={self.folder}/socket",
                        *of_munge)

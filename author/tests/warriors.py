@@ -163,7 +163,7 @@ class Warriors(Trial):
             "over START, setting 1: +33.3% +- 0.0, a gain\n", ""),
             self.call("cwtune-holdout --schedule s.csv --rounds 20 t.red cert imp.red"))
 
-    def test_objects(self):
+    def test_json(self):
         self.tuned(";@tune K 0 2 1 0\nJMP 1-1/(K!=2)\n")
         made = {"opponent": 0, "wins": 0, "ties": 1, "losses": 0, "score": 1, "greatest": 3,
                 "not_played": 0}
