@@ -1,10 +1,6 @@
 """Holds the commands for authors: a module or a package for each, and what they share.
 
-Commands:
-
-adapt, files, holdout, landscape, scores, seek, series, spread, study, vary, warrior
-
-What several commands use:
+Commands: adapt, files, holdout, landscape, scores, seek, series, spread, study, vary, warrior.
 
 start            how a command begins, as any Python 3 can read
 endings          how it ends
@@ -33,8 +29,7 @@ pmars.code       the load file
 pmars.program    pMARS itself, run to compare
 
 adapt            `cwtune-adapt`, and how commands adapt a text by themselves
-adapt.finders    what has to be written otherwise
-adapt.changes    the changes that say so
+adapt.changes    what has to be written otherwise
 adapt.counts     how CURLINE is written
 adapt.passes     the changes made, pass by pass
 

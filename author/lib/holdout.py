@@ -25,8 +25,8 @@ from .endings import Fault, escaped, fault_of
 from .mean_error import error_of_mean
 from .program import EXPLAIN, rules_of, run_program
 from .series import refuse_distance, refuse_fights
-from .words import (FILE_HELP, add_cwtune, add_files, add_json, add_number, add_schedule,
-                    command_parser, counted, print_json)
+from .words import (FILE_HELP, add_cwtune, add_files, add_number, add_shared, command_parser,
+                    counted, print_json)
 from .writing import temporary_folder
 
 
@@ -218,10 +218,10 @@ def make_parser():
     add_number(parser, "--top", "K", 5, "how many settings play, beside START")
     add_number(parser, "--rounds", "R", 100, "fights against each opponent")
     add_number(parser, "--seed", "S", 1, "another number gives other positions", low=0)
-    add_schedule(parser)
+    add_shared(parser, "--schedule")
     parser.add_argument("--against", metavar="FILE",
                         help="compare with the warrior of this Redcode text, and not with START")
-    add_json(parser)
+    add_shared(parser, "--json")
     add_cwtune(parser, of_tuning=True)
     add_files(parser, "template", "cert")
     parser.add_argument("opponents", metavar="OPPONENT", nargs="*", default=[],

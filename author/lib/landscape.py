@@ -15,7 +15,7 @@ from . import cert_inputs, tuning_files
 from .endings import Fault, quoted
 from .mean_error import error_of_mean
 from .watching import watched
-from .words import add_files, add_schedule, command_parser, number_from
+from .words import add_files, add_shared, command_parser, number_from
 from .writing import whole_file
 
 MOST_MAPS = 36
@@ -239,7 +239,7 @@ def make_parser():
     parser = command_parser(__doc__)
     add_files(parser, "template", "cert")
     parser.add_argument("picture", metavar="PICTURE", help="a name that ends with .png or .svg")
-    add_schedule(parser)
+    add_shared(parser, "--schedule")
     parser.add_argument("--axes", metavar="A,B", help="the constants from left to right and "
                         "upwards [default: the last two, the last from left to right]")
     parser.add_argument("--opponent", type=number_from(0), metavar="N",

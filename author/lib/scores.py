@@ -11,7 +11,8 @@ from . import cert_inputs, tuning_files
 from .endings import Fault, note
 from .program import assemble, rules_of
 from .watching import watched
-from .words import add_files, add_json, add_cwtune, add_number, command_parser, counted, print_json
+from .words import (add_cwtune, add_files, add_number, add_shared, command_parser, counted,
+                    print_json)
 
 # With more settings than this none is assembled, to save time.
 MOST_ASSEMBLED = 2000
@@ -168,7 +169,7 @@ def make_parser():
                         "and for START [default: that of the tuning]")
     add_number(parser, "--top", "K", 10, "how many of the best settings")
     output = parser.add_mutually_exclusive_group()
-    add_json(output)
+    add_shared(output, "--json")
     output.add_argument("--csv", action="store_true",
                         help="print the total of each setting, a line for each, with commas")
     add_cwtune(parser, of_tuning=True)
@@ -186,8 +187,5 @@ def main():
         print_totals(cert, fights, template)
     else:
         numbers = numbers_of(args, cert, fights, template)
-        if args.json:
-            print_json(numbers)
-        else:
-            print_numbers(numbers, template, args.top)
+        print_json(numbers) if args.json else print_numbers(numbers, template, args.top)
     cert_inputs.print_note(why_unused)

@@ -17,14 +17,14 @@ Example: cwtune-seek --minutes 10 my.red fights.csv dwarf.red scanner.red > bett
 import math, pathlib, sys
 
 from . import holdout
-from .adapt import adapted_for, adapted_opponents, add_as_is, read_text
+from .adapt import adapted_for, adapted_opponents, read_text
 from .endings import Fault, note, tell
 from .grid import Grid
 from .program import run_program
 from .race import Race
 from .race.fights import Arena, add_budget, budget_of
 from .tuning_files import MOST_SETTINGS
-from .words import (add_cwtune, add_files, add_json, add_number, command_parser, number_from,
+from .words import (add_cwtune, add_files, add_number, add_shared, command_parser, number_from,
                     print_json)
 from .writing import temporary_folder
 
@@ -74,12 +74,12 @@ def ranges_of(args, grid, values):
 def make_parser():
     parser = command_parser(__doc__)
     add_budget(parser)
-    add_json(parser)
+    add_shared(parser, "--json")
     add_number(parser, "--seed", "N", 1, "another number gives other settings and positions", low=0)
     parser.add_argument("--box", type=number_from(0), metavar="N",
                         help="cut each range to N values on both sides of the winner's")
     add_cwtune(parser)
-    add_as_is(parser)
+    add_shared(parser, "--as-is")
     add_files(parser, "template", "schedule", "opponents")
     return parser
 

@@ -71,10 +71,6 @@ class Settings(collections.abc.Sequence):
             setting = setting * len(of_constant) + of_constant.index(value)
         return setting
 
-    def __contains__(self, values):
-        return len(values) == len(self.ranges) and all(
-            value in of_constant for of_constant, value in zip(self.ranges, values))
-
 
 class Template(Grid):
     """A template as `cwtune` takes it. `values_of_settings` has the values of its settings, the

@@ -103,20 +103,23 @@ def add_files(parser, *names):
                             nargs="+" if name == "opponents" else None)
 
 
-def add_schedule(parser):
-    parser.add_argument("--schedule", metavar="FILE",
-                        help="the schedule [default: that of the tuning]")
+# Options that several commands have.
+SHARED = {
+    "--anew": {"action": "store_true", "help": "throw away what is done, and begin again"},
+    "--as-is": {"action": "store_true",
+                "help": "do not adapt a text that pMARS reads otherwise (cwtune-adapt)"},
+    "--jobs": {"type": number_from(1), "default": os.cpu_count(), "metavar": "N",
+               "help": "jobs that run side by side, on each host "
+               "[default: the processors of this one]"},
+    "--json": {"action": "store_true",
+               "help": "print one JSON object in place of lines (docs/FORMATS.md)"},
+    "--schedule": {"metavar": "FILE", "help": "the schedule [default: that of the tuning]"},
+}
 
 
-def add_jobs(parser):
-    parser.add_argument("--jobs", type=number_from(1), default=os.cpu_count(), metavar="N",
-                        help="jobs that run side by side, on each host "
-                        "[default: the processors of this one]")
-
-
-def add_anew(parser):
-    parser.add_argument("--anew", action="store_true",
-                        help="throw away what is done, and begin again")
+def add_shared(parser, *names):
+    for name in names:
+        parser.add_argument(name, **SHARED[name])
 
 
 def program_at(word):
@@ -127,11 +130,6 @@ def program_at(word):
 def add_program(parser):
     parser.add_argument("--program", type=program_at, default=DEFAULT, metavar="FILE",
                         help="the program cwtune [default: the one built here, else on the PATH]")
-
-
-def add_json(parser):
-    parser.add_argument("--json", action="store_true",
-                        help="print one JSON object in place of lines (docs/FORMATS.md)")
 
 
 def print_json(numbers):

@@ -57,9 +57,7 @@ def without_seconds(log):
 class StudyOfTemplate(StudyTrial):
     """The study of a template that is tuned whole."""
 
-    def setUp(self):
-        super().setUp()
-        self.result = self.study("t.red", "all")
+    STUDIED = ["t.red", "all"]
 
     def test_finds(self):
         """Compares the report with what other commands say."""
@@ -73,7 +71,10 @@ class StudyOfTemplate(StudyTrial):
             f"setting {ranked['setting']}: total {ranked['tuned']} STEP={ranked['values']['STEP']}"
             for ranked in report["ranking"]],
             [line.strip() for line in scores.splitlines() if line.startswith("    setting")])
-        tune_report, best = self.tuned("t.red", "t.study"), report["ranking"][0]
+        output = self.tune(*NANO, "--cycles=800", "--tasks=80", "t.red", "t.study/schedule.csv",
+                           "CERT", *(f"all/{name}" for name in OPPONENTS)).out
+        tune_report = dict(line.split(" ", 1) for line in output.splitlines())
+        best = report["ranking"][0]
         self.same("the best is that of cwtune tune",
                   (str(best["setting"]), f"{best['tuned']} of 27"),
                   (tune_report["best"], tune_report["total"]))
@@ -114,12 +115,6 @@ class StudyOfTemplate(StudyTrial):
         self.same("the winner has the most points", most,
                   fresh_of_ranking[winner["rank"] - 1]["points"])
 
-    def tuned(self, template, study):
-        """Returns the report of `cwtune tune` by a study's schedule, by the first words."""
-        output = self.tune(*NANO, "--cycles=800", "--tasks=80", template, f"{study}/schedule.csv",
-                           "CERT", *(f"all/{name}" for name in OPPONENTS)).out
-        return dict(line.split(" ", 1) for line in output.splitlines())
-
     def test_other_inputs(self):
         """Gives the folder other inputs than those that it was made of, and changes its files."""
         before = self.texts_of("t.study")
@@ -151,13 +146,9 @@ class StudyOfWarrior(StudyTrial):
     """The study of a warrior, with opponents that have one name."""
 
     HOSTILE = "it's \"$HOME\".red"
-
-    def setUp(self):
-        super().setUp()
-        more = [f"more/{name}" for name in ["imp.red", self.HOSTILE]]
-        for name in more:
-            self.write(name, OPPONENTS["dat.red"])
-        self.result = self.study("w.red", "all/imp.red", "STEP=1:9:2", *more)
+    MORE = dict.fromkeys(["more/imp.red", f"more/{HOSTILE}"], OPPONENTS["dat.red"])
+    FILES = StudyTrial.FILES | MORE
+    STUDIED = ["w.red", "all/imp.red", "STEP=1:9:2", *MORE]
 
     def test_varies(self):
         template = self.call("cwtune-vary --hill=nano w.red STEP=1:9:2").out
@@ -195,12 +186,8 @@ class StudyOfWarrior(StudyTrial):
 class StudyOfPlane(StudyTrial):
     """The study of a template in which settings race."""
 
-    WORDS = ["--exact=9", "--fights=4000", "--certify", "p.red", "all"]
-
-    def setUp(self):
-        super().setUp()
-        self.write("p.red", PLANE.replace("2 5", "2 3").replace("1 0", "1 4"))
-        self.result = self.study(*self.WORDS)
+    FILES = StudyTrial.FILES | {"p.red": PLANE.replace("2 5", "2 3").replace("1 0", "1 4")}
+    STUDIED = ["--exact=9", "--fights=4000", "--certify", "p.red", "all"]
 
     def test_races(self):
         status, out, _ = self.result
@@ -224,7 +211,7 @@ class StudyOfPlane(StudyTrial):
         text = grid.Grid(folder / "found.red")
         self.same("the winner's text is the winner", tuple(report["winner"]["values"].values()),
                   text.start_values)
-        self.study("--anew", "--jobs=2", *self.WORDS)
+        self.study("--anew", "--jobs=2", *self.STUDIED)
         self.same("two jobs find the same", (race, gain), (
             self.report("p")["race"], self.report("p")["gain"]))
 
@@ -233,11 +220,11 @@ class StudyOfPlane(StudyTrial):
         unbroken, dice = self.report("p"), random.Random(69)
         shutil.rmtree(self.folder / "p.study")
         for count in range(20):
-            with self.begin(*self.WORDS) as job:
+            with self.begin(*self.STUDIED) as job:
                 time.sleep(dice.uniform(0.1, 0.5 + count / 10))
                 job.send_signal([signal.SIGKILL, signal.SIGTERM, signal.SIGHUP][count % 3])
                 job.communicate(timeout=SECONDS)
-        status = self.study(*self.WORDS).status
+        status = self.study(*self.STUDIED).status
         report = self.report("p")
         for of_box in unbroken["box"], report["box"]:
             del of_box["seconds"]
@@ -249,7 +236,7 @@ class StudyOfPlane(StudyTrial):
                             ("[" * 2000000, "1048576 bytes or more")]:
             self.write("p.study/race.jsonl", text)
             self.same(f"what was played is {text[:9]}", (
-                2, f"error: p.study/race.jsonl: line 1: {fault}\n"), self.study(*self.WORDS)[::2])
+                2, f"error: p.study/race.jsonl: line 1: {fault}\n"), self.study(*self.STUDIED)[::2])
 
 
 class Studying(StudyTrial):

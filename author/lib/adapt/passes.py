@@ -4,8 +4,7 @@ import collections, itertools, re
 from ..pmars.text import is_head
 from ..pmars.tokens import code_of, comment_sign, token_at, tokens_of
 from ..traced import Traced, joined
-from .changes import Change
-from .finders import ONE_COPY, TOKENS
+from .changes import ONE_COPY, TOKENS, Change
 
 HEAD_HERE = ";redcode"
 # A text of more copies is refused by `cwtune`.

@@ -88,9 +88,6 @@ class Use(NamedTuple):
     root: tuple
     state: State
 
-    def is_first(self):
-        return self.state <= State.LABELS
-
 
 class Chars:
     """A text that is made of sources, with the root of each character."""
@@ -164,7 +161,7 @@ class PmarsText:
         self.index, self.reading = line.index, self.reading + 1
         before = self.dropping
         if not before:
-            self.finder.changes.begins_line(line)
+            self.finder.changes.read_counts[line.index] += 1
         state = self.read(Source(line.text, line.column), 0, made, State.NOTHING)
         if before:
             self.finder.blocks.dropped(line, self.dropping - before)

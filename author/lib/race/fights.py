@@ -13,7 +13,7 @@ from ..program import NO_CANDIDATE, reading_output, rules_of
 from ..spread.hosts import read_hosts, refuse_missing_tools
 from ..tuning_files import Fight, schedule_text
 from ..watching import Pace
-from ..words import add_jobs, counted, number_from
+from ..words import add_shared, counted, number_from
 from .hosts import Hosts, points_of
 
 # The fights of a race that is given no budget.
@@ -258,7 +258,7 @@ def add_budget(parser):
                        f"1000 or more [default: {DEFAULT_FIGHTS}, unless --minutes is given]")
     group.add_argument("--minutes", type=minutes, metavar="N",
                        help="end after N minutes, such as 10 or 0.5")
-    add_jobs(group)
+    add_shared(group, "--jobs")
     group.add_argument("--hosts", type=hosts_file, metavar="FILE", help="run on these hosts what "
                        "takes more than a minute here, as `cwtune-spread --hosts`")
 

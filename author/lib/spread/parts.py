@@ -14,7 +14,7 @@ import contextlib, dataclasses, os, pathlib, re, subprocess
 from typing import Annotated, NamedTuple
 
 from ..endings import Fault, end_with_parent
-from ..grid import NAME
+from ..pmars.tokens import NAME
 from ..program import NO_CANDIDATE, rules_of
 from ..regular import sha256_of
 from ..schema import Sha256

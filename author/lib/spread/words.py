@@ -1,6 +1,6 @@
 """Adds the options of `cwtune-spread` to its parser, and refuses those that do not fit together."""
 from ..tuning_files import MOST_KEPT, MOST_SETTINGS
-from ..words import add_anew, add_cwtune, add_files, add_jobs, add_number, number_from
+from ..words import add_cwtune, add_files, add_number, add_shared, number_from
 
 # The most parts and the most shares that the program takes; more than settings do nothing.
 MOST_PIECES = 2 ** 32 - 1
@@ -25,14 +25,14 @@ def add_options(parser):
 
 def add_pieces(parser):
     group = parser.add_argument_group("jobs")
-    add_jobs(group)
+    add_shared(group, "--jobs")
     group.add_argument("--parts", type=number_from(1), metavar="K",
                        help="parts to split the settings into [default: 16 for each job]")
     group.add_argument("--shares", type=number_from(1, MOST_SETTINGS), metavar="K",
                        help="shares to split a check into [default: 8 for each job]")
     group.add_argument("--hosts", metavar="FILE", help="run on these hosts, a line each, over "
                        "ssh (--sshloginfile of GNU parallel; `:` is this one)")
-    add_anew(group)
+    add_shared(group, "--anew")
     group.add_argument("--merge", type=number_from(1, MOST_SETTINGS), metavar="K",
                        help="run nothing, and put together what K jobs of a cluster wrote: CERT.1 "
                        ".. CERT.K, or with --check-only CERT.1.check .. CERT.K.check")

@@ -21,7 +21,6 @@ Example: cwtune-study --minutes 10 my.red opponents/ STEP=5:7995:10 GATE=-3500:-
 """
 import contextlib, json, os, pathlib, sys
 
-from ..adapt import add_as_is
 from ..endings import tell
 from ..grid import Grid
 from ..holdout import gain_text
@@ -30,8 +29,7 @@ from ..race import Contender
 from ..race.fights import Arena, Budget, add_budget
 from ..series import series_fights
 from ..tuning_files import MOST_FIGHTS, MOST_SETTINGS, Certificate, read_schedule, schedule_text
-from ..words import (add_anew, add_cwtune, add_json, add_number, command_parser, number_from,
-                     print_json)
+from ..words import add_cwtune, add_number, add_shared, command_parser, number_from, print_json
 from ..writing import temporary_folder
 from .folder import StudyFolder
 from .fresh import FIRST_HEAT_PLAYERS, find_winner
@@ -88,10 +86,6 @@ class Study:
         grid = Grid(folder.path / "template.red")
         folder.write("start.red", grid.line_through(grid.start_values, ()))
 
-    def copy_template(self):
-        """Makes box.red, the settings that are tuned: here all of the template."""
-        self.folder.run(["cat", "template.red"], "box.red")
-
     def tune_box(self, *words):
         """Tunes the box. Returns how many fights that took, and the last line, that of a check."""
         hosts = [f"--hosts={self.args.hosts}"] if self.args.hosts else []
@@ -121,7 +115,8 @@ class Study:
         args, stage = self.args, self.folder.stage
         stage("schedule", lambda: self.write_series(args.seed, args.rounds, "schedule.csv"),
               "schedule.csv")
-        stage("template", self.copy_template, "box.red")
+        # The settings that are tuned are all of the template.
+        stage("template", lambda: self.folder.run(["cat", "template.red"], "box.red"), "box.red")
         print(f"all {grid.count()} settings are tuned: their ranking is exact", flush=True)
         if "best" not in self.folder.mark.stages:
             self.tell_estimate(grid)
@@ -185,10 +180,7 @@ def print_raced(report):
 
 def print_end(folder, report):
     gain = report["gain"]
-    if report["race"]:
-        print_raced(report)
-    else:
-        print_tuned(report)
+    print_raced(report) if report["race"] else print_tuned(report)
     if gain and report["winner"]["values"] != report["start"]["values"]:
         print(f"over START: {gain_text(gain)}")
         if gain["words"] != "a gain":
@@ -218,11 +210,11 @@ def make_parser():
                         "winner with all fights, check the certificate, and draw its totals")
     parser.add_argument("--by-kind", action="store_true",
                         help="have each folder of opponents count as much as the others")
-    add_anew(parser)
+    add_shared(parser, "--anew")
     add_budget(parser)
-    add_json(parser)
+    add_shared(parser, "--json")
     add_cwtune(parser)
-    add_as_is(parser)
+    add_shared(parser, "--as-is")
     parser.add_argument("warrior", metavar="WARRIOR", help="a template, or with words "
                         "PLACE=VALUES a Redcode text")
     parser.add_argument("opponents", metavar="OPPONENT", nargs="*", default=[],
@@ -243,10 +235,7 @@ def main():
         with contextlib.redirect_stdout(sys.stderr if args.json else sys.stdout):
             study.go()
         with study.folder.reading("report.json") as report:
-            if args.json:
-                print_json(report)
-            else:
-                print_end(study.folder, report)
+            print_json(report) if args.json else print_end(study.folder, report)
     except KeyboardInterrupt:
         tell(f"stopped: what is done is kept in {study.folder.given_path}: repeat the command to "
              "go on")
