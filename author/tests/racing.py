@@ -148,7 +148,7 @@ class Racing(Trial):
     def test_seconds(self):
         """Plays with a clock that goes on by one whenever a thread reads it, as others run."""
         ticks, values = threading.local(), grid.Grid(self.folder / "plane.red")
-        args = argparse.Namespace(jobs=4, hill="nano", program=self.program)
+        args = argparse.Namespace(jobs=4, hill=None, program=self.program)
 
         def tick():
             time.sleep(0.05)
@@ -157,7 +157,7 @@ class Racing(Trial):
 
         with (mock.patch.object(time, "monotonic", tick), race_fights.Processes(
                 args, values, [self.folder / "dat.red"], self.folder) as processes):
-            processes.play([[1, 0]] * 8, [[race_fights.Fight(0, 40, "c")]], tick)
+            processes.play([[1, 0]] * 8, [[race_fights.Fight(0, 4000, "c")]], tick)
         self.same("the seconds of all processes count", 8, processes.seconds)
 
     def test_finds(self):

@@ -272,8 +272,8 @@ class Endings(Trial):
 
     def test_homeless(self):
         """Runs a command that looks for pMARS, for a number that is no user's."""
-        completed = python(HOMELESS, f"--program={self.program}", "dat.red", cwd=self.folder)
-        self.same("no home", (0, FILES["dat.red"]), (completed.returncode, completed.stdout))
+        completed = python(HOMELESS, f"--program={self.program}", "t.red", cwd=self.folder)
+        self.same("no home", (0, FILES["t.red"]), (completed.returncode, completed.stdout))
 
     def pids(self):
         return list(map(int, (self.read("pids") or b"").split()))
