@@ -58,7 +58,7 @@ class Naive:
     """The search, its fights and its dice. `played` counts settings, each time they play."""
 
     def __init__(self, args, folder):
-        self.program, self.opponents, self.grid = args.program, sorted(args.opponent), args.grid
+        self.program, self.opponents, self.grid = args.program, sorted(args.opponents), args.grid
         self.seconds, self.folder, self.played = args.seconds, pathlib.Path(folder), 0
         self.dice, places = random.Random(args.seed), random.Random(args.seed + 1000)
         for rounds in (5, 20, 40):
@@ -135,7 +135,7 @@ def make_parser():
     parser.add_argument("seconds", type=number_from(1), metavar="SECONDS",
                         help="processor time, with that of all children")
     parser.add_argument("seed", type=number_from(0), metavar="SEED")
-    add_files(parser, "template", "opponent")
+    add_files(parser, "template", "opponents")
     return parser
 
 

@@ -12,9 +12,9 @@ PMARS is a server build of pMARS 0.9.2; `make pmars` builds one, and prints its 
 """
 import itertools, pathlib, random, sys, tempfile, time
 
-from author.lib import pmars_program
 from author.lib.adapt import Unwritable, adapt
 from author.lib.endings import Fault, run_tool
+from author.lib.pmars.program import refuse_other
 from author.lib.program import Rules, program_of, run_program
 from author.lib.words import add_program, module_parser, number_from
 
@@ -180,7 +180,7 @@ def compare_adapted(programs):
     for name, text in texts.items():
         try:
             adapted = adapt(name, text, Rules(), programs.cwtune)
-            pmars_program.refuse_other(programs.pmars, name, text, Rules(), adapted.load_file)
+            refuse_other(programs.pmars, name, text, Rules(), adapted.load_file)
         except Unwritable:
             continue
         except Fault as fault:

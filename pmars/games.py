@@ -2,7 +2,7 @@
 import pathlib, subprocess
 
 from author.lib.endings import Fault
-from author.lib.pmars_program import LETTERS
+from author.lib.pmars.program import LETTERS
 from author.lib.series import series
 from author.lib.tuning_files import Fight, schedule_text
 
@@ -23,8 +23,7 @@ class Game:
         # Without an assertion pMARS prints a warning for each warrior.
         self.warriors = [self.write(name, f";assert 1\n{text}")
                          for name, text in [("a.red", candidate), ("b.red", opponent)]]
-        # a template with one setting
-        self.template = self.write("t.red", f";@tune ONE 0 0 1 0\n{candidate}")
+        self.template = self.write("t.red", candidate)
 
     def write(self, name, text):
         path = self.folder / name

@@ -47,7 +47,8 @@ Description: tunes Core War warriors, with a certificate of the answer
 """
 # Python leaves these beside the commands' modules. dpkg does not know of them, so a package removes
 # them itself.
-CACHES = [SHARE / "author/lib" / folder / "__pycache__" for folder in ["", "spread", "study"]]
+CACHES = [SHARE / "author/lib" / folder / "__pycache__"
+          for folder in ["", "adapt", "pmars", "race", "spread", "study"]]
 DEBIAN_PRERM = f"#!/bin/sh\nrm -rf {' '.join(f'/usr/{cache}' for cache in CACHES)}\n"
 
 

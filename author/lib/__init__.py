@@ -1,34 +1,65 @@
 """Holds the commands for authors: a module or a package for each, and what they share.
 
-The modules of commands are adapt, files, holdout, landscape, scores, seek, series, spread, study,
-vary and warrior. Several commands use
+Commands: adapt, files, holdout, landscape, scores, seek, series, spread, study, vary, warrior.
 
-- start, endings: how a command begins, as any Python 3 can read, and how it ends;
-- words, program: parsers with what several commands have, and how `cwtune` is found and run;
-- writing, own_folder: files that are written whole or not at all, and the folder of a long work;
-- regular, schema, cert_inputs: files that may be anything, JSON by a schema, and CERT.inputs;
-- watching, mean_error: how far a long loop is, and the standard error of a mean;
-- tuning_files, grid: schedules, certificates, templates and their settings;
-- places, slots, put_back: what can be opened in a text, how a template keeps the author's lines,
-  and how a text that was adapted gets the values.
+start            how a command begins, as any Python 3 can read
+endings          how it ends
+words            parsers, with what several commands have
+program          how `cwtune` is found and run, and the rules
+writing          files that are written whole or not at all
+own_folder       the folder of a long work
+regular          files that may be anything
+schema           JSON by a schema
+cert_inputs      CERT.inputs, which says what a certificate is for
+watching         how far a long loop is
+mean_error       the standard error of a mean
+grid             range lines, and settings of any number
+tuning_files     templates, schedules and certificates
+openings         the words of `cwtune-vary`
+places           what can be opened in a text
+slots            how a template keeps the author's lines
+put_back         how a text that was adapted gets the values
+traced           text that knows where it comes from
 
-To adapt a text, pmars_tokens, pmars_values, pmars_text and pmars_code read it as pMARS does and
-make its load file. Meanwhile adapt_changes collects what has to be written otherwise, CURLINE by
-adapt_counts. adapt_passes writes it, in lines that know where they come from (traced), and
-pmars_program runs pMARS itself. The words of `cwtune-vary` are read in openings.
+pmars            Redcode as pMARS reads it
+pmars.tokens     tokens
+pmars.values     expressions
+pmars.text       labels, EQU, FOR and assertions
+pmars.code       the load file
+pmars.program    pMARS itself, run to compare
 
-A spread has its options in spread/words. spread/parts and shares say what its jobs are, in a folder
-as spread/folder makes it. spread/jobs runs them here, and spread/hosts, with job.sh, on other
-hosts; progress shows how far they are, and report puts parts together.
+adapt            `cwtune-adapt`, and how commands adapt a text by themselves
+adapt.changes    what has to be written otherwise
+adapt.counts     how CURLINE is written
+adapt.passes     the changes made, pass by pass
 
-A race is in race. race_settings has its new settings, and race_model guesses what they make.
-race_fights plays, race_hosts, with race_job.sh, has hosts play ahead, and race_journal keeps what
-was played in a file.
+race             a race: rounds, heats, final, gain
+race.settings    new settings
+race.model       what they are guessed to make
+race.fights      the fights, and the budget
+race.hosts       what hosts play ahead, by job.sh
+race.journal     the file of what was played
 
-A study reads its inputs in study/inputs, and keeps its stages in study/folder. study/race has the
-stages of a template that is too large to be tuned whole; of others study/fresh plays the heats.
-study/result collects the numbers of report.json, and study/report makes the page of these, with the
-pictures of charts and maps, the pieces of page and the style sheet of style.
+spread           `cwtune-spread`: parts and shares, and the end of them
+spread.words     its options
+spread.folder    the folder of its jobs
+spread.parts     the jobs of a tuning
+spread.shares    the jobs of a check
+spread.jobs      jobs on this host
+spread.hosts     jobs on other hosts, by job.sh
+spread.progress  how far they are
+spread.report    the parts put together
+
+study            `cwtune-study`: the stages
+study.inputs     its words and files
+study.folder     its folder, the stages that are done and their commands
+study.fresh      the fresh fights of a template that is tuned whole
+study.raced      the stages of one that is too large for that
+study.result     the numbers of report.json
+study.report     the page of these
+study.charts     bars and lines
+study.maps       totals as lines and maps
+study.page       pieces of a page, in the styles of style.css
 
 Where nothing else is said, a name means this:
 
@@ -36,5 +67,6 @@ Where nothing else is said, a name means this:
 - `ranges`: the values that each constant may have; `constant`: the index of one;
 - `cert`: a certificate, or its path in `args`, which are the words of a command once parsed;
 - `completed`: a run of a program that has ended;
-- `number`: which part, share or heat, counted from 1; `piece`: a part or a share.
+- `number`: which part, share or heat, counted from 1;
+- `piece`: a part or a share, and of a race some settings in some blocks.
 """

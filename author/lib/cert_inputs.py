@@ -11,16 +11,16 @@ from .endings import Fault, note
 from .program import HILLS, Rules, fill_rules
 from .regular import NotRegular, digest_of, read_regular
 from .schema import checked
-from .tuning_files import MOST_OPPONENTS
+from .tuning_files import MOST_OPPONENTS, Certificate, Template
 
 # What follows CERT in the name of its file.
 SUFFIX = ".inputs"
-KINDS = ["template", "schedule", "opponent"]
+FILES = ["template", "schedule"]
+KINDS = [*FILES, "opponent"]
 # More than such a file has, with the longest names.
-MOST_BYTES = 1 << 20
+MOST_INPUTS_BYTES = 1 << 20
 # A size and a SHA-256 digest as one text. `cwtune` reads no file above 1 GiB.
 Digest = Annotated[str, re.compile(r"\d{1,10} [0-9a-f]{64}")]
-FIELD = re.compile(r"(?s)(\d+ [0-9a-f]+) (.+)")
 # A file of the tuning: its size and digest, and its name.
 File = tuple[Digest, Annotated[str, range(1, 1 << 16)]]
 
@@ -41,12 +41,15 @@ def inputs_of(text):
     """Returns what the text of such a file says. Raises a ValueError if it is malformed."""
     # A name goes to the line feed, and may have other bytes at which `splitlines` would split.
     lines = [line.split(" ", 1) for line in os.fsdecode(text).removesuffix("\n").split("\n")]
-    fields = dict(lines)
+    if lines[0] != ["cwtune", "inputs 1"]:
+        raise ValueError
+    fields = dict(lines) | {kind: [] for kind in KINDS}
     fields["rules"] = [int(number) if re.fullmatch("[0-9]{1,10}", number) else None
-                       for number in fields.get("rules", "").split()]
-    for kind in KINDS:
-        fields[kind] = [list(FIELD.fullmatch(field).groups()) if FIELD.fullmatch(field) else []
-                        for word, field in lines if word == kind]
+                       for number in dict(lines).get("rules", "").split()]
+    for word, field in lines:
+        if word in KINDS:
+            size, sha256, name = field.split(" ", 2)
+            fields[word].append([f"{size} {sha256}", name])
     return checked(CertInputs, fields)
 
 
@@ -54,7 +57,7 @@ def read(cert):
     """Returns which inputs a certificate is for, or a text that says why that is not known."""
     name = f"{cert}{SUFFIX}"
     try:
-        inputs = inputs_of(read_regular(MOST_BYTES, name))
+        inputs = inputs_of(read_regular(MOST_INPUTS_BYTES, name))
     except FileNotFoundError:
         return f"{name} is not there"
     except NotRegular as fault:
@@ -86,12 +89,20 @@ def settle(args):
         return inputs
     fill_rules(args, Rules(*inputs.rules))
     refuse_other_rules(args, inputs.rules)
-    for kind in KINDS[:2]:
+    for kind in FILES:
         if hasattr(args, kind):
             setattr(args, kind, settled_file(inputs, kind, 0, getattr(args, kind)))
     if hasattr(args, "opponents"):
         args.opponents = settled_opponents(inputs, args.opponents)
     return ""
+
+
+def read_tuning(args):
+    """Returns the certificate, its template or None, and why CERT.inputs is not used."""
+    cert = Certificate(args.cert)
+    why_unused = settle(args)
+    template = Template(args.template).checked_for(cert) if args.template else None
+    return cert, template, why_unused
 
 
 def print_note(why_unused):
@@ -113,9 +124,9 @@ def refuse_other_tuning(args, cert, part, method):
         if inputs.method != method:
             raise Fault(f"its method is `{inputs.method}`, not `{method}`", 2)
         refuse_other_rules(args, inputs.rules)
-        for kind in KINDS[:2]:
+        for kind in FILES:
             settled_file(inputs, kind, 0, getattr(args, kind))
-        settled_opponents(inputs, args.opponent)
+        settled_opponents(inputs, args.opponents)
     except Fault as fault:
         raise Fault(f"{cert} is not part {part} of this tuning: {fault}", 2) from None
 
@@ -152,7 +163,7 @@ def text_of(version, rules, method, cert, files):
     """Returns the text of CERT.inputs. `files`: the template, the schedule, the opponents."""
     if any("\n" in name for name in [*files, os.getcwd()]):
         raise ValueError
-    kinds = KINDS[:2] + ["opponent"] * (len(files) - 2)
+    kinds = FILES + ["opponent"] * (len(files) - 2)
     return "".join([
         f"cwtune inputs 1\nprogram {version}\nrules {' '.join(map(str, rules))}\npart 1/1\n",
         f"method {method}\ncert {digest_of(cert)}\nfolder {os.getcwd()}\n",

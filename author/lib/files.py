@@ -9,7 +9,7 @@ from .words import command_parser, counted
 
 def describe(path):
     with open(path, encoding="latin-1") as file:
-        first_field = file.read(4096).split(",", 1)[0].lstrip("\xef\xbb\xbf\"\r\n")
+        first_field = file.read(4096).split(",", 1)[0].strip("\xef\xbb\xbf\"\r\n")
     if first_field == "opponent":
         fights = read_schedule(path)
         return f"schedule of {counted(len(fights), 'fight')}, greatest total {fights.greatest}"

@@ -2,10 +2,9 @@
 import math, pathlib, re
 
 from .endings import Fault
+from .pmars.tokens import NAME
 
 BLANKS = b" \t\r"
-# The name of a constant.
-NAME = "[A-Za-z_][A-Za-z0-9_]*"
 # A line of the author's text that `cwtune-vary` keeps in a template, and a slot in it (`slots`).
 KEPT, SLOT = ";@text ", re.compile(rf"\[({NAME})(?::([^\]\n]*))?\]")
 # A line of a template whose text `cwtune-adapt` wrote.

@@ -2,14 +2,18 @@
 
 A tuning picks the setting that was best in a few fights, and part of that is luck. Here START and
 the K best settings among those that played all fights of the tuning play R fights against each
-opponent, at random positions, moving first in every other fight; positions and first movers are the
-same for all settings. For each setting a line says its total in the tuning and in the fresh fights,
-the points as a part of the greatest total, in percent, and the standard error of that. A line after
-these compares the best one with START, or with the warrior of --against, such as the text that the
-template was made of. A setting has a rank if the certificate shows it: that of `cwtune tune --keep
-K` shows the first K. Each opponent counts in the fresh fights as much as in the tuning. Rules,
-schedule and opponents are those of the tuning, as CERT.inputs names them; without that file give
-them.
+opponent, at random positions, moving first in every other fight, the same for all settings.
+
+For each setting a line says its total in the tuning and in the fresh fights, the points as a part
+of the greatest total, in percent, and the standard error of that. A line after these compares the
+best one with START, or with the warrior of --against, such as the text that the template was made
+of.
+
+A setting has a rank if the certificate shows it: that of `cwtune tune --keep K` shows the first K.
+Each opponent counts in the fresh fights as much as in the tuning.
+
+Rules, schedule and opponents are those of the tuning, as CERT.inputs names them; without that file
+give them.
 
 Example: cwtune-holdout my.red my.cert
 """
@@ -21,8 +25,8 @@ from .endings import Fault, escaped, fault_of
 from .mean_error import error_of_mean
 from .program import EXPLAIN, rules_of, run_program
 from .series import refuse_distance, refuse_fights
-from .words import (FILE_HELP, add_cwtune, add_files, add_json, add_number, command_parser, counted,
-                    print_json)
+from .words import (FILE_HELP, add_cwtune, add_files, add_number, add_shared, command_parser,
+                    counted, print_json)
 from .writing import temporary_folder
 
 
@@ -108,10 +112,8 @@ def gain_text(gain):
 class Holdout:
     """The settings of a certificate, and what they make in fresh fights."""
 
-    def __init__(self, args):
-        self.args = args
-        self.cert = tuning_files.Certificate(args.cert)
-        self.template = tuning_files.Template(args.template).checked_for(self.cert)
+    def __init__(self, args, cert, template):
+        self.args, self.cert, self.template = args, cert, template
         self.fights = self.cert.fights(args.schedule)
         self.weights = weights_by_opponent(args.schedule, len(args.opponents))
         self.ranking = self.cert.ranked(self.fights)
@@ -133,7 +135,7 @@ class Holdout:
         with temporary_folder() as folder:
             files = [pathlib.Path(folder, name) for name in ("t.red", "s.csv", "cert")]
             template, schedule, cert = files
-            template.write_bytes(b";@tune ONE 0 0 1 0\n" + load_file)
+            template.write_bytes(load_file)
             schedule.write_text(self.schedule())
             output_of(args.program, "tune", *EXPLAIN, *rules, "--", *files, *args.opponents)
             points = tuning_files.Certificate(cert).points(0)
@@ -216,34 +218,27 @@ def make_parser():
     add_number(parser, "--top", "K", 5, "how many settings play, beside START")
     add_number(parser, "--rounds", "R", 100, "fights against each opponent")
     add_number(parser, "--seed", "S", 1, "another number gives other positions", low=0)
-    parser.add_argument("--schedule", metavar="FILE",
-                        help="the schedule [default: that of the tuning]")
+    add_shared(parser, "--schedule")
     parser.add_argument("--against", metavar="FILE",
                         help="compare with the warrior of this Redcode text, and not with START")
-    add_json(parser)
+    add_shared(parser, "--json")
     add_cwtune(parser, of_tuning=True)
     add_files(parser, "template", "cert")
     parser.add_argument("opponents", metavar="OPPONENT", nargs="*", default=[],
-                        help=FILE_HELP["opponent"] + " [default: those of the tuning]")
+                        help=FILE_HELP["opponents"] + " [default: those of the tuning]")
     return parser
 
 
-def read_words():
-    """Returns the words of the command, and why CERT.inputs is not used, or an empty text."""
+def main():
     parser = make_parser()
     args = parser.parse_mixed()
-    why_unused = cert_inputs.settle(args)
+    cert, template, why_unused = cert_inputs.read_tuning(args)
     if not args.opponents:
         reason = why_unused or "the opponents of the tuning are not there"
         parser.error(f"give OPPONENT..: {reason}")
     refuse_fights(parser, "--rounds", args.rounds, len(args.opponents))
     refuse_distance(parser, rules_of(args))
-    return args, why_unused
-
-
-def main():
-    args, why_unused = read_words()
-    holdout = Holdout(args)
+    holdout = Holdout(args, cert, template)
     if args.json:
         print_json(holdout.numbers())
     else:

@@ -15,7 +15,7 @@ from . import cert_inputs, tuning_files
 from .endings import Fault, quoted
 from .mean_error import error_of_mean
 from .watching import watched
-from .words import add_files, command_parser
+from .words import add_files, add_shared, command_parser, number_from
 from .writing import whole_file
 
 MOST_MAPS = 36
@@ -142,37 +142,50 @@ def grid_of(plot, count, **sharing):
 
 
 def draw_maps(plot, totals, x, y):
-    names, ranges = totals.template.names, totals.template.ranges
-    shown = [[totals.template.shown_value(name, value) for value in values]
-             for name, values in zip(names, ranges)]
-    others = [constant for constant in range(len(names)) if constant not in (x, y)]
+    template, greys = totals.template, totals.greys()
+    others = [constant for constant in range(len(template.names)) if constant not in (x, y)]
     total_maps, cap_maps = maps_of(totals, x, y, others)
     figure, axes_of_maps, grid = grid_of(plot, len(total_maps))
     numbers = [total for total in totals.totals if not math.isnan(total)]
-    greys, settings = totals.greys(), totals.template.values_of_settings
-    marked = [(settings[totals.template.start], START_MARK), (settings[totals.best], BEST_MARK)]
-    choices = itertools.product(*(ranges[constant] for constant in others))
-    # How many values have room from left to right.
-    longest = max(len(str(value)) for value in shown[x])
-    most_across = max(1, min(8, int(inches_across(grid.shape[1]) * 72 * 0.7 // (7 * longest + 8))))
+    scale = {"cmap": "viridis", "vmin": min(numbers), "vmax": max(numbers), **MAP_SCALE}
+    choices = itertools.product(*(template.ranges[constant] for constant in others))
     for axes, choice, total_map, cap_map in zip(axes_of_maps, choices, total_maps, cap_maps):
         if greys:
             axes.imshow(cap_map, **greys, **MAP_SCALE)
-        image = axes.imshow(total_map, cmap="viridis", vmin=min(numbers), vmax=max(numbers),
-                            **MAP_SCALE)
-        label_ticks(axes.set_xticks, shown[x], most_across)
-        label_ticks(axes.set_yticks, shown[y], 8)
-        axes.set_title(" ".join(f"{names[constant]}="
-                                f"{totals.template.shown_value(names[constant], value)}"
-                                for constant, value in zip(others, choice)), fontsize=9)
-        axes.set_xlabel(names[x])
-        axes.set_ylabel(names[y])
-        for values, style in marked:
-            if choice == tuple(values[constant] for constant in others):
-                axes.plot([ranges[x].index(values[x])], [ranges[y].index(values[y])], **style)
+        image = axes.imshow(total_map, **scale)
+        held = dict(zip(others, choice))
+        label_map(axes, template, x, y, held, inches_across(grid.shape[1]))
+        mark_settings(axes, totals, x, y, held)
     label = "total (star: best, ring: START" + (", grey: dropped)" if greys else ")")
     figure.colorbar(image, ax=grid, label=label).locator.set_params(integer=True)
     return figure
+
+
+def label_map(axes, template, x, y, held, inches):
+    """Labels a map, which is so many inches wide. `held` has the values of the other constants."""
+    names = template.names
+    across, upwards = ([template.shown_value(names[constant], value)
+                        for value in template.ranges[constant]] for constant in (x, y))
+    longest = max(len(str(value)) for value in across)
+    # How many values have room from left to right.
+    most_across = max(1, min(8, int(inches * 72 * 0.7 // (7 * longest + 8))))
+    label_ticks(axes.set_xticks, across, most_across)
+    label_ticks(axes.set_yticks, upwards, 8)
+    title = " ".join(f"{names[constant]}={template.shown_value(names[constant], value)}"
+                     for constant, value in held.items())
+    axes.set_title(title, fontsize=9)
+    axes.set_xlabel(names[x])
+    axes.set_ylabel(names[y])
+
+
+def mark_settings(axes, totals, x, y, held):
+    """Marks START and the best setting in the map that they are in."""
+    template = totals.template
+    for setting, style in [(template.start, START_MARK), (totals.best, BEST_MARK)]:
+        values = template.values_of_settings[setting]
+        if all(values[constant] == value for constant, value in held.items()):
+            axes.plot([template.ranges[x].index(values[x])],
+                      [template.ranges[y].index(values[y])], **style)
 
 
 def effect_of(template, totals, constant):
@@ -226,11 +239,10 @@ def make_parser():
     parser = command_parser(__doc__)
     add_files(parser, "template", "cert")
     parser.add_argument("picture", metavar="PICTURE", help="a name that ends with .png or .svg")
-    parser.add_argument("--schedule", metavar="FILE",
-                        help="the schedule [default: that of the tuning]")
+    add_shared(parser, "--schedule")
     parser.add_argument("--axes", metavar="A,B", help="the constants from left to right and "
                         "upwards [default: the last two, the last from left to right]")
-    parser.add_argument("--opponent", type=int, metavar="N",
+    parser.add_argument("--opponent", type=number_from(0), metavar="N",
                         help="count the fights against opponent N alone")
     parser.add_argument("--effects", metavar="PICTURE",
                         help="draw the mean total of each value of each constant, too")
@@ -251,10 +263,8 @@ def main():
     for picture in filter(None, [args.picture, args.effects]):
         if picture[-4:] not in (".png", ".svg"):
             parser.error(f"the picture's name has to end with .png or .svg: {picture}")
-    template = tuning_files.Template(args.template)
-    cert = tuning_files.Certificate(args.cert)
-    why_unused = cert_inputs.settle(args)
-    if not template.checked_for(cert).names:
+    cert, template, why_unused = cert_inputs.read_tuning(args)
+    if not template.names:
         parser.error("the template has no constants to draw")
     fights = cert.fights(args.schedule)
     refuse_opponent(parser, args, fights)

@@ -3,8 +3,8 @@ import argparse, re
 from typing import NamedTuple
 
 from .endings import Fault
-from .grid import NAME
-from .places import FIELDS, MODES, MODIFIERS, OPCODES, PLACE
+from .places import FIELDS, MODIFIERS, OPCODES, PLACE
+from .pmars.tokens import MODES, NAME
 from .slots import STRATEGY
 
 NUMBERS = re.compile(r"(-?[0-9]{1,5}):(-?[0-9]{1,5})(?::([0-9]{1,5}))?")
@@ -50,11 +50,11 @@ def opening_from(word):
         raise malformed(word)
     if match[2] in (None, "a", "b"):
         return Opening(word, place, numbers_from(word, values))
-    kind = match[2].rpartition("-")[2]
-    known = {"mode": list(MODES), "modifier": MODIFIERS, "opcode": OPCODES}[kind]
+    kind, known = {"mode": ("a mode", list(MODES)), "modifier": ("a modifier", MODIFIERS),
+                   "opcode": ("an opcode", OPCODES)}[match[2].rpartition("-")[2]]
     texts = values.lower().split(",")
     if strange := [text for text in texts if text not in known]:
-        raise argparse.ArgumentTypeError(f"{word}: {strange[0] or 'nothing'} is no {kind}; there "
+        raise argparse.ArgumentTypeError(f"{word}: {strange[0] or 'nothing'} is not {kind}; there "
                                          f"are {' '.join(known)}")
     return Opening(word, place, list(dict.fromkeys(texts)))
 
@@ -67,10 +67,9 @@ def malformed(word):
 
 def numbers_from(word, text):
     match = NUMBERS.fullmatch(text)
-    numbers = [int(number or 1) for number in (match.groups() if match else text.split(","))
-               if match or LIST.fullmatch(text)]
-    if not numbers:
+    if not match and not LIST.fullmatch(text):
         raise malformed(word)
+    numbers = [int(number or 1) for number in (match.groups() if match else text.split(","))]
     if max(map(abs, numbers)) > MOST_VALUE:
         raise argparse.ArgumentTypeError(f"{word}: values are -{MOST_VALUE} to {MOST_VALUE}")
     if not match:
@@ -101,12 +100,12 @@ def constant_of(spot, opening, text):
     values = range(numbers[0], numbers[-1] + 1, numbers[1] - numbers[0] if numbers[1:] else 1)
     if list(values) != numbers:
         return constant_of_list(spot, f"{spot.name}.choice", list(opening.values), text)
-    return Constant(number_name(spot, text), values, start, []), tried_too(spot, opening)
+    return Constant(number_name(spot, text), values, start, []), tried_too(spot, opening.values)
 
 
 def constant_of_list(spot, name, texts, text):
     """Returns the constant for a place with a list, and a note as `constant_of` does."""
-    spelled, note = spot.spelled(), tried_too(spot, Opening("", "", texts))
+    spelled, note = spot.spelled(), tried_too(spot, texts)
     own = own_value(spot)
     if note:
         texts = [own, *texts]
@@ -126,10 +125,10 @@ def own_value(spot):
     return "$" if spot.kind == "mode" and not own else SAME.get(own, own)
 
 
-def tried_too(spot, opening):
+def tried_too(spot, values):
     """Returns a note if the text's own value is not in a list, or an empty text."""
     own = own_value(spot)
-    if own in [SAME.get(word, word) for word in opening.values]:
+    if own in [SAME.get(word, word) for word in values]:
         return ""
     return f"{spot.name} is {own or 'not written'}, which is tried too"
 

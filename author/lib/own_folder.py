@@ -17,7 +17,7 @@ from .schema import Malformed, from_json
 from .writing import naming, replacing
 
 # More than any file of JSON that a command makes has.
-MOST_BYTES = 1 << 26
+MOST_JSON_BYTES = 1 << 26
 
 
 def untouched(shown, what):
@@ -39,6 +39,7 @@ class Room:
                 raise untouched(shown, kind_of(mode)) from None
             raise
         if os.fstat(self.descriptor).st_uid != os.geteuid():
+            self.close()
             raise untouched(shown, "of another user")
 
     def close(self):
@@ -143,7 +144,7 @@ class OwnFolder:
     def load(self, name, schema):
         """Returns what a file of JSON says by a schema. Raises Malformed or FileNotFoundError."""
         with self.room_of(name) as (room, file_name):
-            return from_json(schema, read_regular(MOST_BYTES, **room.place(file_name)))
+            return from_json(schema, read_regular(MOST_JSON_BYTES, **room.place(file_name)))
 
     def write_mark(self, mark):
         with self.whole_file(self.MARK) as file:

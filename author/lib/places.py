@@ -4,20 +4,22 @@ A *place* is written NAME or NAME.N for the text of an EQU line, and LINE.FIELD 
 another line. LINE is a label or the number of a line; FIELD is a, b, a-mode, b-mode, modifier or
 opcode; N is which number of the text or of the field is meant, from 1.
 
-Of an adapted text, places and numbers of lines are those of the author's own text. What
-`cwtune-adapt` wrote is no place, and what became several of one place stays one.
+Of an adapted text, places and numbers of lines are those of the author's own text. Text that
+`cwtune-adapt` wrote cannot be opened. Copies of one place are opened as one.
 """
 import difflib, re
 from typing import NamedTuple
 
+from .adapt import Adapted
 from .endings import Fault, shown
-from .grid import NAME
-from .pmars_tokens import code_of
+from .pmars import tokens
+from .pmars.tokens import MODES, NAME, code_of
 from .traced import Place
 from .words import counted
 
-OPCODES = "dat mov add sub mul div mod jmp jmz jmn djn cmp seq sne slt spl nop".split()
-MODES, MODIFIERS = "#$*@{<}>", ["a", "b", "ab", "ba", "f", "x", "i"]
+OPCODES = [word.lower() for word in tokens.OPCODES
+           if word not in tokens.P_SPACE_OPCODES + tokens.PSEUDO_OPCODES]
+MODIFIERS = [word.lower() for word in tokens.MODIFIERS]
 FIELDS = ["a", "b", "a-mode", "b-mode", "modifier", "opcode"]
 PLACE = (rf"({NAME}|[1-9][0-9]{{0,4}})(?:\.({'|'.join(sorted(FIELDS, reverse=True))}))?"
          r"(?:\.([1-9][0-9]{0,3}))?")
@@ -25,7 +27,7 @@ PLACE = (rf"({NAME}|[1-9][0-9]{{0,4}})(?:\.({'|'.join(sorted(FIELDS, reverse=Tru
 HEAD = re.compile(rf"\s*((?:{NAME}(?:\s*&\s*{NAME})*(?:\s*:\s*|\s+))*?)"
                   rf"({'|'.join(OPCODES)}|org|end|equ|for|rof)(?![A-Za-z0-9_&])", re.I)
 LONE_LABELS = re.compile(rf"\s*((?:{NAME}(?:\s*:\s*|\s+))+)")
-MODIFIER = re.compile(r"\s*\.\s*(ab|ba|[abfxi])(?![A-Za-z0-9_])", re.I)
+MODIFIER = re.compile(rf"\s*\.\s*({'|'.join(MODIFIERS)})(?![A-Za-z0-9_])", re.I)
 OPERAND = re.compile(rf"\s*([{re.escape(MODES)}]?)\s*(.*?)\s*", re.S)
 PLAIN = re.compile(r"\+?(-?[0-9]+)|\(\s*\+?(-?[0-9]+)\s*\)")
 # A number in an expression. That in `step-(-2)` is negative.
@@ -57,7 +59,7 @@ class Line(NamedTuple):
     fields: dict
     hidden: dict
     depth: int
-    adapted: object
+    adapted: Adapted | None
     numbers: set
 
     def spelled(self, span):

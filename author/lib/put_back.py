@@ -1,6 +1,7 @@
 """Puts the values of a setting into the text that `cwtune-adapt` made the author's text of.
 
-The template has the adapted text. Which character of that comes from where, the adapted text knows.
+The template was made of the adapted text, which knows of each character where it is in the author's
+text.
 """
 import re
 

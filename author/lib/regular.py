@@ -43,13 +43,12 @@ def read_regular(most, *place, **more):
         return text
 
 
-def sha256_of(*place, **more):
-    with open_regular(*place, **more) as file:
-        return hashlib.file_digest(file, "sha256").hexdigest()
-
-
 def digest_of(*place, **more):
     """Returns the size and the digest of a file as CERT.inputs has them."""
     with open_regular(*place, **more) as file:
         size = os.fstat(file.fileno()).st_size
         return f"{size} {hashlib.file_digest(file, 'sha256').hexdigest()}"
+
+
+def sha256_of(*place, **more):
+    return digest_of(*place, **more).split()[1]

@@ -47,7 +47,9 @@ def checked(schema, value, entry=""):
     if typing.is_typeddict(schema):
         return value | entries(schema, of_type(dict, value, entry), entry)
     if schema is float:
-        return finite(value, entry)
+        if type(value) not in (int, float) or abs(value) > 1e300 or math.isnan(value):
+            raise named(entry, "not a number")
+        return value
     return of_type(schema, value, entry)
 
 
@@ -58,12 +60,6 @@ def named(entry, what):
 def of_type(kind, value, entry):
     if type(value) is not kind:
         raise named(entry, f"not {NAMES[kind]}")
-    return value
-
-
-def finite(value, entry):
-    if type(value) not in (int, float) or abs(value) > 1e300 or math.isnan(value):
-        raise named(entry, "not a number")
     return value
 
 

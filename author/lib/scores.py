@@ -11,7 +11,8 @@ from . import cert_inputs, tuning_files
 from .endings import Fault, note
 from .program import assemble, rules_of
 from .watching import watched
-from .words import add_files, add_json, add_cwtune, add_number, command_parser, counted, print_json
+from .words import (add_cwtune, add_files, add_number, add_shared, command_parser, counted,
+                    print_json)
 
 # With more settings than this none is assembled, to save time.
 MOST_ASSEMBLED = 2000
@@ -23,7 +24,8 @@ def scores_of(setting, cert, fights, template):
     opponents = sorted({fight.opponent for fight in fights})
     return {"setting": setting, "values": template and template.values_by_name(setting),
             "total": cert.total_of(setting, fights),
-            "opponents": points and [score_of(opponent, points, fights) for opponent in opponents]}
+            "opponents": None if points is None else [score_of(opponent, points, fights)
+                                                      for opponent in opponents]}
 
 
 def score_of(opponent, points, fights):
@@ -167,7 +169,7 @@ def make_parser():
                         "and for START [default: that of the tuning]")
     add_number(parser, "--top", "K", 10, "how many of the best settings")
     output = parser.add_mutually_exclusive_group()
-    add_json(output)
+    add_shared(output, "--json")
     output.add_argument("--csv", action="store_true",
                         help="print the total of each setting, a line for each, with commas")
     add_cwtune(parser, of_tuning=True)
@@ -177,12 +179,10 @@ def make_parser():
 def main():
     parser = make_parser()
     args = parser.parse_mixed()
-    why_unused = cert_inputs.settle(args)
+    cert, template, why_unused = cert_inputs.read_tuning(args)
     if args.schedule is None:
         parser.error(f"give SCHEDULE: {why_unused or 'the schedule of the tuning is not there'}")
-    cert = tuning_files.Certificate(args.cert)
     fights = cert.fights(args.schedule)
-    template = tuning_files.Template(args.template).checked_for(cert) if args.template else None
     if args.csv:
         print_totals(cert, fights, template)
     else:

@@ -17,14 +17,14 @@ Example: cwtune-seek --minutes 10 my.red fights.csv dwarf.red scanner.red > bett
 import math, pathlib, sys
 
 from . import holdout
-from .adapt import adapted_for, adapted_opponents, add_as_is, read_text
+from .adapt import adapted_for, adapted_opponents, read_text
 from .endings import Fault, note, tell
 from .grid import Grid
 from .program import run_program
 from .race import Race
-from .race_fights import Arena, add_budget, budget_of
+from .race.fights import Arena, add_budget, budget_of
 from .tuning_files import MOST_SETTINGS
-from .words import (add_files, add_json, add_cwtune, add_number, command_parser, number_from,
+from .words import (add_cwtune, add_files, add_number, add_shared, command_parser, number_from,
                     print_json)
 from .writing import temporary_folder
 
@@ -74,13 +74,13 @@ def ranges_of(args, grid, values):
 def make_parser():
     parser = command_parser(__doc__)
     add_budget(parser)
-    add_json(parser)
+    add_shared(parser, "--json")
     add_number(parser, "--seed", "N", 1, "another number gives other settings and positions", low=0)
     parser.add_argument("--box", type=number_from(0), metavar="N",
                         help="cut each range to N values on both sides of the winner's")
     add_cwtune(parser)
-    add_as_is(parser)
-    add_files(parser, "template", "schedule", "opponent")
+    add_shared(parser, "--as-is")
+    add_files(parser, "template", "schedule", "opponents")
     return parser
 
 
@@ -118,8 +118,8 @@ def main():
         raise Fault(f"{args.template}: no range line, which begins `;@tune` at the left margin "
                     "(cwtune-vary makes a template of a text with EQU lines)")
     run_program(args.program, "--version")
-    weights = holdout.weights_by_opponent(args.schedule, len(args.opponent))
-    opponents = [path for path, weight in zip(args.opponent, weights) if weight]
+    weights = holdout.weights_by_opponent(args.schedule, len(args.opponents))
+    opponents = [path for path, weight in zip(args.opponents, weights) if weight]
     weights = list(filter(None, weights))
     winner, outcome = seek(args, grid, opponents, weights)
     text = grid.text(ranges_of(args, grid, winner), winner)

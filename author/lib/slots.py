@@ -17,7 +17,7 @@ from typing import NamedTuple
 from .endings import Fault
 from .grid import ADAPTED, KEPT, SLOT, is_range_line
 from .places import HEAD
-from .pmars_tokens import code_of
+from .pmars.tokens import code_of
 
 # What the line with the values of a setting begins with.
 STRATEGY = ";strategy cwtune: "

@@ -4,7 +4,7 @@ A file that is none of these is refused in a few words; what exactly is wrong wi
 says. A setting is its index here, as in the output of `cwtune`; `settings` of a template has the
 values of each.
 """
-import array, bisect, collections.abc, csv, functools, itertools, math, os, re
+import array, bisect, collections.abc, contextlib, csv, functools, itertools, math, os, re
 from typing import NamedTuple
 
 from .endings import Fault, escaped
@@ -14,7 +14,7 @@ from .watching import watched
 HEADER = ["opponent", "position", "first"]
 # What `cwtune` takes at most: of a template its bytes, constants and settings, of a schedule its
 # fights and their weights, of a tuning its opponents and how many of the ranking it keeps.
-MOST_BYTES, MOST_CONSTANTS, MOST_SETTINGS = 65536, 8, 1000000
+MOST_TEMPLATE_BYTES, MOST_CONSTANTS, MOST_SETTINGS = 65536, 8, 1000000
 MOST_FIGHTS, MOST_WEIGHT, MOST_OPPONENTS, MOST_KEPT = 10000, 1000, 64, 1000
 # The points of a cap row that lists a fight.
 LISTED = re.compile(r"[0-9]{1,10}:[013](?: [0-9]{1,10}:[013])*")
@@ -71,10 +71,6 @@ class Settings(collections.abc.Sequence):
             setting = setting * len(of_constant) + of_constant.index(value)
         return setting
 
-    def __contains__(self, values):
-        return len(values) == len(self.ranges) and all(
-            value in of_constant for of_constant, value in zip(self.ranges, values))
-
 
 class Template(Grid):
     """A template as `cwtune` takes it. `values_of_settings` has the values of its settings, the
@@ -90,10 +86,10 @@ class Template(Grid):
     def read(self, path):
         """Returns the text. Refuses one that cannot be that of a template."""
         with open(path, "rb") as file:
-            text = file.read(MOST_BYTES + 1)
+            text = file.read(MOST_TEMPLATE_BYTES + 1)
             size = max(len(text), os.fstat(file.fileno()).st_size)
-        if size > MOST_BYTES:
-            raise Fault(f"{path}: {size} bytes, more than the {MOST_BYTES} of a template")
+        if size > MOST_TEMPLATE_BYTES:
+            raise Fault(f"{path}: {size} bytes, more than the {MOST_TEMPLATE_BYTES} of a template")
         if b"\0" in text or not text.strip():
             raise Fault(f"{path}: not a template, a schedule or a certificate")
         return text
@@ -292,15 +288,12 @@ def read_records(path):
 
 def read_schedule(path):
     """Returns the fights of a schedule. Without the field `weight` each weight is 1."""
-    try:
+    with contextlib.suppress(ValueError, csv.Error):
         header, *records = read_records(path)
-        has_weights = header == [*HEADER, "weight"]
-        fights = Fights(read_fight(record if has_weights else [*record, "1"]) for record in records)
-    except (ValueError, csv.Error):
-        header, fights = None, []
-    if not 0 < len(fights) <= MOST_FIGHTS or not (has_weights or header == HEADER):
-        raise Fault(f"{path}: not a schedule")
-    return fights
+        if header in (HEADER, [*HEADER, "weight"]) and 0 < len(records) <= MOST_FIGHTS:
+            weight = [] if "weight" in header else ["1"]
+            return Fights(read_fight([*record, *weight]) for record in records)
+    raise Fault(f"{path}: not a schedule")
 
 
 def schedule_text(fights):

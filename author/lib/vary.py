@@ -15,16 +15,16 @@ Example: cwtune-vary my.red STEP=5:4000:10 'throw.a-mode=<,>,{' > my-template.re
 import itertools, math, re, sys
 from typing import NamedTuple
 
-from .adapt import adapted_by, add_as_is
+from .adapt import Adapted, adapted_by
 from .endings import Fault, note
 from .grid import ADAPTED, KEPT, is_range_line
-from .openings import constant_of, opening_from
-from .places import FIELDS, OPCODES, Span, lines_of, spot_of, spots_in
-from .pmars_tokens import code_of
+from .openings import Constant, constant_of, opening_from
+from .places import FIELDS, OPCODES, Span, Spot, lines_of, spot_of, spots_in
+from .pmars.tokens import code_of
 from .program import assemble_bytes, load_file_of, refuse_other_warrior, rules_of
 from .slots import code_of_kept
 from .tuning_files import MOST_CONSTANTS, MOST_SETTINGS
-from .words import add_cwtune, command_parser, counted
+from .words import add_cwtune, add_shared, command_parser, counted
 
 # What the list has for a field that is not written.
 UNWRITTEN = {"a-mode": "$", "b-mode": "$", "modifier": "-"}
@@ -34,17 +34,14 @@ class Source(NamedTuple):
     """A text that is read, and it as an `Adapted` if the author's own is another one, else None."""
 
     text: str
-    adapted: object
-
-    def lines(self):
-        return lines_of(self.text, self.adapted)
+    adapted: Adapted | None
 
 
 class Opened(NamedTuple):
     """A place that is open, its constant, and whether the range line of that follows it."""
 
-    spot: object
-    constant: object
+    spot: Spot
+    constant: Constant
     has_range: bool
 
 
@@ -53,7 +50,7 @@ class Varied:
 
     def __init__(self, path, source, openings):
         self.source, self.opened, self.notes = source, [], []
-        lines = source.lines()
+        lines = lines_of(*source)
         for opening in openings:
             spot = spot_of(path, lines, opening.place)
             constant, why = constant_of(spot, opening, source.text)
@@ -144,7 +141,7 @@ def load_file_of_source(args, source):
 def make_parser():
     parser = command_parser(__doc__)
     add_cwtune(parser)
-    add_as_is(parser)
+    add_shared(parser, "--as-is")
     parser.add_argument("warrior", metavar="WARRIOR", help="a Redcode text")
     parser.add_argument("ranges", metavar="PLACE=VALUES", nargs="*", type=opening_from, default=[],
                         help="a place of the text and its values: LOW:HIGH:STEP, which is LOW, LOW "
@@ -187,7 +184,7 @@ def main():
     source = source_of(parser, args)
     if not args.ranges:
         load_file_of_source(args, source)
-        lines = source.lines()
+        lines = lines_of(*source)
         for line in [*lines_of_numbers(lines), *lines_of_others(lines)]:
             print(line)
         return

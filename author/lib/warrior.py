@@ -14,7 +14,7 @@ Example: cwtune-warrior my.red my.cert > winner.red
 import argparse, itertools, re, sys
 
 from . import cert_inputs, slots, tuning_files
-from .adapt import adapt, add_as_is, adapted_if_refused, read_text, start_of
+from .adapt import adapt, adapted_if_refused, read_text, start_of
 from .endings import Fault, note
 from .grid import ADAPTED, is_range_line
 from .openings import place_named
@@ -22,7 +22,7 @@ from .places import assembled_lines, lines_of, spots_in
 from .program import assemble, load_file_of, refuse_other_warrior, rules_of
 from .put_back import original_lines
 from .slots import STRATEGY
-from .words import FILE_HELP, add_files, add_cwtune, command_parser
+from .words import FILE_HELP, add_cwtune, add_files, add_shared, command_parser
 from .writing import temporary_file
 
 # It follows the last line that begins with the first of these words, else with the second, and so
@@ -186,7 +186,7 @@ def make_parser():
     printed.add_argument("--original", metavar="FILE", help="put the values into this text, which "
                          "was adapted before the template was made of it")
     add_cwtune(parser, of_tuning=True)
-    add_as_is(parser)
+    add_shared(parser, "--as-is")
     add_files(parser, "template")
     parser.add_argument("cert", metavar="CERT", nargs="?", help=FILE_HELP["cert"])
     return parser
@@ -217,14 +217,12 @@ def has_mark(path):
 
 
 def print_text(args, path):
-    template, totals = tuning_files.Template(path), (None, None)
-    args.schedule, why_unused = None, ""
+    args.schedule, totals, why_unused = None, (None, None), ""
     if args.cert is None:
+        template = tuning_files.Template(path)
         setting = setting_of(template, args.setting)
     else:
-        cert = tuning_files.Certificate(args.cert)
-        why_unused = cert_inputs.settle(args)
-        template.checked_for(cert)
+        cert, template, why_unused = cert_inputs.read_tuning(args)
         setting = cert.best
         totals = cert.total, total_of_start(cert, template, args.schedule)
     sys.stdout.buffer.write(template.with_start(setting) if args.as_template

@@ -1,5 +1,5 @@
 """Makes the parsers of the commands, with the files, options and numbers that several have."""
-import argparse, json, shutil, sys
+import argparse, json, os, shutil, sys
 
 from .endings import escaped
 from .program import BUILT, DEFAULT, HILLS, Rules, program_of
@@ -10,8 +10,8 @@ EXIT_STATUS = ("Exit status: 0 done; 1 a file is refused; 2 usage error, or two 
 # What the help of the commands says of each file, and of each rule.
 FILE_HELP = {"template": "a Redcode text with range lines",
              "cert": "the certificate of a tuning", "schedule": "the fights of the tuning",
-             "opponent": "the opponents, in the tuning's order (write ./*.red: a name in *.red may "
-             "be an option)"}
+             "opponents": "the opponents, in the tuning's order (write ./*.red: a name in *.red "
+             "may be an option)"}
 MEANING = {"core": "the core size", "cycles": "the most cycles of a fight",
            "tasks": "the most tasks of a warrior", "length": "the most instructions of a warrior",
            "distance": "the least distance of two warriors"}
@@ -99,8 +99,27 @@ def program_word(module, docstring):
 
 def add_files(parser, *names):
     for name in names:
-        parser.add_argument(name, metavar=name.upper(), help=FILE_HELP[name],
-                            nargs="+" if name == "opponent" else None)
+        parser.add_argument(name, metavar=name.upper().removesuffix("S"), help=FILE_HELP[name],
+                            nargs="+" if name == "opponents" else None)
+
+
+# Options that several commands have.
+SHARED = {
+    "--anew": {"action": "store_true", "help": "throw away what is done, and begin again"},
+    "--as-is": {"action": "store_true",
+                "help": "do not adapt a text that pMARS reads otherwise (cwtune-adapt)"},
+    "--jobs": {"type": number_from(1), "default": os.cpu_count(), "metavar": "N",
+               "help": "jobs that run side by side, on each host "
+               "[default: the processors of this one]"},
+    "--json": {"action": "store_true",
+               "help": "print one JSON object in place of lines (docs/FORMATS.md)"},
+    "--schedule": {"metavar": "FILE", "help": "the schedule [default: that of the tuning]"},
+}
+
+
+def add_shared(parser, *names):
+    for name in names:
+        parser.add_argument(name, **SHARED[name])
 
 
 def program_at(word):
@@ -111,11 +130,6 @@ def program_at(word):
 def add_program(parser):
     parser.add_argument("--program", type=program_at, default=DEFAULT, metavar="FILE",
                         help="the program cwtune [default: the one built here, else on the PATH]")
-
-
-def add_json(parser):
-    parser.add_argument("--json", action="store_true",
-                        help="print one JSON object in place of lines (docs/FORMATS.md)")
 
 
 def print_json(numbers):

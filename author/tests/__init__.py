@@ -11,7 +11,7 @@ A trial that needs a tool which is not installed is left out, and named before t
 CWTUNE_ALL=1 it has failed.
 
 Their libraries: `trial` has what all trials have, `spread_trial` and `study_trial` the folders of
-two commands, `ssh_hosts` and `slurm_place` the hosts and the Slurm, and `report_samples` makes up
-the reports of `reporting`. In all of them a `result` is how a command ended (`trial.Result`), and
-`expected` is how it has to end.
+two commands, `ssh_hosts` and `slurm_place` the hosts and the Slurm by configs/, and
+`report_samples` makes up the reports of `reporting`. In all of them a `result` is how a command
+ended (`trial.Result`), and `expected` is how it has to end.
 """

@@ -17,13 +17,6 @@ class Clusters(SpreadTrial):
         self.slurm = self.enterContext(Slurm(self.top / "slurm"))
         self.settle(self.top / "work")
 
-    def test_slurm(self):
-        """Plays all in one Slurm, which takes seconds to start."""
-        for trial in [self.arrays, self.faults, self.cancelled]:
-            for path in self.folder.glob("CERT*"):
-                path.unlink()
-            trial()
-
     def begin(self, array, *words, program=None):
         """Hands in jobs. Returns the name of the file of what they print."""
         with mock.patch.dict(os.environ, {"CWTUNE": program or self.program}):
@@ -37,7 +30,7 @@ class Clusters(SpreadTrial):
     def times(self):
         return {path.name: path.stat().st_mtime_ns for path in self.folder.glob("CERT.*")}
 
-    def arrays(self):
+    def test_arrays(self):
         """Tunes in three parts, repeats one, and checks in three shares."""
         tuned = self.tuned()
         self.same("an array prints nothing", "", self.jobs("1-3", "3", *DECOY))
@@ -58,7 +51,7 @@ class Clusters(SpreadTrial):
         self.same("no such part", (sorted([NO_PART.format(0), NO_PART.format(4)]), before), (
             sorted(printed.splitlines(True)), self.times()))
 
-    def faults(self):
+    def test_faults(self):
         self.jobs("1-2", "2", *DECOY)
         self.jobs("2", "2", *DECOY, program="./none")
         status, _, err = self.spread("--merge=2", *DECOY)
@@ -69,7 +62,7 @@ class Clusters(SpreadTrial):
         self.jobs("1-2", "2", "-d.red", *DECOY[1:])
         self.same("-d.red", 0, self.spread("--merge=2", "./-d.red", *DECOY[1:]).status)
 
-    def cancelled(self):
+    def test_cancelled(self):
         self.jobs("1-2", "2", *DECOY)
         before = self.times()
         self.write_program("stuck", f"""case $2 in

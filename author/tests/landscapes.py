@@ -17,7 +17,7 @@ rcParams = {"text.parse_math": True}
 
 def use(_):
     pass
-""", "pyplot.py": """import matplotlib
+""", "pyplot.py": """import matplotlib, types
 
 
 class Axes:
@@ -35,14 +35,9 @@ class Figure(Axes):
         file.write("\\n".join(self.calls).encode())
 
 
-class Grid:
-    def __init__(self, axes):
-        self.flat = axes
-
-
 def subplots(rows=1, columns=1, squeeze=True, **_):
     calls = []
-    grid = Grid([Axes(calls) for _ in range(rows * columns)])
+    grid = types.SimpleNamespace(flat=[Axes(calls) for _ in range(rows * columns)])
     return Figure(calls), grid.flat[0] if squeeze else grid
 """}
 FILES = {

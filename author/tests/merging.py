@@ -1,6 +1,6 @@
 """Plays `cwtune-spread` with what the jobs of a cluster leave, and with stand-ins for GNU parallel.
 """
-import argparse, os
+import argparse, os, types
 from unittest import mock
 
 from author.lib.spread.hosts import HostJobs
@@ -20,22 +20,12 @@ for number in 3 4; do tar -cf $number.tar $number.report $number.status; done
 """
 
 
-class FolderStub:
-    """What `HostJobs` needs to know of a folder."""
-
-    pid, copies, SENT_KINDS, RETURNED_KINDS = 1, [], [], ["report"]
-
-    def __init__(self, path):
-        self.path = self.work = path
-
-    def prepare(self, number):
-        pass
-
-    def words(self, number):
-        return ["true"]
-
-    def file(self, number, kind):
-        return self.path / f"{number}.{kind}"
+def folder_stub(path):
+    """Returns what `HostJobs` needs to know of a folder."""
+    return types.SimpleNamespace(
+        path=path, work=path, pid=1, copies=[], SENT_KINDS=[], RETURNED_KINDS=["report"],
+        prepare=lambda number: None, words=lambda number: ["true"],
+        file=lambda number, kind: path / f"{number}.{kind}")
 
 
 class Merging(SpreadTrial):
@@ -49,7 +39,7 @@ class Merging(SpreadTrial):
     def host_jobs(self, numbers):
         """Runs jobs by a stand-in for GNU parallel. Returns them, and those ended by number."""
         args, ended = argparse.Namespace(hosts=self.folder / "hosts", jobs=1), []
-        jobs = HostJobs(args, FolderStub(self.folder), numbers)
+        jobs = HostJobs(args, folder_stub(self.folder), numbers)
         while jobs.keep_running():
             jobs.parallel.wait(SECONDS)
             ended += jobs.take_ended()

@@ -75,10 +75,11 @@ class Origins(Trial):
     def test_unknown(self):
         """Runs commands without a CERT.inputs that can be believed."""
         self.tune("--all", *TUNE)
-        of_another = self.read("cert.inputs").replace(b"\ncert ", b"\ncert 1")
+        right = self.read("cert.inputs")
         for text, why_unused in [
             (None, "cert.inputs is not there"), (b"a text\n", "cert.inputs is malformed"),
-            (of_another, "cert.inputs is of another certificate"),
+            (right.replace(b"inputs 1", b"inputs 2"), "cert.inputs is malformed"),
+            (right.replace(b"\ncert ", b"\ncert 1"), "cert.inputs is of another certificate"),
         ]:
             (self.folder / "cert.inputs").unlink(missing_ok=True)
             if text:

@@ -9,11 +9,12 @@ import json, os, random, shutil, signal, subprocess, sys, tempfile
 from author.lib import endings, spread, study
 from author.lib.endings import STATUS_WORDS, run_tool
 from author.lib.regular import digest_of
+from author.lib.schema import from_json
 from author.lib.words import add_built, add_number, module_parser
 
 from .spread_trial import DECOY, SpreadTrial
 from .study_trial import FEW, StudyTrial
-from .trial import SECONDS, command, play, removed
+from .trial import SECONDS, came_of, command, play, removed
 
 FAULTS = tuple(f"{word}: " for word in STATUS_WORDS.values())
 STUDY = ["t.red", "all"]
@@ -249,6 +250,21 @@ class OwnFolders(SpreadTrial, StudyTrial):
             status, out, err = self.spread(*PARTS)
             self.same(f"{name} is a FIFO", (2, "", True), (
                 status, out, err.startswith("error: ") and name in err))
+
+    def test_schemas(self):
+        for schema, text, fault in [
+            (int, "1.0", "not a whole number"), (int, "true", "not a whole number"),
+            (float, "NaN", "not a number"), (float, "1e999", "not a number"),
+            (list[int], '[1, "x"]', "[1]: not a whole number"),
+            (dict[str, str], "[]", "not an object"), (tuple[int, str], "[1]", "not a list of 2"),
+            (str | None, "1", "not a text"), (str, '"\\', "not JSON"),
+            (int, "9" * 5000, "not JSON"),
+        ]:
+            self.same(f"{text[:20]} as {schema}", fault, came_of(from_json, schema, text))
+        path = str(self.folder / "fifo")
+        os.mkfifo(path)
+        self.same("the digest of a FIFO", f"{path} is not a regular file",
+                  came_of(digest_of, path))
 
     def test_forged_reports(self):
         self.study(*STUDY)

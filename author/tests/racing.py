@@ -1,8 +1,9 @@
 """Plays `cwtune-seek` with the program, and races with made-up fights."""
-import argparse, json, os, random, signal, subprocess
+import argparse, json, os, random, signal, subprocess, threading, time
 from unittest import mock
 
-from author.lib import grid, race, race_fights
+from author.lib import grid, race
+from author.lib.race import fights as race_fights
 
 from .trial import SECONDS, Refusal, Trial, came_of, usage_errors, wait_until
 
@@ -38,16 +39,13 @@ REFUSALS = [
 ]
 
 
-class MadeUpArena(race_fights.Arena):
-    """An arena whose fights are made up: a setting wins the more, the nearer it is to `best`."""
+class MadeUpProcesses:
+    """Makes up fights: a setting wins the more, the nearer it is to `best`."""
 
-    def __init__(self, values, fights, records=(), seed=1):
-        args = argparse.Namespace(seed=seed, jobs=1, hosts=None, hill="nano", program="")
-        super().__init__(args, race_fights.Budget(fights), values, ["a", "b"], [1, 1],
-                         list(records), ".")
+    def __init__(self):
         self.best, self.calls = (3, 4), []
 
-    def run(self, settings, blocks):
+    def play(self, settings, blocks, _):
         self.calls.append(([tuple(values) for values in settings],
                            [tuple(block) for block in blocks]))
         return [[self.points(values, block) for block in blocks] for values in settings]
@@ -56,6 +54,16 @@ class MadeUpArena(race_fights.Arena):
         distance = sum(abs(value - best) for value, best in zip(values, self.best))
         return "".join("3" if random.Random(f"{values}{fight}").random() < 1 / (1 + distance / 3)
                        else "0" for fight in block)
+
+
+class MadeUpArena(race_fights.Arena):
+    """An arena whose fights are made up."""
+
+    def __init__(self, values, fights, records=()):
+        args = argparse.Namespace(seed=1, jobs=1, hosts=None, hill="nano", program="")
+        super().__init__(args, race_fights.Budget(fights), values, ["a", "b"], [1, 1],
+                         list(records), ".")
+        self.processes = MadeUpProcesses()
 
     def tell_estimate(self, _):
         pass
@@ -85,18 +93,19 @@ class Racing(Trial):
 
     def test_rounds(self):
         arena, outcome = self.raced()
+        calls = arena.processes.calls
         self.same("the best setting wins", (3, 4), outcome.winner)
-        plays = [(values, block) for settings, blocks in arena.calls for values in settings
+        plays = [(values, block) for settings, blocks in calls for values in settings
                  for block in blocks]
         self.same("no setting plays a block twice", len(plays), len(set(plays)))
         self.same("no more fights than the budget", True, 19000 < arena.fights <= 20000)
         self.same("START plays from the first heat to the last", (True, True), (
-            (0, 0) in arena.calls[0][0], (0, 0) in arena.calls[-1][0]))
+            (0, 0) in calls[0][0], (0, 0) in calls[-1][0]))
         pair = [(3, 4), (0, 0)]
-        gain = [call for call in arena.calls if call[0] == pair]
-        others = {block for settings, blocks in arena.calls if settings != pair for block in blocks}
+        gain = [call for call in calls if call[0] == pair]
+        others = {block for settings, blocks in calls if settings != pair for block in blocks}
         self.same("the winner and START end it, in blocks of their own", (pair, False), (
-            arena.calls[-1][0], any(block in others for _, blocks in gain for block in blocks)))
+            calls[-1][0], any(block in others for _, blocks in gain for block in blocks)))
         self.same("and these alone are the gain", sum(len(blocks) for _, blocks in gain),
                   len(outcome.points[0][0]))
 
@@ -108,7 +117,7 @@ class Racing(Trial):
                 "settings"]), (outcome_again.winner, outcome_again.points,
                                again.records[-1]["settings"]))
             self.same(f"after {count} records no fight is played again",
-                      len(arena.calls) - count, len(again.calls))
+                      len(arena.processes.calls) - count, len(again.processes.calls))
         wrong = [{**arena.records[0], "settings": [[1, 1]]}, *arena.records[1:]]
         self.same("records of another race", "what was played before is not of this race: give "
                   "--anew to begin again", came_of(self.raced, wrong))
@@ -118,23 +127,38 @@ class Racing(Trial):
         self.write("hidden.red", LARGE)
         now, slow = [0.0], []
 
-        class SlowArena(MadeUpArena):
-            def run(self, settings, blocks):
+        class SlowProcesses(MadeUpProcesses):
+            def play(self, settings, blocks, tell_progress):
                 now[0] += 0.005 * len(settings) * len(blocks)
-                if self.used() > 0.62 and not slow:
+                if arena.used() > 0.62 and not slow:
                     slow.append(now[0])
                     now[0] += 3
                 if len(self.calls) > 9999 or now[0] > 99:
                     raise ValueError("it does not end")
-                return super().run(settings, blocks)
+                return super().play(settings, blocks, tell_progress)
 
         with mock.patch.object(race_fights, "clock", lambda: now[0]):
-            arena = SlowArena(grid.Grid(self.folder / "hidden.red"), None)
-            arena.budget = race_fights.Budget(None, 60)
+            arena = MadeUpArena(grid.Grid(self.folder / "hidden.red"), None)
+            arena.processes, arena.budget = SlowProcesses(), race_fights.Budget(None, 60)
             racing = race.Race(arena.grid, arena, 1)
             with mock.patch.object(racing, "improve", ended(racing.improve)):
                 racing.run()
         self.same("the race ends in time", (True, True), (bool(slow), 55 < now[0] <= 60))
+
+    def test_seconds(self):
+        """Plays with a clock that goes on by one whenever a thread reads it, as others run."""
+        ticks, values = threading.local(), grid.Grid(self.folder / "plane.red")
+        args = argparse.Namespace(jobs=4, hill=None, program=self.program)
+
+        def tick():
+            time.sleep(0.05)
+            ticks.count = getattr(ticks, "count", 0) + 1
+            return ticks.count
+
+        with (mock.patch.object(time, "monotonic", tick), race_fights.Processes(
+                args, values, [self.folder / "dat.red"], self.folder) as processes):
+            processes.play([[1, 0]] * 8, [[race_fights.Fight(0, 4000, "c")]], tick)
+        self.same("the seconds of all processes count", 8, processes.seconds)
 
     def test_finds(self):
         """Races in a plane of 45 settings, against two opponents. One counts three times."""

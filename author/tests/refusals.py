@@ -12,6 +12,7 @@ RIGHT = {
     # Schedules of two fights, and of four that are not those of step.cert.
     "two.csv": b"opponent,position,first\n0,3670,c\n0,5123,o\n",
     "other.csv": b"opponent,position,first\n0,3670,c\n0,5123,o\n1,2085,c\n1,6100,o\n",
+    "quoted.csv": b'"opponent",position,"first"\n0,3670,c\n0,5123,o\n',
     # Templates of two settings, of one, and of 37 maps.
     "two.red": b";@tune K 0 1 1 0\nJMP 1-K\n",
     "plain.red": b"MOV 0, 1\n",
@@ -22,6 +23,7 @@ RIGHT = {
     "none.cert.whole": b"of the user\n",
     # Certificates of the last two, and one in which no setting reaches the floor.
     "plain.cert": b"cwcert,1,1\nbest,0,3\ncap,0,0:3\n",
+    "quoted.cert": b'"cwcert",1,1\nbest,0,3\ncap,0,0:3\n',
     "maps.cert": b"cwcert,1,37\nbest,0,3\ncap,0,0:3\n" + b"".join(
         b"same,%d,0\n" % setting for setting in range(1, 37)),
     "below-floor.cert": b"cwcert,1,2\nnone,-,4\ncap,0,0:0\nsame,1,0\n",
@@ -32,6 +34,8 @@ RIGHT = {
                       b"cap,3,0:1 1:0\n",
     "two-exact.cert": b"cwcert,1,4\nbest,1,4\ncap,0,0:3 1:0\ncap,1,0:3 1:1\ncap,2,0:1 1:0\n"
                       b"cap,3,0:0\n",
+    # START was dropped before it played.
+    "unplayed.cert": b"cwcert,1,2\nbest,1,4\ncap,0,-\ncap,1,0:3 1:1\n",
 }
 NOT_OF_ANY_KIND = {"binary": bytes(range(256)), "empty": b""}
 NOT_SCHEDULES = {
@@ -59,11 +63,13 @@ WRONG_CERTIFICATES = {
     "no-such-fight.cert": b"cwcert,1,2\nbest,0,4\ncap,0,0:3 1:1\ncap,1,9:0\n",
     "no-fights.cert": b"cwcert,1,2\nbest,0,0\ncap,0,-\nsame,1,0\n",
     "four-rules.cert": b"cwcert,1,1\nbest,0,3\ncap,0,0:3\n",
-    "four-rules.cert.inputs": b"rules 8000 80000 8000 100\npart 1/1\nmethod all\ncert 1 x\n"
-                              b"folder .\ntemplate 1 x t\nschedule 1 x s\nopponent 1 x o\n",
+    "four-rules.cert.inputs": b"cwtune inputs 1\nrules 8000 80000 8000 100\npart 1/1\nmethod all\n"
+                              b"cert 1 x\nfolder .\ntemplate 1 x t\nschedule 1 x s\n"
+                              b"opponent 1 x o\n",
 }
 WRONG_TEMPLATES = {
     "65537-bytes.red": b";" * 65537,
+    "65546-bytes.red": b"DAT #, 0\n" + b";" * 65537,
     "four-words.red": b"NOP\n;@tune K 0 5 1\n",
     "constant-twice.red": b";@tune K 0 5 1 1\n;@tune K 0 5 1 1\nMOV 0, K\n",
     "too-many-settings.red": b"".join(b";@tune %c 0 9999 1 0\n" % name for name in b"ABC"),
@@ -108,6 +114,9 @@ OF_WRONG_TEMPLATES = [
     *(Refusal(f"{words} 65537-bytes.red", 1,
               "refused: 65537-bytes.red: 65537 bytes, more than the 65536 of a template")
       for words in ["cwtune-files", "cwtune-scores step.cert schedule.csv --template"]),
+    # Its beginning would be adapted.
+    Refusal("cwtune-warrior --setting=start 65546-bytes.red", 1,
+            "refused: 65546-bytes.red: more than 65536 bytes"),
     *refusals_of("cwtune-scores step.cert schedule.csv --template", 1, [
         ("four-words.red", "refused: four-words.red: line 2 is not a range line: ;@tune NAME LOW "
                            "HIGH STEP START, with START one of the values"),
@@ -213,10 +222,12 @@ class Refusals(Trial):
         self.same("refusals write no file", before, sorted(os.listdir(self.folder)))
 
     def test_shown(self):
-        """Shows certificates that have something in common with those that are refused."""
+        """Shows files that have something in common with those that are refused."""
         for name, line in [
             ("below-floor.cert", "certificate, version 1, of 2 settings: none reaches the floor 4"),
-            ("plain.cert", "certificate, version 1, of 1 setting: best 0 total 3"),
+            *((name, "certificate, version 1, of 1 setting: best 0 total 3")
+              for name in ["plain.cert", "quoted.cert"]),
+            ("quoted.csv", "schedule of 2 fights, greatest total 6"),
         ]:
             self.same(f"cwtune-files {name}", (0, f"{name}: {line}\n", ""),
                       self.call(f"cwtune-files {name}"))
@@ -232,3 +243,6 @@ class Refusals(Trial):
             self.same(f"the ranking of {words}", [
                 "3 settings played all fights, 1 was dropped", *lines],
                 [line.strip() for line in output.splitlines()[2:]])
+        output = self.call("cwtune-scores unplayed.cert two.csv --template two.red").out
+        self.same("a setting without a fight", 1, output.count(
+            "    opponent 0: 0 wins 0 ties 0 losses, 0 of 6, 2 not played\n"))

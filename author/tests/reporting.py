@@ -128,7 +128,7 @@ class Reporting(Trial):
             if name not in ("many settings", "many values"):
                 self.wrong(f"the numbers of {name}", missing(report, " ".join(reader.words)))
 
-    def test_alone(self):
+    def test_nothing_fetched(self):
         """Looks for what a page would fetch. The words of a report are text, and may name it."""
         for name in ("one constant", "two constants", "four constants"):
             page = html_of(REPORTS[name]).lower()
@@ -190,7 +190,7 @@ class Reporting(Trial):
         self.same("totals of one constant", 3 * [[[5, None, 7]]],
                   [maps.read_landscape(spelling, {}).totals for spelling in spellings])
         landscape = maps.Landscape(["A", "B"], [[1, 2, 3], [4, 5]],
-                                        [[1, 2], [3, None], [None, None]])
+                                   [[1, 2], [3, None], [None, None]], {})
         step, thin = maps.thinned(landscape, 2)
         self.same("thinned", (2, [[3], [None]], [[1, 3], [4]]), (step, thin.totals, thin.ranges))
         self.same("places", [(1, 1), None],

@@ -1,39 +1,10 @@
 """Runs a Slurm of one node, without systemd and with all that it writes in a folder, for trials."""
 import contextlib, getpass, os, pathlib, shutil, socket, subprocess
 
-from .ssh_hosts import PATH, free_port, kill_all
+from .ssh_hosts import PATH, config, free_port, kill_all
 from .trial import SECONDS, wait_until
 
 SERVERS = {name: shutil.which(name, path=PATH) for name in ["munged", "slurmctld", "slurmd"]}
-CONFIG = """ClusterName=trial
-SlurmctldHost={host}(127.0.0.1)
-SlurmctldPort={ports[0]}
-SlurmdPort={ports[1]}
-SlurmUser={user}
-SlurmdUser={user}
-AuthType=auth/munge
-AuthInfo=socket={folder}/socket
-CredType=cred/munge
-StateSaveLocation={folder}/state
-SlurmdSpoolDir={folder}/spool
-SlurmctldPidFile={folder}/slurmctld.pid
-SlurmdPidFile={folder}/slurmd.pid
-ProctrackType=proctrack/linuxproc
-TaskPlugin=task/none
-SelectType=select/cons_tres
-SelectTypeParameters=CR_CPU
-MpiDefault=none
-SwitchType=switch/none
-JobAcctGatherType=jobacct_gather/none
-AccountingStorageType=accounting_storage/none
-ReturnToService=2
-SchedulerParameters=sched_interval=1,batch_sched_delay=1,sched_min_interval=0
-KillWait=5
-MinJobAge=60
-NodeName={host} NodeAddr=127.0.0.1 CPUs={processors} State=UNKNOWN
-PartitionName=main Nodes=ALL Default=YES MaxTime=INFINITE State=UP
-CommunicationParameters=NoCtldInAddrAny,NoInAddrAny
-"""
 
 
 class Slurm:
@@ -45,14 +16,13 @@ class Slurm:
     def __enter__(self):
         for name in [".", "munge", "state", "spool", "temporary"]:
             (self.folder / name).mkdir()
-        (self.folder / "munge/key").write_bytes(os.urandom(1024))
-        (self.folder / "munge/key").chmod(0o400)
-        (self.folder / "slurm.conf").write_text(CONFIG.format(
-            host=socket.gethostname().partition(".")[0], ports=[free_port(), free_port()],
-            user=getpass.getuser(), folder=self.folder, processors=os.cpu_count()))
+        (self.folder / "munge/key-file").write_bytes(os.urandom(1024))
+        (self.folder / "munge/key-file").chmod(0o400)
+        (self.folder / "slurm.conf").write_text(config(
+            "slurm.conf", host=socket.gethostname().partition(".")[0], user=getpass.getuser(),
+            ports=[free_port(), free_port()], folder=self.folder, processors=os.cpu_count()))
         of_munge = [f"--{name}={self.folder}/munge/{name}"
                     for name in ["key-file", "pid-file", "log-file", "seed-file"]]
-        (self.folder / "munge/key").rename(self.folder / "munge/key-file")
         try:
             self.start("munged", "--foreground", "--force", f"--socket={self.folder}/socket",
                        *of_munge)

@@ -3,6 +3,7 @@ import os, pathlib, re, signal, subprocess, threading, time
 from unittest import mock
 
 from author.lib import tuning_files
+from author.lib.spread.progress import PAUSE
 from gate.lib import inputs
 from gate.lib.inputs import RULES
 from gate.lib.play import open_terminal, shown
@@ -166,13 +167,13 @@ class Spreading(SpreadTrial):
         self.clear()
         began_at = time.monotonic()
         status, _, err = self.spread("--all", "--jobs=2", "--progress", *DECOY)
-        minutes = int((time.monotonic() - began_at) / 60)
+        pauses = int((time.monotonic() - began_at) / PAUSE)
         self.same("--all makes the certificate of tune --all", (0, cert),
                   (status, self.read("CERT")))
         first_line, *more_lines = err.splitlines()
         self.same("--progress begins with a line", "0 of 32 parts, 0 of 126 settings, 0 fights",
                   first_line)
-        self.same("another one follows each minute", True, len(more_lines) <= minutes)
+        self.same("at most one more line each PAUSE", True, len(more_lines) <= pauses)
         self.clear()
         folder, name = os.path.split(self.program)
         with mock.patch.dict(os.environ, {"PATH": f"{folder}:{os.environ['PATH']}"}):

@@ -13,34 +13,12 @@ SHELLS = {"tcsh": shutil.which("tcsh"), "fish": shutil.which("fish")}
 NAMES = ["good", "shared", "noexec", "silent", "dying", "dead", *SHELLS]
 # A directory that sshd wants to see if root runs it.
 SEPARATION = pathlib.Path("/run/sshd")
-# With that SHLVL bash does not read ~/.bashrc, as it does in a login by ssh.
-SSHD_CONFIG = """Port {port}
-ListenAddress 127.0.0.1
-HostKey {folder}/key
-AuthorizedKeysFile {folder}/authorized
-PidFile none
-UsePAM no
-StrictModes no
-PermitRootLogin prohibit-password
-PasswordAuthentication no
-MaxStartups 100
-SetEnv SHLVL=1
-"""
-SSH_CONFIG = """Host {name}
-  Port {port}
-  IdentityFile {folder}/{name}
-"""
-SSH_CONFIG_OF_ALL = """Host *
-  HostName 127.0.0.1
-  IdentitiesOnly yes
-  UserKnownHostsFile /dev/null
-  StrictHostKeyChecking no
-  LogLevel ERROR
-"""
-LOGIN = """cd "$1" || exit
-export HOME="$1" SHELL="$2" PATH="{path}"
-exec "$2" -c "$SSH_ORIGINAL_COMMAND"
-"""
+# Templates of the files of sshd, ssh and Slurm, and what a login runs.
+CONFIGS = pathlib.Path(__file__).with_name("configs")
+
+
+def config(name, **values):
+    return (CONFIGS / name).read_text().format(**values)
 
 
 def free_port():
@@ -118,7 +96,7 @@ class SshHosts:
         for name in ["key", *NAMES]:
             subprocess.run(["ssh-keygen", "-q", "-t", "ed25519", "-N", "", "-f",
                             self.folder / name], check=True)
-        (self.folder / "login").write_text(LOGIN.format(path=PATH))
+        (self.folder / "login").write_text(config("login.sh", path=PATH))
         (self.folder / "authorized").write_text("".join(map(self.authorized, NAMES)))
         if os.getuid() == 0 and not SEPARATION.exists():
             SEPARATION.mkdir()
@@ -129,8 +107,8 @@ class SshHosts:
         self.proxy.start()
         ports["silent"] = self.proxy.port
         (self.folder / "config").write_text("".join(
-            SSH_CONFIG.format(name=name, port=ports.get(name, port), folder=self.folder)
-            for name in NAMES) + SSH_CONFIG_OF_ALL)
+            config("ssh_host_config", name=name, port=ports.get(name, port), folder=self.folder)
+            for name in NAMES) + config("ssh_hosts_config"))
         return self
 
     def __exit__(self, *_):
@@ -155,9 +133,9 @@ class SshHosts:
 
     def start_sshd(self, name):
         """Starts an sshd. Returns its port, once it listens."""
-        port, config = free_port(), self.folder / f"{name}.config"
-        config.write_text(SSHD_CONFIG.format(port=port, folder=self.folder))
-        self.jobs[name] = subprocess.Popen([SSHD, "-D", "-e", "-f", config], cwd="/",
+        port, path = free_port(), self.folder / f"{name}.config"
+        path.write_text(config("sshd_config", port=port, folder=self.folder))
+        self.jobs[name] = subprocess.Popen([SSHD, "-D", "-e", "-f", path], cwd="/",
                                            stderr=subprocess.DEVNULL)
         for _ in range(500):
             with contextlib.suppress(ConnectionRefusedError):

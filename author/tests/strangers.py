@@ -3,13 +3,12 @@ import ast, contextlib, fcntl, itertools, os, pathlib, re, signal, struct, subpr
 import time
 from unittest import mock
 
-from author.lib import regular, tuning_files, writing
+from author.lib import writing
 from author.lib.endings import quoted
-from author.lib.schema import from_json
 from gate.lib import play
 
 from .origins import note
-from .trial import AUTHOR, SECONDS, TUNING, Refusal, Trial, came_of, command, python, wait_until
+from .trial import AUTHOR, SECONDS, TUNING, Refusal, Trial, command, python, wait_until
 
 ESCAPE = "\x1b]0;x\x07"
 NOT_SHOWN = "(a terminal cannot show it)"
@@ -56,6 +55,11 @@ start.run("files")
 """
 READ = """from author.lib import files, watching; import sys
 watching.PACE.pause = 0; sys.argv = ['f', 'big.cert']; files.main()
+"""
+# Runs a command for a user without a home.
+HOMELESS = """import os, pwd; from author.lib import start
+for name in ["HOME", "XDG_CACHE_HOME"]: os.environ.pop(name, None)
+pwd.getpwuid = {}.__getitem__; start.run("adapt")
 """
 # Starts a command as a Python 3.10 does.
 OLD = """import runpy, sys; sys.version_info = (3, 10, 4, 'final', 0)
@@ -179,32 +183,6 @@ class Strangers(Trial):
                 self.same(f"{name!r} in {encoding}", (0, shown, f"failed: no{shown}"), (
                     status, out.split(":")[0], err.rpartition(":")[0]))
 
-    def test_settings(self):
-        """Counts and finds the settings of a template, which are not kept."""
-        self.write("three.red", ";@tune A 0 2 1 1\n;@tune B 5 9 2 7\n;@tune C 0 0 1 0\nDAT A, B\n")
-        template = tuning_files.Template(self.folder / "three.red")
-        values = list(template.values_of_settings)
-        self.same("the values of all settings", (
-            [(a, b, 0) for a in range(3) for b in (5, 7, 9)], values, list(range(9)), 4, False), (
-            values, [template.values_of_settings[index] for index in range(9)],
-            list(map(template.values_of_settings.index, values)), template.start,
-            (0, 6, 0) in template.values_of_settings))
-
-    def test_schemas(self):
-        for schema, text, fault in [
-            (int, "1.0", "not a whole number"), (int, "true", "not a whole number"),
-            (float, "NaN", "not a number"), (float, "1e999", "not a number"),
-            (list[int], '[1, "x"]', "[1]: not a whole number"),
-            (dict[str, str], "[]", "not an object"), (tuple[int, str], "[1]", "not a list of 2"),
-            (str | None, "1", "not a text"), (str, '"\\', "not JSON"),
-            (int, "9" * 5000, "not JSON"),
-        ]:
-            self.same(f"{text[:20]} as {schema}", fault, came_of(from_json, schema, text))
-        path = str(self.folder / "fifo")
-        os.mkfifo(path)
-        self.same("the digest of a FIFO", f"{path} is not a regular file",
-                  came_of(regular.digest_of, path))
-
 
 class Memory(Trial):
     FILES = FILES
@@ -292,6 +270,11 @@ class Endings(Trial):
                 3, "", f"failed: {path.name} needs Python 3.11, and this is Python 3.10\n"),
                 (completed.returncode, completed.stdout, completed.stderr))
 
+    def test_homeless(self):
+        """Runs a command that looks for pMARS, for a number that is no user's."""
+        completed = python(HOMELESS, f"--program={self.program}", "t.red", cwd=self.folder)
+        self.same("no home", (0, FILES["t.red"]), (completed.returncode, completed.stdout))
+
     def pids(self):
         return list(map(int, (self.read("pids") or b"").split()))
 
@@ -330,7 +313,7 @@ echo $$ >> {self.folder}/pids; exec sleep 99""")
         os.mkfifo(self.folder / "pipe")
         for signal_number, words in itertools.product([signal.SIGINT, signal.SIGHUP], [
                 "cwtune-files pipe", "cwtune-vary pipe", "cwtune-scores pipe s.csv",
-                "cwtune-warrior --setting=0 pipe", "cwtune-landscape pipe step.cert x.svg"]):
+                "cwtune-landscape pipe step.cert x.svg"]):
             with self.started(words, stderr=subprocess.PIPE) as job:
                 # It is waiting in the open of the pipe.
                 wait_until(lambda: re.search(b"wait_for_partner|fifo_open", wchan(job.pid)), job)

@@ -3,7 +3,8 @@ and what hosts do for a race on this one."""
 import argparse, contextlib, io
 from unittest import mock
 
-from author.lib import grid, race, race_fights, race_hosts
+from author.lib import grid, race
+from author.lib.race import fights as race_fights, hosts as race_hosts
 from author.lib.spread.jobs import LocalJobs
 from author.lib.writing import temporary_folder
 
@@ -32,11 +33,12 @@ class RaceTrial(StudyTrial):
         """Returns what a race found, with its records, and how many of its plays were here."""
         with (temporary_folder() as folder, self.arena(folder, self.program, hosts) as arena,
               contextlib.redirect_stderr(io.StringIO())):
-            arena.seconds_of_jobs, arena.plays_of_jobs = 1e9 * seconds_of_play, 10 ** 9
+            processes = arena.processes
+            processes.seconds, processes.plays = 1e9 * seconds_of_play, 10 ** 9
             outcome = race.Race(arena.grid, arena, 1).run()
             records = [(record["settings"], record["points"]) for record in arena.records]
             found = outcome.winner, outcome.rise, outcome.points, records
-            return found, arena.plays_of_jobs - 10 ** 9
+            return found, processes.plays - 10 ** 9
 
 
 class StudyOnHosts(OnHosts, RaceTrial):

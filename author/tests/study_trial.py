@@ -25,6 +25,12 @@ class StudyTrial(Trial):
 
     FILES = {"t.red": TEMPLATE, "w.red": WARRIOR, "p.red": PLANE,
              **{f"all/{name}": text for name, text in OPPONENTS.items()}}
+    # The words of a study that is made before the trial, if any.
+    STUDIED = ()
+
+    def setUp(self):
+        super().setUp()
+        self.result = self.study(*self.STUDIED) if self.STUDIED else None
 
     def study(self, *words):
         return self.call("cwtune-study", *FEW, *words)

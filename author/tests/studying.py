@@ -54,23 +54,27 @@ def without_seconds(log):
     return [line.rpartition("  # ")[0] or line for line in log.decode().splitlines()]
 
 
-class Studying(StudyTrial):
-    """Studies, and what others put into their folders."""
+class StudyOfTemplate(StudyTrial):
+    """The study of a template that is tuned whole."""
+
+    STUDIED = ["t.red", "all"]
 
     def test_finds(self):
-        """Makes a study of a template, and compares its report with what other commands say."""
-        status, out, err = self.study("t.red", "all")
-        lines = out.splitlines()
+        """Compares the report with what other commands say."""
+        lines, report = self.result.out.splitlines(), self.report("t")
         self.same("a study of a template", (0, "all 5 settings are tuned: their ranking is exact",
-                  ["t.study/winner.red", "t.study/report.html"]), (status, lines[0], lines[-2:]))
-        report, folder = self.report("t"), self.folder / "t.study"
+                  ["t.study/winner.red", "t.study/report.html"]),
+                  (self.result.status, lines[0], lines[-2:]))
         totals = {ranked["setting"]: ranked["tuned"] for ranked in report["ranking"]}
         scores = self.call("cwtune-scores best.cert", below="t.study").out
         self.same("the ranking is that of cwtune-scores", [
             f"setting {ranked['setting']}: total {ranked['tuned']} STEP={ranked['values']['STEP']}"
             for ranked in report["ranking"]],
             [line.strip() for line in scores.splitlines() if line.startswith("    setting")])
-        tune_report, best = self.tuned("t.red", "t.study"), report["ranking"][0]
+        output = self.tune(*NANO, "--cycles=800", "--tasks=80", "t.red", "t.study/schedule.csv",
+                           "CERT", *(f"all/{name}" for name in OPPONENTS)).out
+        tune_report = dict(line.split(" ", 1) for line in output.splitlines())
+        best = report["ranking"][0]
         self.same("the best is that of cwtune tune",
                   (str(best["setting"]), f"{best['tuned']} of 27"),
                   (tune_report["best"], tune_report["total"]))
@@ -84,11 +88,10 @@ class Studying(StudyTrial):
         line = f"\n;strategy cwtune: STEP={report['winner']['values']['STEP']}\n"
         self.same("its text says which it is", (True, True), (
             line in report["winner_text"], line.encode() in self.read("t.study/winner.red")))
-        self.fresh_fights(report, folder)
-        self.others()
 
-    def fresh_fights(self, report, folder):
-        """Adds up the fresh fights of the certificates, and compares with a report."""
+    def test_fresh_fights(self):
+        """Adds up the fresh fights of the certificates, and compares with the report."""
+        report, folder = self.report("t"), self.folder / "t.study"
         winner, start, ranking = report["winner"], report["start"], report["ranking"]
         players = [*((ranked, f"{ranked['setting']}-[123]") for ranked in ranking),
                    (winner, f"{winner['setting']}-4"), (start, "start-4")]
@@ -112,14 +115,8 @@ class Studying(StudyTrial):
         self.same("the winner has the most points", most,
                   fresh_of_ranking[winner["rank"] - 1]["points"])
 
-    def tuned(self, template, study):
-        """Returns the report of `cwtune tune` by a study's schedule, by the first words."""
-        output = self.tune(*NANO, "--cycles=800", "--tasks=80", template, f"{study}/schedule.csv",
-                           "CERT", *(f"all/{name}" for name in OPPONENTS)).out
-        return dict(line.split(" ", 1) for line in output.splitlines())
-
-    def others(self):
-        """Gives a folder other inputs than those that it was made of, and changes its files."""
+    def test_other_inputs(self):
+        """Gives the folder other inputs than those that it was made of, and changes its files."""
         before = self.texts_of("t.study")
         self.write("more.red", TEMPLATE + "; more\n")
         for kind, words in [
@@ -144,24 +141,108 @@ class Studying(StudyTrial):
         self.same("and leaves what others put there", (b"mine\n", ["imp.red"]), (
             self.read("t.study/notes.txt"), os.listdir(self.folder / "t.study/opponents")))
 
+
+class StudyOfWarrior(StudyTrial):
+    """The study of a warrior, with opponents that have one name."""
+
+    HOSTILE = "it's \"$HOME\".red"
+    MORE = dict.fromkeys(["more/imp.red", f"more/{HOSTILE}"], OPPONENTS["dat.red"])
+    FILES = StudyTrial.FILES | MORE
+    STUDIED = ["w.red", "all/imp.red", "STEP=1:9:2", *MORE]
+
     def test_varies(self):
-        """Makes a study of a warrior, of opponents with equal names, and types its commands."""
-        hostile = "it's \"$HOME\".red"
-        for name in ["more/imp.red", f"more/{hostile}"]:
-            self.write(name, OPPONENTS["dat.red"])
-        result = self.study("w.red", "all/imp.red", "STEP=1:9:2", "more/imp.red", f"more/{hostile}")
         template = self.call("cwtune-vary --hill=nano w.red STEP=1:9:2").out
         self.same("a study of a warrior", (0, template.encode()),
-                  (result.status, self.read("w.study/template.red")))
+                  (self.result.status, self.read("w.study/template.red")))
         report = self.report("w")
-        self.same("a name that is taken gets a number", ["imp.red", "imp-2.red", hostile],
+        self.same("a name that is taken gets a number", ["imp.red", "imp-2.red", self.HOSTILE],
                   [opponent["name"] for opponent in report["opponents"]])
         self.same("only the number of the winner's text differs", [
             f"STEP EQU {report['winner']['values']['STEP']}"], self.own_lines("w", 2))
         self.same("the title is the warrior's name", 'Little <Stone> & "Co"', report["title"])
         self.same("the log has the commands of the report", report["commands"], [
             line for line in without_seconds(self.read("w.study/log.txt")) if line[0] != "#"])
-        self.typed()
+
+    def test_typed_log(self):
+        """Types all commands of the log in a folder with the inputs alone."""
+        folder, typed_folder = self.folder / "w.study", self.folder / "typed"
+        (typed_folder / "fresh").mkdir(parents=True)
+        shutil.copytree(folder / "opponents", typed_folder / "opponents")
+        for name in ["warrior.red", "start.red"]:
+            shutil.copy(folder / name, typed_folder)
+        path = f"{AUTHOR}:{os.environ['PATH']}"
+        completed = subprocess.run(["sh", "-e", str(folder / "log.txt")], cwd=typed_folder,
+                                   timeout=SECONDS, env={**os.environ, "PATH": path},
+                                   capture_output=True)
+        self.same("the commands of the log can be typed", (0, b"note: 5 settings"),
+                  (completed.returncode, completed.stderr.splitlines()[0]))
+        names = ["template.red", "schedule.csv", "box.red", "best.cert", "best.txt", "winner.red",
+                 *(str(path.relative_to(folder)) for path in folder.glob("fresh/*")
+                   if path.suffix != ".inputs")]
+        self.same("they make the same files", [], [
+            name for name in names if self.read(f"typed/{name}") != self.read(f"w.study/{name}")])
+
+
+class StudyOfPlane(StudyTrial):
+    """The study of a template in which settings race."""
+
+    FILES = StudyTrial.FILES | {"p.red": PLANE.replace("2 5", "2 3").replace("1 0", "1 4")}
+    STUDIED = ["--exact=9", "--fights=4000", "--certify", "p.red", "all"]
+
+    def test_races(self):
+        status, out, _ = self.result
+        report, folder = self.report("p"), self.folder / "p.study"
+        race, box, gain = (report[name] for name in ["race", "box", "gain"])
+        self.same("settings race", (0, True, True), (
+            status, 9 < race["settings"] <= 45, race["fights"] <= 4000))
+        self.same("the settings around the winner are tuned, and checked", (9, "accepted best"), (
+            box["settings"], " ".join(box["check"].split()[:2])))
+        self.same("the page has their totals", (3, 3), (
+            len(report["landscape"]["totals"]), len(report["landscape"]["totals"][0])))
+        percents = [report[side]["fresh"]["percent"] for side in ["winner", "start"]]
+        self.same("the gain is the difference of fights that picked nothing",
+                  round(percents[0] - percents[1], 9), round(gain["percent"], 9))
+        by_opponent = [opponent["percent"] for opponent in gain["opponents"]]
+        self.same("and the mean of those against each opponent", round(gain["percent"], 9),
+                  round(sum(by_opponent) / 3, 9))
+        self.same("what is printed", (f"race: {race['settings']} of 45 settings in "
+                  f"{race['fights']} fights", "p.study/report.html"),
+                  (out.splitlines()[0], out.splitlines()[-1]))
+        text = grid.Grid(folder / "found.red")
+        self.same("the winner's text is the winner", tuple(report["winner"]["values"].values()),
+                  text.start_values)
+        self.study("--anew", "--jobs=2", *self.STUDIED)
+        self.same("two jobs find the same", (race, gain), (
+            self.report("p")["race"], self.report("p")["gain"]))
+
+    def test_kills_of_races(self):
+        """Kills a race at random times, and compares what it makes with an unbroken one."""
+        unbroken, dice = self.report("p"), random.Random(69)
+        shutil.rmtree(self.folder / "p.study")
+        for count in range(20):
+            with self.begin(*self.STUDIED) as job:
+                time.sleep(dice.uniform(0.1, 0.5 + count / 10))
+                job.send_signal([signal.SIGKILL, signal.SIGTERM, signal.SIGHUP][count % 3])
+                job.communicate(timeout=SECONDS)
+        status = self.study(*self.STUDIED).status
+        report = self.report("p")
+        for of_box in unbroken["box"], report["box"]:
+            del of_box["seconds"]
+        names = ["race", "box", "winner", "gain", "landscape"]
+        self.same("20 kills change nothing", (0, {name: unbroken[name] for name in names}),
+                  (status, {name: report[name] for name in names}))
+        self.mark("p", stages={"inputs": self.mark("p")["stages"]["inputs"]})
+        for text, fault in [("{}\n", "no entry `settings`"),
+                            ("[" * 2000000, "1048576 bytes or more")]:
+            self.write("p.study/race.jsonl", text)
+            self.same(f"what was played is {text[:9]}", (
+                2, f"error: p.study/race.jsonl: line 1: {fault}\n"), self.study(*self.STUDIED)[::2])
+
+
+class Studying(StudyTrial):
+    """Studies of other kinds, and what kills leave of them."""
+
+    def test_one_setting(self):
         self.write("one.red", TEMPLATE.replace("1 9 2 5", "5 5 1 5"))
         self.same("one setting", "the winner is START: nothing better was found",
                   self.study("one.red", "all").out.splitlines()[-3])
@@ -183,7 +264,7 @@ class Studying(StudyTrial):
         self.same("--json prints the report alone", (0, self.report("w")), (
             status, json.loads(out)))
 
-    def test_equals(self):
+    def test_refused_settings(self):
         """Makes a study in which settings do not assemble, and the others are equal."""
         self.write("a.red", ";assert STEP < 8\nSTEP EQU 5\nJMP 0, STEP\n")
         status, out, _ = self.study("--rounds=1", "--fresh=1", "a.red", "all/dat.red", "STEP=1:9:4",
@@ -197,78 +278,7 @@ class Studying(StudyTrial):
         self.same("no gain", ["over START: +0.0% +- 0.0, no difference that these fights show",
                   "keep START: these fights show no gain of winner.red"], lines[5:7])
 
-    def typed(self):
-        """Types all commands of a log in a folder with the inputs alone."""
-        folder, typed_folder = self.folder / "w.study", self.folder / "typed"
-        (typed_folder / "fresh").mkdir(parents=True)
-        shutil.copytree(folder / "opponents", typed_folder / "opponents")
-        for name in ["warrior.red", "start.red"]:
-            shutil.copy(folder / name, typed_folder)
-        path = f"{AUTHOR}:{os.environ['PATH']}"
-        completed = subprocess.run(["sh", "-e", str(folder / "log.txt")], cwd=typed_folder,
-                                   timeout=SECONDS, env={**os.environ, "PATH": path},
-                                   capture_output=True)
-        self.same("the commands of the log can be typed", (0, b"note: 5 settings"),
-                  (completed.returncode, completed.stderr.splitlines()[0]))
-        names = ["template.red", "schedule.csv", "box.red", "best.cert", "best.txt", "winner.red",
-                 *(str(path.relative_to(folder)) for path in folder.glob("fresh/*")
-                   if path.suffix != ".inputs")]
-        self.same("they make the same files", [], [
-            name for name in names if self.read(f"typed/{name}") != self.read(f"w.study/{name}")])
-
-    def test_races(self):
-        self.write("p.red", PLANE.replace("2 5", "2 3").replace("1 0", "1 4"))
-        words = ["--exact=9", "--fights=4000", "--certify", "p.red", "all"]
-        status, out, _ = self.study(*words)
-        report, folder = self.report("p"), self.folder / "p.study"
-        race, box, gain = (report[name] for name in ["race", "box", "gain"])
-        self.same("settings race", (0, True, True), (
-            status, 9 < race["settings"] <= 45, race["fights"] <= 4000))
-        self.same("the settings around the winner are tuned, and checked", (9, "accepted best"), (
-            box["settings"], " ".join(box["check"].split()[:2])))
-        self.same("the page has their totals", (3, 3), (
-            len(report["landscape"]["totals"]), len(report["landscape"]["totals"][0])))
-        percents = [report[side]["fresh"]["percent"] for side in ["winner", "start"]]
-        self.same("the gain is the difference of fights that picked nothing",
-                  round(percents[0] - percents[1], 9), round(gain["percent"], 9))
-        by_opponent = [opponent["percent"] for opponent in gain["opponents"]]
-        self.same("and the mean of those against each opponent", round(gain["percent"], 9),
-                  round(sum(by_opponent) / 3, 9))
-        self.same("what is printed", (f"race: {race['settings']} of 45 settings in "
-                  f"{race['fights']} fights", "p.study/report.html"),
-                  (out.splitlines()[0], out.splitlines()[-1]))
-        text = grid.Grid(folder / "found.red")
-        self.same("the winner's text is the winner", tuple(report["winner"]["values"].values()),
-                  text.start_values)
-        self.study("--anew", "--jobs=2", *words)
-        self.same("two jobs find the same", (race, gain), (
-            self.report("p")["race"], self.report("p")["gain"]))
-        self.after_kills(words)
-
-    def after_kills(self, words):
-        """Kills a race at random times, and compares what it makes with an unbroken one."""
-        unbroken, dice = self.report("p"), random.Random(69)
-        shutil.rmtree(self.folder / "p.study")
-        for count in range(20):
-            with self.begin(*words) as job:
-                time.sleep(dice.uniform(0.1, 0.5 + count / 10))
-                job.send_signal([signal.SIGKILL, signal.SIGTERM, signal.SIGHUP][count % 3])
-                job.communicate(timeout=SECONDS)
-        status = self.study(*words).status
-        report = self.report("p")
-        for of_box in unbroken["box"], report["box"]:
-            del of_box["seconds"]
-        names = ["race", "box", "winner", "gain", "landscape"]
-        self.same("20 kills change nothing", (0, {name: unbroken[name] for name in names}),
-                  (status, {name: report[name] for name in names}))
-        self.mark("p", stages={"inputs": self.mark("p")["stages"]["inputs"]})
-        for text, fault in [("{}\n", "no entry `settings`"),
-                            ("[" * 2000000, "1048576 bytes or more")]:
-            self.write("p.study/race.jsonl", text)
-            self.same(f"what was played is {text[:9]}", (
-                2, f"error: p.study/race.jsonl: line 1: {fault}\n"), self.study(*words)[::2])
-
-    def test_whole(self):
+    def test_kills_after_stages(self):
         """Kills a study of a whole template after each stage, and compares the end."""
         self.study("p.red", "all")
         unbroken, log = self.read("p.study/report.json"), self.read("p.study/log.txt")

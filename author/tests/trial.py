@@ -85,7 +85,7 @@ def python_with_matplotlib():
 
 
 @contextlib.contextmanager
-def started(words, **options):
+def started_command(words, **options):
     """Starts a command, and at the end kills it and what it runs, unless it has ended."""
     with subprocess.Popen(words, start_new_session=True, **options) as job:
         try:
@@ -122,7 +122,7 @@ def running_in(folder):
     return found
 
 
-class Trial(unittest.TestCase, Place):
+class Trial(unittest.TestCase):
     """A trial: a method `test_..` that is played in a new folder with FILES, in which the program
     and the commands run. OPTIONS follow the name of each command."""
 
@@ -134,7 +134,9 @@ class Trial(unittest.TestCase, Place):
 
     def settle(self, folder):
         """Goes on in another folder, with FILES there."""
-        Place.__init__(self, self.program, folder, self.FILES)
+        self.folder, self.place = folder, Place(self.program, folder, {})
+        for name, text in self.FILES.items():
+            self.write(name, text)
 
     def need(self, *tools, **paths):
         """Leaves the trial out if a tool is not on the PATH, or one of `paths` is None."""
@@ -155,10 +157,13 @@ class Trial(unittest.TestCase, Place):
         for words, status, line in refusals:
             self.same(words, (status, "", f"{line}\n"), self.call(words, **options))
 
+    def read(self, name):
+        return self.place.read(name)
+
     def write(self, name, text):
         """Writes a file, in a folder that may be new."""
         (self.folder / name).parent.mkdir(parents=True, exist_ok=True)
-        super().write(name, text)
+        self.place.write(name, text)
 
     def write_program(self, name, script):
         self.write(name, f"#!/bin/bash\n{script}\n")
@@ -174,11 +179,12 @@ class Trial(unittest.TestCase, Place):
         return run(*self.words(line, *words), folder=self.folder / below, **options)
 
     def started(self, line, *words, **streams):
-        return started(command(*self.words(line, *words)), cwd=self.folder,
-                       **{"stdout": subprocess.DEVNULL, "stderr": subprocess.DEVNULL, **streams})
+        return started_command(
+            command(*self.words(line, *words)), cwd=self.folder,
+            **{"stdout": subprocess.DEVNULL, "stderr": subprocess.DEVNULL, **streams})
 
     def cwtune(self, words, **options):
-        return Place.run(self, words, **options)
+        return self.place.run(words, **options)
 
     def tune(self, *words):
         """Runs `cwtune tune`, which leaves its certificate. Returns its result."""

@@ -167,9 +167,9 @@ WRONG_RANGES = [
               for word, field in [("bomb.c=1:2", "c"), ("bomb.mode=<,>", "mode")]),
             ("STEP=9:1", ": 9 is above 1"), ("STEP=1:9:0", ": the step is 0"),
             ("STEP=1:99999", ": values are -65535 to 65535"),
-            ("bomb.a-mode=#,q", f": q is no mode; there are {MODES}"),
-            ("bomb.modifier=ab,", ": nothing is no modifier; there are a b ab ba f x i"),
-            ("bomb.opcode=ldp", f": ldp is no opcode; there are {OPCODES}")])]),
+            ("bomb.a-mode=#,q", f": q is not a mode; there are {MODES}"),
+            ("bomb.modifier=ab,", ": nothing is not a modifier; there are a b ab ba f x i"),
+            ("bomb.opcode=ldp", f": ldp is not an opcode; there are {OPCODES}")])]),
 ]
 
 

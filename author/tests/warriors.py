@@ -94,6 +94,16 @@ class Warriors(Trial):
             self.write("t.red", of)
             self.same(name, expected, self.call(f"cwtune-warrior {words} t.red"))
 
+    def test_settings(self):
+        """Counts and finds the settings of a template, which are not kept."""
+        self.write("three.red", ";@tune A 0 2 1 1\n;@tune B 5 9 2 7\n;@tune C 0 0 1 0\nDAT A, B\n")
+        template = tuning_files.Template(self.folder / "three.red")
+        values = list(template.values_of_settings)
+        self.same("the values of all settings", (
+            [(a, b, 0) for a in range(3) for b in (5, 7, 9)], values, list(range(9)), 4), (
+            values, [template.values_of_settings[index] for index in range(9)],
+            list(map(template.values_of_settings.index, values)), template.start))
+
     def test_refusals(self):
         for name, text, begin in [
             ("kept.red", b";@text K EQU [K]\n;@tune K 0 1 1 0\n;@text DAT [L_choice:3,5]\n"
@@ -163,7 +173,7 @@ class Warriors(Trial):
             "over START, setting 1: +33.3% +- 0.0, a gain\n", ""),
             self.call("cwtune-holdout --schedule s.csv --rounds 20 t.red cert imp.red"))
 
-    def test_objects(self):
+    def test_json(self):
         self.tuned(";@tune K 0 2 1 0\nJMP 1-1/(K!=2)\n")
         made = {"opponent": 0, "wins": 0, "ties": 1, "losses": 0, "score": 1, "greatest": 3,
                 "not_played": 0}

@@ -69,7 +69,7 @@ def explain_words(args):
 
 def run(args, command, cert, *options):
     return run_program(args.program, command, *options, *explain_words(args), "--", args.template,
-                       args.schedule, cert, *args.opponent)
+                       args.schedule, cert, *args.opponents)
 
 
 def tune_options(args):
@@ -230,7 +230,7 @@ def write_inputs(args):
     if not os.path.isfile(args.cert):
         return
     name = f"{args.cert}{cert_inputs.SUFFIX}"
-    files = [args.template, args.schedule, *args.opponent]
+    files = [args.template, args.schedule, *args.opponents]
     try:
         printed = run_program(args.program, "--version").stdout.decode()
         version = printed.removeprefix("cwtune ").strip()
@@ -275,7 +275,7 @@ def main():
     parser = make_parser()
     args = parser.parse_args()
     refuse_idle(parser, args)
-    refuse_endless([args.template, args.schedule, *args.opponent, *[args.cert] * args.check_only])
+    refuse_endless([args.template, args.schedule, *args.opponents, *[args.cert] * args.check_only])
     if not args.check_only:
         refuse_faults(args)
         return tune(args, *count_settings(args))

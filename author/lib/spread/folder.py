@@ -53,7 +53,7 @@ def copies_of(args, *others):
     return [Copy("program", "cwtune", args.program), Copy("template", "t.red", args.template),
             Copy("schedule", "s.csv", args.schedule), *others,
             *(Copy("opponents", f"o{index}.red", path)
-              for index, path in enumerate(args.opponent))]
+              for index, path in enumerate(args.opponents))]
 
 
 class Pieces:

@@ -163,7 +163,8 @@ class HostJobs:
 
     def take_ended(self):
         """Returns the numbers of the jobs that have ended since the last call, with their
-        statuses. A status that is no result counts once GNU parallel has tried all hosts."""
+        statuses. A status that is not in RESULTS counts only once GNU parallel has tried all
+        hosts."""
         is_over = self.parallel.poll() is not None
         for number in self.returned():
             self.statuses[number] = self.unpack(number)
@@ -222,6 +223,6 @@ class HostJobs:
         self.guard.stdin.close()
         self.guard.wait()
         self.parallel.wait()
-        temporary = pathlib.Path.home() / ".parallel/tmp"
+        temporary = pathlib.Path(os.path.expanduser("~/.parallel/tmp"))
         for left in temporary.glob(f"{socket.gethostname()}-{self.parallel.pid}-*"):
             shutil.rmtree(left, ignore_errors=True)

@@ -14,11 +14,11 @@ import contextlib, dataclasses, os, pathlib, re, subprocess
 from typing import Annotated, NamedTuple
 
 from ..endings import Fault, end_with_parent
-from ..grid import NAME
+from ..pmars.tokens import NAME
 from ..program import NO_CANDIDATE, rules_of
 from ..regular import sha256_of
 from ..schema import Sha256
-from ..tuning_files import MOST_BYTES, Template
+from ..tuning_files import MOST_TEMPLATE_BYTES, Template
 from ..writing import open_new
 from .folder import JOB_FILES, ClusterPieces, SpreadFolder, copies_of
 
@@ -179,7 +179,7 @@ class Parts(SpreadFolder):
         so they are dropped sooner. A text that would be too long stays as it is."""
         nearest = self.template.nearest_start(self.settings(number))
         text = self.template.with_start(nearest)
-        if len(text) > MOST_BYTES:
+        if len(text) > MOST_TEMPLATE_BYTES:
             text = (self.path / "t.red").read_bytes()
         self.write(f"{number}.{self.pid}.red", text)
 

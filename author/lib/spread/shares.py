@@ -31,9 +31,10 @@ def is_verdict(text, status, number, share_count, keep=1):
     return status == 1 and REJECTED.fullmatch(text) is not None
 
 
-def verdict_in(text, *share):
-    """Returns a text that a share, given as for `is_verdict`, may have printed, or None."""
-    return text if is_verdict(text, 0 if ACCEPTED.fullmatch(text) else 1, *share) else None
+def verdict_in(text, number, share_count, keep):
+    """Returns a text that a share may have printed, or None."""
+    status = 0 if ACCEPTED.fullmatch(text) else 1
+    return text if is_verdict(text, status, number, share_count, keep) else None
 
 
 def verdict_of(texts, cert):

@@ -1,8 +1,6 @@
 """Adds the options of `cwtune-spread` to its parser, and refuses those that do not fit together."""
-import os
-
 from ..tuning_files import MOST_KEPT, MOST_SETTINGS
-from ..words import add_cwtune, add_files, add_number, number_from
+from ..words import add_cwtune, add_files, add_number, add_shared, number_from
 
 # The most parts and the most shares that the program takes; more than settings do nothing.
 MOST_PIECES = 2 ** 32 - 1
@@ -17,27 +15,24 @@ def add_options(parser):
                         "the total of START, as at a terminal")
     add_search(parser)
     add_check(parser)
-    add_jobs(parser)
+    add_pieces(parser)
     add_cwtune(parser)
     add_files(parser, "template", "schedule")
     parser.add_argument("cert", metavar="CERT", help="the file to which the certificate is "
                         "written, or with --check-only the certificate")
-    add_files(parser, "opponent")
+    add_files(parser, "opponents")
 
 
-def add_jobs(parser):
+def add_pieces(parser):
     group = parser.add_argument_group("jobs")
-    group.add_argument("--jobs", type=number_from(1), default=os.cpu_count(), metavar="N",
-                       help="jobs that run side by side, on each host "
-                       "[default: the processors of this one]")
+    add_shared(group, "--jobs")
     group.add_argument("--parts", type=number_from(1), metavar="K",
                        help="parts to split the settings into [default: 16 for each job]")
     group.add_argument("--shares", type=number_from(1, MOST_SETTINGS), metavar="K",
                        help="shares to split a check into [default: 8 for each job]")
     group.add_argument("--hosts", metavar="FILE", help="run on these hosts, a line each, over "
                        "ssh (--sshloginfile of GNU parallel; `:` is this one)")
-    group.add_argument("--anew", action="store_true",
-                       help="throw away what is done, and begin again")
+    add_shared(group, "--anew")
     group.add_argument("--merge", type=number_from(1, MOST_SETTINGS), metavar="K",
                        help="run nothing, and put together what K jobs of a cluster wrote: CERT.1 "
                        ".. CERT.K, or with --check-only CERT.1.check .. CERT.K.check")
@@ -50,8 +45,8 @@ def add_search(parser):
     methods = group.add_mutually_exclusive_group()
     methods.add_argument("--all", action="store_true",
                          help="play every fight of every setting, as `cwtune tune --all`")
-    methods.add_argument("--cache", type=int, default=4096, metavar="N",
-                         help="how many settings are remembered in each part [default: 4096]")
+    add_number(methods, "--cache", "N", 4096, "how many settings are remembered in each part",
+               low=0)  # which `cwtune` refuses
 
 
 def add_check(parser):

@@ -21,21 +21,20 @@ Example: cwtune-study --minutes 10 my.red opponents/ STEP=5:7995:10 GATE=-3500:-
 """
 import contextlib, json, os, pathlib, sys
 
-from ..adapt import add_as_is
 from ..endings import tell
 from ..grid import Grid
 from ..holdout import gain_text
 from ..program import Rules, rules_of
 from ..race import Contender
-from ..race_fights import Arena, Budget, add_budget
+from ..race.fights import Arena, Budget, add_budget
 from ..series import series_fights
 from ..tuning_files import MOST_FIGHTS, MOST_SETTINGS, Certificate, read_schedule, schedule_text
-from ..words import add_cwtune, add_json, add_number, command_parser, number_from, print_json
+from ..words import add_cwtune, add_number, add_shared, command_parser, number_from, print_json
 from ..writing import temporary_folder
 from .folder import StudyFolder
 from .fresh import FIRST_HEAT_PLAYERS, find_winner
 from .inputs import read_inputs
-from .race import RaceOfStudy
+from .raced import RaceOfStudy
 from .report import html_of, shown_values
 from .result import raced_numbers, tuned_numbers
 
@@ -87,10 +86,6 @@ class Study:
         grid = Grid(folder.path / "template.red")
         folder.write("start.red", grid.line_through(grid.start_values, ()))
 
-    def copy_template(self):
-        """Makes box.red, the settings that are tuned: here all of the template."""
-        self.folder.run(["cat", "template.red"], "box.red")
-
     def tune_box(self, *words):
         """Tunes the box. Returns how many fights that took, and the last line, that of a check."""
         hosts = [f"--hosts={self.args.hosts}"] if self.args.hosts else []
@@ -120,7 +115,8 @@ class Study:
         args, stage = self.args, self.folder.stage
         stage("schedule", lambda: self.write_series(args.seed, args.rounds, "schedule.csv"),
               "schedule.csv")
-        stage("template", self.copy_template, "box.red")
+        # The settings that are tuned are all of the template.
+        stage("template", lambda: self.folder.run(["cat", "template.red"], "box.red"), "box.red")
         print(f"all {grid.count()} settings are tuned: their ranking is exact", flush=True)
         if "best" not in self.folder.mark.stages:
             self.tell_estimate(grid)
@@ -214,12 +210,11 @@ def make_parser():
                         "winner with all fights, check the certificate, and draw its totals")
     parser.add_argument("--by-kind", action="store_true",
                         help="have each folder of opponents count as much as the others")
-    parser.add_argument("--anew", action="store_true",
-                        help="throw away what is done, and begin again")
+    add_shared(parser, "--anew")
     add_budget(parser)
-    add_json(parser)
+    add_shared(parser, "--json")
     add_cwtune(parser)
-    add_as_is(parser)
+    add_shared(parser, "--as-is")
     parser.add_argument("warrior", metavar="WARRIOR", help="a template, or with words "
                         "PLACE=VALUES a Redcode text")
     parser.add_argument("opponents", metavar="OPPONENT", nargs="*", default=[],

@@ -1,4 +1,4 @@
-"""Draws bars and lines as SVG, without a script, in the styles of `style`.
+"""Draws bars and lines as SVG, without a script, in the styles of `style.css`.
 
 A picture is 360 units wide, as much as a phone shows, and its letters are 11 units high. A table
 beside it has the same numbers. Coordinates are in units, from the left upper corner.

@@ -119,7 +119,7 @@ class StudyFolder(OwnFolder):
         return {**NAMES, "opponents": "|".join(map(re.escape, self.opponents))}
 
     def read_mark(self):
-        """Returns the mark. Refuses one whose stages have results that are none."""
+        """Returns the mark. Refuses one with a malformed result of a stage."""
         mark = super().read_mark()
         try:
             for name, stage in mark.stages.items() if mark else ():
@@ -182,7 +182,7 @@ class StudyFolder(OwnFolder):
 
     def run(self, words, output_name, logs_messages=True):
         """Runs a command in the folder, with its output in a file there. Its fault is this
-        command's. With `logs_messages` it logs and returns the lines of standard error."""
+        command's. With `logs_messages` it logs the lines of standard error."""
         began_at = time.monotonic()
         argv = words
         if words[0].startswith("cwtune-"):
@@ -194,7 +194,6 @@ class StudyFolder(OwnFolder):
             if status:
                 sys.exit(status_of(status))
         self.log_command(words, output_name, time.monotonic() - began_at, messages)
-        return messages
 
 
 def result_schema(stage):

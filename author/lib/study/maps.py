@@ -28,7 +28,7 @@ class Landscape(NamedTuple):
     names: list
     ranges: list
     totals: list
-    lists: dict = {}
+    lists: dict
 
     def place(self, values):
         """Returns row and column of the setting with these values, or None if it is not here."""

@@ -3,10 +3,9 @@
 A piece is HTML, as a string. What comes from a report becomes one through `escaped`, so that a name
 with `<`, or with bytes that are not UTF-8, is shown and never read as a tag.
 """
-import html, itertools, math, re
+import html, itertools, math, pathlib, re
 
-from .style import STYLE
-
+STYLE = pathlib.Path(__file__).with_name("style.css").read_text("utf-8")
 # The characters that no page may hold, or that turn the order of the text around.
 UNSHOWN = re.compile(r"[\x00-\x08\x0b-\x1f\x7f-\x9f\u202a-\u202e\u2066-\u2069\ud800-\udfff\ufffe"
                      r"\uffff]")

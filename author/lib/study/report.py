@@ -6,8 +6,8 @@ computed from it: an opponent's standard error comes from its wins, ties and los
 import math
 
 from . import charts, maps
-from .page import (DASH, decimal, escaped, folded, fresh_percent, integer, page,
-                         source, table, with_error)
+from .page import (DASH, decimal, escaped, folded, fresh_percent, integer, page, source, table,
+                   with_error)
 
 WINNER_FILE = "winner.red"
 START, WINNER = '<span class="start">START</span>', '<span class="winner">winner</span>'
@@ -18,6 +18,8 @@ MOST_CELLS = 2500
 MOST_VALUES = 24
 MOST_COMMANDS = 12
 ERROR_NOTE = "± is one standard error."
+# The points of a fight of two equal warriors vary by about this (standard deviation).
+LUCK_OF_FIGHT = 4 / 3
 
 
 def html_of(report):
@@ -168,8 +170,8 @@ def landscape(report):
         shown = values_text(shown_values(report, start_values))
         notes.append(f"START is not in this picture: {shown}.")
     if all(opponent["weight"] == 1 for opponent in report["opponents"]):
-        luck = 4 / 3 * math.sqrt(report["schedule"]["fights"] if not report["race"]
-                                 else report["box"]["schedule"]["fights"])
+        schedule = (report["box"] if report["race"] else report)["schedule"]
+        luck = LUCK_OF_FIGHT * math.sqrt(schedule["fights"])
         notes.insert(0, f"Luck alone moves a total by about {luck:.0f} points, so squares that "
                      "differ by less may be equal, and a stripe may be one lucky value.")
     tuned = "all settings" if not report["race"] else "the settings around the race’s winner"

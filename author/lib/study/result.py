@@ -132,19 +132,19 @@ def tuned_numbers(study, results):
 def raced_numbers(study, results):
     folder, race = study.folder.path, results["race"]
     grid = Grid(folder / "template.red")
-    box, found, challenge = results["box"], None, results["challenge"]
-    if box:
-        found = Box(folder)
-        box = {**box, "refused": found.refused(), "first": found.ranking.exact,
-               "replaces": bool(challenge["points"]), "schedule": found.schedule}
+    numbers, box = results["box"], None
+    if numbers:
+        box = Box(folder)
+        numbers = {**numbers, "refused": box.refused(), "first": box.ranking.exact,
+                   "replaces": bool(results["challenge"]["points"]), "schedule": box.schedule}
     winner_values = dict(zip(grid.names, results["winner"]))
-    report = common_numbers(study, grid, found, winner_values, results["points"])
+    report = common_numbers(study, grid, box, winner_values, results["points"])
     finalists = [{**one, "values": dict(zip(grid.names, one["values"]))}
                  for one in race["finalists"]]
     rise = race["rise"] and 100 * race["rise"]
     report |= {"race": {"settings": race["settings"], "fights": race["fights"], "rise": rise,
-                        "finalists": finalists}, "box": box, "landscape": None, "effects": []}
-    if box and box["check"]:
-        middle = found.template.values_of_settings.index(tuple(race["winner"]))
-        report |= {"landscape": found.landscape(middle), "effects": found.effects()}
+                        "finalists": finalists}, "box": numbers, "landscape": None, "effects": []}
+    if box and numbers["check"]:
+        middle = box.template.values_of_settings.index(tuple(race["winner"]))
+        report |= {"landscape": box.landscape(middle), "effects": box.effects()}
     return report

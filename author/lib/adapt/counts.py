@@ -1,11 +1,12 @@
-"""Writes CURLINE as the numbers of instructions before it, so that the count of an earlier block
-may still change: as `(4+2*(DECOYS))` after a block of two instructions. Such a sum may be
-part of a count itself."""
+"""Writes CURLINE as a sum over the blocks before it.
+
+After a block of two instructions it is (4+2*(DECOYS)), so the count of that block may still change.
+"""
 from typing import NamedTuple
 
-from .pmars_text import given_names
-from .pmars_tokens import tokens_of
-from .traced import Traced, joined
+from ..pmars.text import given_names
+from ..pmars.tokens import tokens_of
+from ..traced import Traced, joined
 
 # A longer sum is written as its value, since pMARS reads 255 bytes of a line.
 LONGEST_SUM = 200

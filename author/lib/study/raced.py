@@ -10,8 +10,8 @@ import contextlib, math, time
 from ..endings import tell
 from ..holdout import gain_of
 from ..race import Race
-from ..race_fights import Arena, budget_of
-from ..race_journal import Journal
+from ..race.fights import Arena, budget_of
+from ..race.journal import Journal
 from ..tuning_files import Template, schedule_text
 from ..writing import temporary_folder
 from .fresh import FIRST_HEAT_PLAYERS
@@ -19,7 +19,7 @@ from .fresh import FIRST_HEAT_PLAYERS
 # The budget, if a box may follow the race. Which part is used when the race ends, when the best of
 # the box's first is picked, and when it was compared with the race's winner. The box itself takes
 # at most BOX_PART.
-RACED, CHALLENGED, COMPARED, BOX_PART = 0.78, 0.90, 0.95, 0.10
+RACE_ENDS, CHALLENGED, COMPARED, BOX_PART = 0.78, 0.90, 0.95, 0.10
 # The fewest fights against each opponent in which a box is tuned.
 LEAST_ROUNDS = 5
 # How many play in the heats against the race's winner.
@@ -62,7 +62,7 @@ class RaceOfStudy:
 
     def race(self):
         """Races. Returns a dict: the outcome, the final, and what the race used of the budget."""
-        share = RACED if self.rounds(budget_of(self.args).fights) else 1
+        share = RACE_ENDS if self.rounds(budget_of(self.args).fights) else 1
         with self.arena("race.jsonl") as arena:
             race = Race(self.grid, arena, self.args.seed, share)
             outcome = race.run()

@@ -1,14 +1,15 @@
 """Makes the load file of the instructions of a text, as pMARS 0.9.2 makes its listing."""
-from .pmars_text import Chars, PmarsFault
-from .pmars_tokens import MODIFIERS, PSEUDO_OPCODES, token_at
-from .pmars_values import NoValue, ParserThere
+from .text import Chars, PmarsFault
+from .tokens import MODIFIERS, PSEUDO_OPCODES, token_at
+from .values import NoValue, ParserThere
 
 # What may follow in an operand after its first token, though it is a mode too.
 OPERATORS = "<>*"
-DEFAULTS = {**dict.fromkeys(["DAT", "NOP"], "F F F"), **dict.fromkeys(
-    ["MOV", "CMP", "SEQ", "SNE"], "AB B I"), **dict.fromkeys(
-        ["ADD", "SUB", "MUL", "DIV", "MOD"], "AB B F"), "SLT": "AB B B", "LDP": "AB B B",
-    "STP": "AB B B"}
+# The modifier if the A-mode is #, else if the B-mode is #, and otherwise.
+DEFAULTS = {**dict.fromkeys(["DAT", "NOP"], ("F", "F", "F")),
+            **dict.fromkeys(["MOV", "CMP", "SEQ", "SNE"], ("AB", "B", "I")),
+            **dict.fromkeys(["ADD", "SUB", "MUL", "DIV", "MOD"], ("AB", "B", "F")),
+            **dict.fromkeys(["SLT", "LDP", "STP"], ("AB", "B", "B"))}
 ONE_OPERAND = ["SPL", "JMP", "NOP"]
 
 
@@ -33,8 +34,7 @@ class Instruction:
         self.is_pseudo = self.opcode in PSEUDO_OPCODES
         self.modifier, self.head_roots, self.has_value = "", {self.root}, False
         self.a, self.b = Operand(), Operand()
-        rest = Chars()
-        rest.text, rest.roots = code.chars.text[opcode.end:], code.chars.roots[opcode.end:]
+        rest = Chars(code.chars.text[opcode.end:], code.chars.roots[opcode.end:])
         self.read(rest, "rest" if self.is_pseudo else "modifier or A")
 
     def fault(self, message):
@@ -70,7 +70,7 @@ class Instruction:
             raise self.fault("an EQU that names itself")
         inner = Chars()
         if known.kind == "text":
-            self.text.finder.late_use(self.code, root, token.text, known)
+            self.text.finder.names.late_use(self.code, root, token.text, known)
             inner.add(known.lines[0].text, root)
         else:
             inner.add(str(known.value - (0 if self.is_pseudo else self.address)), root)
@@ -103,7 +103,7 @@ class Instruction:
         self.modifier = token.text.upper()
         self.head_roots.add(root)
         if self.modifier not in MODIFIERS:
-            raise self.fault(f"{token.text} is no modifier")
+            raise self.fault(f"{token.text} is not a modifier")
         return "A"
 
     def read_rest(self, token, roots, state):
@@ -130,7 +130,7 @@ class Instruction:
             raise self.fault(f"{self.opcode} without an operand")
         if not self.b.chars.text:
             if self.opcode == "DAT":
-                self.text.finder.lone_operand(self)
+                self.text.finder.code.lone_operand(self)
                 self.a, self.b = self.b, self.a
                 self.a.mode = "#"
             elif self.opcode not in ONE_OPERAND:
@@ -138,7 +138,7 @@ class Instruction:
             else:
                 self.b = Operand()
         if not self.modifier:
-            when_a, when_b, otherwise = DEFAULTS.get(self.opcode, "B B B").split()
+            when_a, when_b, otherwise = DEFAULTS.get(self.opcode, ("B", "B", "B"))
             self.modifier = (when_a if self.a.mode == "#" else when_b if self.b.mode == "#"
                              else otherwise)
 
@@ -152,7 +152,7 @@ class Instruction:
             value = self.text.registers.value(chars.text, node)
         except NoValue as fault:
             raise self.fault(f"an operand has no value: {fault}") from None
-        self.text.finder.operand(self, operand, node, before)
+        self.text.finder.code.operand(self, operand, node, before)
         return value
 
 
@@ -175,16 +175,16 @@ class Load:
         if len(self.lines) > text.rules.length:
             raise PmarsFault(0, f"{len(self.lines)} instructions")
         if self.start >= len(self.lines):
-            text.finder.start_outside(self.start_code)
+            text.finder.code.start_outside(self.start_code)
             self.start = 0
 
     def set_start(self, instruction):
         value = instruction.value(instruction.b)
         if instruction.opcode == "ORG":
             self.org_codes.append(instruction)
-            self.text.finder.org(instruction)
+            self.text.finder.code.org(instruction)
         elif instruction.opcode == "END" and value and not self.start:
-            self.text.finder.end_over_org(self.org_codes)
+            self.text.finder.code.end_over_org(self.org_codes)
         else:
             return
         self.start, self.start_code = value % self.text.rules.core, instruction
@@ -193,7 +193,7 @@ class Load:
         core = self.text.rules.core
         values = [instruction.value(operand) % core for operand in (instruction.a, instruction.b)]
         numbers = [value - core * (2 * value > core) for value in values]
-        self.text.finder.instruction(instruction)
+        self.text.finder.code.instruction(instruction)
         opcode = "SEQ" if instruction.opcode == "CMP" else instruction.opcode
         self.lines.append(f"{opcode}.{instruction.modifier} {instruction.a.mode}{numbers[0]}, "
                           f"{instruction.b.mode}{numbers[1]}")

@@ -8,14 +8,14 @@ as it is met.
 import enum
 from typing import NamedTuple
 
-from .pmars_tokens import BLANKS, LETTERS, OPCODES, PSEUDO_OPCODES, code_of, token_at, tokens_of
-from .pmars_values import NoValue, ParserThere, Registers
+from .tokens import BLANKS, LETTERS, OPCODES, PSEUDO_OPCODES, code_of, token_at, tokens_of
+from .values import NoValue, ParserThere, Registers
 
 # What pMARS takes at most: labels of one instruction, lines of code, bytes of a line.
 MOST_LABELS, MOST_CODE, MOST_LINE_BYTES = 7, 1000, 255
 # How many tokens are read at most, copies and all, so that the reading of any text ends.
 MOST_TOKENS = 200000
-MOST_COPIES, MOST_WARNINGS = 65535, 9
+MOST_PMARS_COPIES, MOST_WARNINGS = 65535, 9
 
 
 class PmarsFault(Exception):
@@ -58,7 +58,7 @@ class Source(NamedTuple):
     text: str
     column: int = 0
     root: tuple | None = None
-    equ: object = None
+    equ: "Name | None" = None
 
     def root_of(self, start, end):
         return self.root or (self.column + start, self.column + end)
@@ -81,11 +81,19 @@ class Name:
         self.is_open = False
 
 
+class Use(NamedTuple):
+    """The use of a known name: where it is on the line, and what was read before it."""
+
+    known: Name
+    root: tuple
+    state: State
+
+
 class Chars:
     """A text that is made of sources, with the root of each character."""
 
-    def __init__(self):
-        self.text, self.roots = "", []
+    def __init__(self, text="", roots=()):
+        self.text, self.roots = text, list(roots)
 
     def add(self, text, root):
         self.extend(text, [root] * len(text))
@@ -98,8 +106,7 @@ class Chars:
 
     def take(self):
         """Returns what is there, and begins anew."""
-        taken = Chars()
-        taken.text, taken.roots = self.text, self.roots
+        taken = Chars(self.text, self.roots)
         self.text, self.roots = "", []
         return taken
 
@@ -144,7 +151,7 @@ class PmarsText:
             elif state == State.END_OF_BLOCK:
                 raise PmarsFault(self.index, "ROF without FOR")
             self.at += 1
-        self.finder.ends(self)
+        self.finder.blocks.text_ends(self)
 
     def read_line(self, made):
         """Reads the line that is next, of the text or of an EQU."""
@@ -153,10 +160,11 @@ class PmarsText:
             return self.read(Source(line.text, 0, *self.inside), 0, made, State.NOTHING)
         self.index, self.reading = line.index, self.reading + 1
         before = self.dropping
-        self.finder.begins_line(self, line, before > 0)
+        if not before:
+            self.finder.changes.read_counts[line.index] += 1
         state = self.read(Source(line.text, line.column), 0, made, State.NOTHING)
         if before:
-            self.finder.dropped(line, self.dropping - before)
+            self.finder.blocks.dropped(line, self.dropping - before)
         return state
 
     def warn(self, what):
@@ -206,7 +214,7 @@ class PmarsText:
         word = token_at(source.text, token.end)
         if word.text.upper() != "ASSERT":
             return
-        self.finder.begins_value(self)
+        self.finder.values.begins()
         self.read(source, word.end, made, State.VALUE)
         chars, before = made.take(), Registers(self.registers)
         try:
@@ -214,11 +222,11 @@ class PmarsText:
             value = self.registers.value(chars.text, node)
         except NoValue:
             self.warn("assertion")
-            self.finder.assertion_without_value(self)
+            self.finder.values.assertion_without_value(self)
             return
-        if value == 0 and not self.finder.is_unknown(self.index):
+        if value == 0 and not self.finder.names.is_unknown(self.index):
             raise PmarsFault(self.index, "the assertion is false")
-        self.finder.assertion(self, chars, node, before)
+        self.finder.values.assertion(self, chars, node, before)
 
     def name_step(self, source, token, made, state):
         word = token.text.upper()
@@ -233,7 +241,7 @@ class PmarsText:
         if word in OPCODES:
             return self.read_code(source, token, made)
         if word == "ROF":
-            self.finder.end_of_block(self, source, token)
+            self.finder.blocks.rof(self, source, token)
             return State.END_OF_BLOCK
         return (self.read_block if word == "FOR" else self.read_equ)(source, token.end, made)
 
@@ -247,9 +255,9 @@ class PmarsText:
 
     def curline_step(self, source, token, made, state):
         if state <= State.LABELS:
-            raise PmarsFault(self.index, "CURLINE is no label")
+            raise PmarsFault(self.index, "CURLINE is not a label")
         root = source.root_of(token.start, token.end)
-        self.finder.number(self, source, root, "CURLINE", self.address)
+        self.finder.values.number(source, root, "CURLINE", self.address)
         made.add(f"{self.address}{blank_at(source.text, token.end)}", root)
         return token.end, state
 
@@ -263,14 +271,14 @@ class PmarsText:
             made.add(part.text, source.root_of(part.start, part.end))
             end = part.end
         made.add(blank_at(source.text, end), None)
-        self.finder.opcode(self, word, source.root_of(token.start, token.end))
+        self.finder.names.opcode(self, word, source.root_of(token.start, token.end))
         state = State.START if word in PSEUDO_OPCODES else State.VALUE
         if self.read(source, end, made, state) == State.WRONG:
             return State.WRONG
         self.define(self.take_labels())
         self.address += word not in PSEUDO_OPCODES
         if word == "END":
-            self.finder.end(self)
+            self.finder.blocks.end(self)
             self.goes_on = False
         return State.CODE
 
@@ -288,16 +296,16 @@ class PmarsText:
         root = source.root_of(token.start, at)
         known = self.names.get(name)
         if known and known.is_given:
-            self.finder.given_name(self, source, root, name)
+            self.finder.names.given_name(self, source, root, name)
         if counters:
-            self.finder.join(self, source, root, name, counters)
+            self.finder.names.join(self, source, root, name, counters)
         if known and known.kind == "text":
-            return self.read_equ_use(source, at, made, (state, known, root))
+            return self.read_equ_use(source, at, made, Use(known, root, state))
         if known and state > State.LABELS:
-            return self.number_step(source, at, made, (state, known, root))
+            return self.number_step(source, at, made, Use(known, root, state))
         if known:
             self.warn("label")
-            self.finder.repeated_label(self, source, root)
+            self.finder.names.repeated_label(self, root)
             return State.WRONG
         if state > State.LABELS:
             made.add(f"{name}{blank_at(source.text, at)}", root)
@@ -305,7 +313,7 @@ class PmarsText:
         if len(self.labels) == MOST_LABELS:
             raise PmarsFault(self.index, "too many labels")
         if any(label.name == name for label in self.labels):
-            self.finder.label_again(self, source, root)
+            self.finder.names.label_again(self, source, root)
         self.labels.append(Label(name, self.index, root, self.reading))
         return at + (source.text[at:at + 1] == ":"), State.LABELS
 
@@ -316,28 +324,27 @@ class PmarsText:
             counter = token_at(source.text, at + 1)
             known = self.names.get(counter.text)
             if not known or known.kind != "counter":
-                raise PmarsFault(self.index, f"{counter.text} is no counter")
+                raise PmarsFault(self.index, f"{counter.text} is not a counter")
             name, at = f"{name}{known.value:02}", counter.end
             counters.append(counter.text)
         return name, at, counters
 
-    def number_step(self, source, at, made, what):
-        state, known, root = what
-        if known.kind == "counter":
-            text = f"{known.value:02}"
+    def number_step(self, source, at, made, use):
+        if use.known.kind == "counter":
+            text = f"{use.known.value:02}"
             if source.root:
-                self.finder.counter_in_equ(self, source)
+                self.finder.names.counter_in_equ(self, source)
         else:
-            text = str(known.value - (0 if state == State.START else self.address))
-            self.finder.number(self, source, root, "label", int(text))
-        made.add(f"{text}{blank_at(source.text, at)}", root)
-        return at, state
+            text = str(use.known.value - (0 if use.state == State.START else self.address))
+            self.finder.values.number(source, use.root, "label", int(text))
+        made.add(f"{text}{blank_at(source.text, at)}", use.root)
+        return at, use.state
 
-    def read_equ_use(self, source, at, made, what):
-        state, known, root = what
+    def read_equ_use(self, source, at, made, use):
+        known, root, state = use
         if known.is_open:
             raise PmarsFault(self.index, "an EQU that names itself")
-        self.finder.equ_use(self, source, known, (root, state <= State.LABELS))
+        self.finder.names.equ_use(self, source, use)
         outside = self.lines, self.at, self.inside
         self.lines, self.at, self.inside = known.lines, 0, (root, source.equ or known)
         known.is_open = True
@@ -363,7 +370,7 @@ class PmarsText:
         labels, lines = self.take_labels(), [Line(self.index, source.column + at, source.text[at:])]
         if not labels:
             self.warn("EQU")
-            self.finder.stray_equ(self)
+            self.finder.names.stray_equ(self)
             return State.VALUE
         while self.at + 1 < len(self.lines):
             line = self.lines[self.at + 1]
@@ -374,16 +381,16 @@ class PmarsText:
             lines.append(Line(line.index, line.column + token.end, line.text[token.end:]))
         known = Name("text", lines=lines)
         self.names |= {label.name: known for label in labels}
-        self.finder.equ(self, known, labels)
+        self.finder.names.equ(self, known, labels)
         return State.VALUE
 
     def read_block(self, source, at, made):
         labels, counter = self.take_labels(), None
         if labels:
             *labels, counter = labels
-            self.finder.counter(self, counter)
+            self.finder.blocks.counter(self, counter)
             self.define(labels)
-        self.finder.begins_value(self)
+        self.finder.values.begins()
         made.take()
         self.read(source, at, made, State.VALUE)
         chars, before = made.take(), Registers(self.registers)
@@ -392,8 +399,8 @@ class PmarsText:
             count = self.registers.value(chars.text, node)
         except NoValue as fault:
             raise PmarsFault(self.index, f"the count has no value: {fault}") from None
-        self.finder.count(self, chars, node, before)
-        if count > MOST_COPIES:
+        self.finder.values.count(self, chars, node, before)
+        if count > MOST_PMARS_COPIES:
             raise PmarsFault(self.index, "too many copies")
         if count <= 0:
             self.dropping += 1
@@ -403,7 +410,7 @@ class PmarsText:
 
     def read_copies(self, block, made):
         self.blocks.append(block)
-        self.finder.block(self, block)
+        self.finder.blocks.begins(self, block)
         known, name = Name("counter"), block.counter and block.counter.name
         if name:
             self.names[name] = known
@@ -413,12 +420,12 @@ class PmarsText:
             if not self.goes_on:
                 break
         self.names.pop(name, None)
-        self.finder.block_ends(self, self.blocks.pop())
+        self.finder.blocks.ends(self, self.blocks.pop())
 
     def read_copy(self, made):
         while self.goes_on:
             if self.at + 1 == len(self.lines):
-                self.finder.missing_rof(self)
+                self.finder.blocks.missing_rof(self)
                 self.goes_on = False
                 return
             self.at += 1

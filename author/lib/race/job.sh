@@ -1,7 +1,7 @@
 #!/bin/sh
 # Plays settings of a race on a host. For each it prints a row of a certificate with its points, or
-# an empty line if it does not assemble. race_hosts.py has spread/job.sh run it.
-# Use: race_job.sh SETTINGS COMMAND..
+# an empty line if it does not assemble. hosts.py has spread/job.sh run it.
+# Use: job.sh SETTINGS COMMAND..
 # By each line of SETTINGS, sed makes of t.red the template setting.red, which COMMAND plays.
 
 settings=$1

@@ -4,12 +4,13 @@ from typing import NamedTuple
 
 BLANKS = " \t\n\v\f\r"
 LETTERS = frozenset(string.ascii_letters)
+NAME = "[A-Za-z_][A-Za-z0-9_]*"
 # A token, which may have blanks before it.
-TOKEN = re.compile(rf"[{BLANKS}]*+(?:(?P<number>[0-9]+)|(?P<name>[A-Za-z_][A-Za-z0-9_]*)"
+TOKEN = re.compile(rf"[{BLANKS}]*+(?:(?P<number>[0-9]+)|(?P<name>{NAME})"
                    r"|(?P<sign>&&|\|\|)|(?P<other>.))", re.DOTALL)
-MODES = "#$@<>*{}"
+MODES = "#$*@{<}>"
 SIGNS = "()/+-%!="
-OPCODES = ("MOV ADD SUB MUL DIV MOD JMZ JMN DJN CMP SLT SPL DAT JMP SEQ SNE NOP LDP STP "
+OPCODES = ("DAT MOV ADD SUB MUL DIV MOD JMP JMZ JMN DJN CMP SEQ SNE SLT SPL NOP LDP STP "
            "ORG END PIN").split()
 PSEUDO_OPCODES = ["ORG", "END", "PIN"]
 P_SPACE_OPCODES = ["LDP", "STP", "PIN"]
@@ -47,7 +48,8 @@ def tokens_of(text, start=0):
 
 
 def comment_sign(text):
-    """Returns what makes a text a comment that says nothing to pMARS."""
+    """Returns the sign of a plain comment: `;; ` if pMARS would read the text's first word after
+    one `;`."""
     return ";; " if token_at(text, 0).text.upper() in COMMENT_WORDS else "; "
 
 

@@ -16,9 +16,9 @@ START plays in each round and in the final. A *block* is one fight against each 
 import itertools, math, random
 from typing import NamedTuple
 
-from .endings import Fault
-from .race_model import PRIOR_BLOCKS, Model
-from .race_settings import child, spread_evenly
+from ..endings import Fault
+from .model import PRIOR_BLOCKS, Model
+from .settings import child, spread_evenly
 
 # Which part of the budget is used when exploring, the rounds and the final end.
 EXPLORED, RACED, DECIDED = 0.33, 0.70, 0.88
@@ -226,7 +226,7 @@ class Race:
             self.arena.hosts.play_ahead(pair, blocks, math.inf, limit * self.share)
             for player_points, of_blocks in zip(points, self.arena.play(pair, blocks)):
                 player_points.extend(of_blocks)
-        return tuple(["".join(column) for column in zip(*blocks)] for blocks in points)
+        return tuple(["".join(column) for column in zip(*of_player)] for of_player in points)
 
 
 def plays_of_exploring():

@@ -4,11 +4,11 @@ so that it does.
 import random, re
 from typing import NamedTuple
 
-from .pmars_tokens import BLANKS, LETTERS, tokens_of
+from .tokens import BLANKS, LETTERS, tokens_of
 
 # How tightly an operator binds, in pMARS and here.
-THERE = {"*": 5, "/": 5, "%": 5, "+": 4, "-": 4, **dict.fromkeys([">", "<", "==", "!=", ">=", "<="],
-         3), "&&": 2, "||": 1, "first": 0}
+THERE = {"first": 0, "||": 1, "&&": 2, "==": 3, "!=": 3, "<": 3, ">": 3, "<=": 3, ">=": 3, "+": 4,
+         "-": 4, "*": 5, "/": 5, "%": 5}
 HERE = {"||": 1, "&&": 2, "==": 3, "!=": 3, "<": 4, ">": 4, "<=": 4, ">=": 4, "+": 5, "-": 5,
         "*": 6, "/": 6, "%": 6}
 UNARY, OPERAND = 7, 8
@@ -131,7 +131,7 @@ class Parser:
             self.at = operator.end()
             return operator[0]
         if self.next() in "=!|&":
-            raise AnyValue(f"{self.next()} is no operator")
+            raise AnyValue(f"{self.next()} is not an operator")
         raise NoValue("no operator")
 
     def ended(self):

@@ -2,11 +2,11 @@
 import json, re
 from typing import Annotated, TypedDict
 
-from .endings import Fault
-from .schema import Malformed, from_json
+from ..endings import Fault
+from ..schema import Malformed, from_json
 
 # More than a line has.
-MOST_BYTES = 1 << 20
+MOST_RECORD_BYTES = 1 << 20
 Block = Annotated[str, re.compile("[013]+")]
 
 
@@ -24,11 +24,11 @@ class Journal(list):
     def __init__(self, file, shown):
         super().__init__()
         self.file, self.shown, whole_bytes = file, shown, 0
-        while (line := file.readline(MOST_BYTES)).endswith(b"\n"):
+        while (line := file.readline(MOST_RECORD_BYTES)).endswith(b"\n"):
             super().append(self.read(line))
             whole_bytes += len(line)
-        if len(line) == MOST_BYTES:
-            raise self.fault(f"{MOST_BYTES} bytes or more")
+        if len(line) == MOST_RECORD_BYTES:
+            raise self.fault(f"{MOST_RECORD_BYTES} bytes or more")
         file.truncate(whole_bytes)
 
     def fault(self, what):

@@ -6,19 +6,19 @@ the same way, as without hosts. A piece of the work is some settings in some blo
 import math, os, pathlib, shutil, subprocess
 from typing import NamedTuple
 
-from .endings import Fault, fault_of
-from .program import reading_output
-from .race import SETTINGS_AT_ONCE
-from .spread.hosts import HostJobs, read_hosts
-from .spread.jobs import ended
-from .tuning_files import MOST_FIGHTS, schedule_text
+from ..endings import Fault, fault_of
+from ..program import reading_output
+from ..spread.hosts import HostJobs, read_hosts
+from ..spread.jobs import ended
+from ..tuning_files import MOST_FIGHTS, schedule_text
+from . import SETTINGS_AT_ONCE
 
 # Hosts play what takes longer than that here; for one of their processors it is a piece.
 SECONDS = 60
 # How many pieces a processor of the hosts gets before the race goes on, and how many plays may wait
 # in memory: this much is lost by a kill.
 PIECES_AT_ONCE, MOST_PLAYS = 4, 500000
-SCRIPT = pathlib.Path(__file__).with_name("race_job.sh")
+SCRIPT = pathlib.Path(__file__).with_name("job.sh")
 
 
 def points_of(row, width):
@@ -75,8 +75,8 @@ class PiecesFolder:
 
     def words(self, number):
         name = f"{number}.{self.pid}"
-        return ["sh", "./race_job", f"{name}.settings",
-                *self.arena.words("./cwtune", "setting.red", f"{name}.csv", self.opponents)]
+        words = self.arena.processes.words("./cwtune", "setting.red", f"{name}.csv", self.opponents)
+        return ["sh", "./race_job", f"{name}.settings", *words]
 
     def result(self, number, status):
         piece, fault = self.pieces[number], self.file(number, "fault").read_bytes()
@@ -102,7 +102,7 @@ class Hosts:
     def play_ahead(self, contenders, blocks, count, limit):
         """Has hosts play `blocks` and more, `count` in all within `limit`, if that is slow here."""
         arena, settings = self.arena, [contender.values for contender in contenders]
-        if (not (arena.args.hosts and arena.plays_of_jobs) or arena.is_recorded()
+        if (not (arena.args.hosts and arena.processes.plays) or arena.is_recorded()
                 or (settings[0], blocks[0]) in self.points):
             return
         at_once = min(len(settings), SETTINGS_AT_ONCE) * len(blocks)
@@ -125,7 +125,7 @@ class Hosts:
         return plays if plays <= most else max(1, int(most / at_once)) * at_once
 
     def seconds_here(self):
-        return self.arena.seconds_of_jobs / self.arena.plays_of_jobs
+        return self.arena.processes.seconds / self.arena.processes.plays
 
     def processors(self):
         """Returns how many pieces run side by side, if all hosts answer."""

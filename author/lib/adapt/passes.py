@@ -1,10 +1,10 @@
 """Makes the changes that a reading of a text asks for, pass by pass."""
-import collections, re
+import collections, itertools, re
 
-from .adapt_changes import DROPPED, ONE_COPY, TOKENS, Change
-from .pmars_text import is_head
-from .pmars_tokens import code_of, comment_sign, token_at, tokens_of
-from .traced import Traced, joined
+from ..pmars.text import is_head
+from ..pmars.tokens import code_of, comment_sign, token_at, tokens_of
+from ..traced import Traced, joined
+from .changes import ONE_COPY, TOKENS, Change
 
 HEAD_HERE = ";redcode"
 # A text of more copies is refused by `cwtune`.
@@ -14,16 +14,11 @@ MOST_COPIES = 4096
 def changed(line, changes):
     if any(change.new is None for change in changes):
         return []
+    # From the end of the line. Of several at one place the last goes in first, so their texts keep
+    # the order.
     for change in sorted(reversed(changes), key=Change.where, reverse=True):
         line = line.replaced(change.start, change.end, change.new)
     return line.lines()
-
-
-def is_asked_for(finder, change):
-    """Returns whether all readings of the line ask for a change."""
-    if DROPPED in change.readings:
-        return change.index not in finder.read_counts
-    return not change.readings or len(change.readings) == finder.read_counts[change.index]
 
 
 def without_overlaps(changes):
@@ -35,34 +30,34 @@ def without_overlaps(changes):
     return [change for of_line in chosen.values() for change in of_line]
 
 
-def comments_of_equs(finder, chosen):
+def comments_of_equs(lines, names, chosen):
     """Returns changes that make comments of the EQU lines whose names are all written out."""
-    places, lines = {change.where() for change in chosen}, {}
-    for known, indices in finder.equs.items():
-        uses = finder.uses[known]
+    places, found = {change.where() for change in chosen}, {}
+    for known, indices in names.equs.items():
+        uses = names.uses[known]
         is_bad = any(TOKENS.fullmatch(line.text) is None for line in known.lines)
         if uses <= places and (uses or len(indices) > 1 or is_bad):
-            lines |= dict.fromkeys(indices)
-    return [Change(index, 0, 0, Traced.new(comment_sign(finder.lines[index].text)),
-                   "this EQU is a comment now") for index in lines]
+            found |= dict.fromkeys(indices)
+    return [Change(index, 0, 0, Traced.new(comment_sign(lines[index].text)),
+                   "this EQU is a comment now") for index in found]
 
 
-def blanks(finder):
-    places = [(index, match.span()) for index, line in enumerate(finder.lines)
+def blanks(lines):
+    places = [(index, match.span()) for index, line in enumerate(lines)
               for match in re.finditer("[\f\v]", code_of(line.text))]
     return [Change(index, *span, Traced.new(" "), "a form feed is a blank now")
             for index, span in places]
 
 
-def changes_of_joins(finder):
+def changes_of_joins(changes, inverted):
     """Yields changes that join outer counters first. If names spell digits, blocks are unrolled."""
-    words = {token.text for line in finder.lines for token in tokens_of(code_of(line.text))}
-    bases = {new.partition("&")[0] for found in finder.inverted.values() for _, _, new in found}
+    words = {token.text for line in changes.lines for token in tokens_of(code_of(line.text))}
+    bases = {new.partition("&")[0] for found in inverted.values() for _, _, new in found}
     spelled = {word for word in words for base in bases
                if re.fullmatch(rf"{base}[0-9]{{4,}}", word)}
-    for (index, start, end), found in finder.inverted.items():
+    for (index, start, end), found in inverted.items():
         if spelled:
-            finder.to_unroll.append(index)
+            changes.to_unroll.append(index)
             continue
         new = found[0][2]
         yield Change(index, start, end, Traced.new(new), f"{new} has its outer counter first now")
@@ -70,30 +65,31 @@ def changes_of_joins(finder):
 
 def passed(finder):
     """Returns the lines with the changes that were found, and the notes, each with its line."""
-    asked = sorted((change for change in finder.changes.values() if is_asked_for(finder, change)),
+    changes, lines, names = finder.changes, finder.changes.lines, finder.names
+    asked = sorted(filter(changes.is_asked_for, changes.found.values()),
                    key=lambda change: change.note != ONE_COPY)
-    left = [change.index for change in finder.changes.values() if not is_asked_for(finder, change)]
-    chosen = without_overlaps([*asked, *changes_of_joins(finder)])
-    chosen = without_overlaps([*chosen, *comments_of_equs(finder, chosen), *blanks(finder)])
+    chosen = without_overlaps([*asked, *changes_of_joins(changes, names.inverted)])
+    chosen = without_overlaps([*chosen, *comments_of_equs(lines, names, chosen), *blanks(lines)])
     if not chosen:
-        return unrolled_pass(finder, [*finder.to_unroll, *left])
+        left = itertools.filterfalse(changes.is_asked_for, changes.found.values())
+        indices = [*changes.to_unroll, *(change.index for change in left)]
+        return unrolled_pass(lines, finder.blocks, indices)
     of_line = collections.defaultdict(list)
     for change in chosen:
         of_line[change.index].append(change)
-    lines = [new for index, line in enumerate(finder.lines)
-             for new in changed(line, of_line[index])]
-    return lines, [(finder.lines[change.index].number(), change.note) for change in chosen]
+    new_lines = [new for index, line in enumerate(lines) for new in changed(line, of_line[index])]
+    return new_lines, [(lines[change.index].number(), change.note) for change in chosen]
 
 
-def unrolled_pass(finder, indices):
+def unrolled_pass(lines, finder, indices):
     """Returns the lines with one block unrolled around one of the indices, and a note of it."""
-    blocks = [innermost(finder.blocks, finder.tails, index) for index in indices]
+    blocks = [innermost(finder.found, finder.tails, index) for index in indices]
     block = max((block for block in blocks if block and max(block.counts) <= MOST_COPIES),
                 key=lambda block: block.head, default=None)
     if block is None:
-        return finder.lines, []
-    lines = unrolled(finder.lines, block, finder.tails[block.head])
-    return lines, [(finder.lines[block.head].number(), "the block is unrolled")]
+        return lines, []
+    note = lines[block.head].number(), "the block is unrolled"
+    return unrolled(lines, block, finder.tails[block.head]), [note]
 
 
 def copy_of(line, counter, value, has_comment):
@@ -170,7 +166,7 @@ def with_heads(lines):
     for index, line in enumerate(lines[:before]):
         if line.text[:len(HEAD_HERE)].lower() == HEAD_HERE:
             lines[index] = line.replaced(1, 1, " ")
-            notes.append((line.number(), "for pMARS this is no ;redcode line"))
+            notes.append((line.number(), "for pMARS this is not a ;redcode line"))
     if heads and lines[before].text[:1] != ";":
         lines[before] = lines[before][token_at(lines[before].text, 0).start:]
         notes.append((lines[before].number(), ";redcode begins the line now"))

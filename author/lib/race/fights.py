@@ -8,13 +8,13 @@ import argparse, concurrent.futures, itertools, operator, os, pathlib, random, r
 import subprocess, time
 from typing import NamedTuple
 
-from .endings import Fault, fault_of, tell
-from .program import NO_CANDIDATE, reading_output, rules_of
-from .race_hosts import Hosts, points_of
-from .spread.hosts import read_hosts, refuse_missing_tools
-from .tuning_files import Fight, schedule_text
-from .watching import Pace
-from .words import counted, number_from
+from ..endings import Fault, fault_of, tell
+from ..program import NO_CANDIDATE, reading_output, rules_of
+from ..spread.hosts import read_hosts, refuse_missing_tools
+from ..tuning_files import Fight, schedule_text
+from ..watching import Pace
+from ..words import add_shared, counted, number_from
+from .hosts import Hosts, points_of
 
 # The fights of a race that is given no budget.
 DEFAULT_FIGHTS = 300000
@@ -30,8 +30,8 @@ WITH_PARENT = ["setpriv", "--pdeathsig", "KILL", "--"] if shutil.which("setpriv"
 
 
 def clock():
-    """Returns the seconds that --minutes counts. Measurements set CWTUNE_CLOCK=processor, since the
-    time on a wall says little on a busy machine."""
+    """Returns the seconds that --minutes counts. Measurements set CWTUNE_CLOCK=processor, since
+    elapsed time says little on a busy machine."""
     if os.environ.get("CWTUNE_CLOCK") == "processor":
         return sum(sum(resource.getrusage(who)[:2])
                    for who in (resource.RUSAGE_SELF, resource.RUSAGE_CHILDREN))
@@ -65,28 +65,13 @@ class Positions:
         return Fight(opponent, self.positions[index], "co"[(index + cycle + self.shift) % 2])
 
 
-class Arena:
-    """The fights of a race in the settings of a grid: `with` it, they can be played.
+class Processes:
+    """Plays settings of a grid in blocks by processes of `cwtune`, side by side, `with` it.
+    `plays` counts what was played, and `seconds` are those of all processes."""
 
-    `opponents` are the paths of the opponents, and `weights` how much each counts; each weight is 1
-    or more. `records` is a list of what was played, to which each play adds: given those of a race
-    that was stopped, the same race goes on where it was. `news` is what the lines of progress say,
-    and `hosts` play ahead what would take long here; `work` is a name by which they know what an
-    earlier run left.
-    """
-
-    def __init__(self, args, budget, grid, opponents, weights, records, folder, work=None):
-        self.args, self.budget, self.grid, self.records = args, budget, grid, records
-        self.rules = rules_of(args)
-        self.opponents, self.weights = opponents, weights
-        self.folder, dice = pathlib.Path(folder), random.Random(args.seed)
-        self.work = work or self.folder
-        self.positions = [Positions(self.rules, dice) for _ in self.opponents]
-        self.block_count = self.record_count = self.fights = 0
-        self.began_at, self.seconds = clock(), 0.0
-        self.seconds_of_play, self.seconds_of_jobs, self.plays_of_jobs = 0.0, 0.0, 0
-        self.hosts = Hosts(self)
-        self.news, self.pace = "", Pace()
+    def __init__(self, args, grid, opponents, folder):
+        self.args, self.grid, self.opponents, self.folder = args, grid, opponents, folder
+        self.rules, self.plays, self.seconds = rules_of(args).words(), 0, 0.0
 
     def __enter__(self):
         self.running, self.is_over = set(), False
@@ -99,6 +84,87 @@ class Arena:
         for process in list(self.running):
             process.kill()
         self.threads.shutdown()
+
+    def play(self, settings, blocks, tell_progress):
+        """Returns for each setting a text per block, or None if it does not assemble."""
+        schedules, points = list(self.schedules_of(blocks)), []
+        futures = [[self.threads.submit(self.run, template, schedule) for schedule in schedules]
+                   for template in self.templates_of(settings)]
+        for of_setting in futures:
+            pieces, seconds = zip(*(future.result() for future in of_setting))
+            points.append(None if None in pieces else list(itertools.chain(*pieces)))
+            self.seconds += sum(seconds)
+            tell_progress()
+        self.plays += len(settings) * len(blocks)
+        return points
+
+    def schedules_of(self, blocks):
+        """Writes a schedule for the blocks of each process. Yields its path."""
+        for first in range(0, len(blocks), BLOCKS_OF_PROCESS):
+            path = self.folder / f"{first}.csv"
+            fights = itertools.chain(*blocks[first:first + BLOCKS_OF_PROCESS])
+            path.write_text(schedule_text(fights))
+            yield path
+
+    def templates_of(self, settings):
+        """Writes a template for each setting. Yields its path."""
+        for number, values in enumerate(settings):
+            path = self.folder / f"{number}.red"
+            path.write_bytes(self.grid.line_through(values, ()))
+            yield path
+
+    def words(self, program, template, schedule, opponents):
+        """Returns the words that play a setting, the only one of a template."""
+        return [program, "tune", "--all", *self.rules, "--", template, schedule,
+                "/dev/stdout", *opponents]
+
+    def run(self, template, schedule):
+        """Returns the points of a setting in some blocks, and how many seconds that took."""
+        began_at = time.monotonic()
+        words = self.words(self.args.program, template, schedule, self.opponents)
+        with subprocess.Popen([*WITH_PARENT, *words], stdin=subprocess.DEVNULL,
+                              stdout=subprocess.PIPE, stderr=subprocess.PIPE) as process:
+            self.running.add(process)
+            if self.is_over:
+                process.kill()
+            stdout, stderr = process.communicate()
+            self.running.discard(process)
+        seconds = time.monotonic() - began_at
+        if process.returncode == 1 and stderr.endswith(NO_CANDIDATE.encode()):
+            return None, seconds
+        if process.returncode:
+            raise fault_of(subprocess.CompletedProcess(words, process.returncode, stdout, stderr))
+        with reading_output(self.args.program, "tune"):
+            return points_of(stdout.split(b"\n", 3)[2], len(self.opponents)), seconds
+
+
+class Arena:
+    """The fights of a race in the settings of a grid: `with` it, they can be played.
+
+    `opponents` are the paths of the opponents, and `weights` how much each counts; each weight is 1
+    or more. `records` is a list of what was played, to which each play adds: given those of a race
+    that was stopped, the same race goes on where it was. `news` is what the lines of progress say,
+    and `hosts` play ahead what would take long here; `work` is a name by which they know what an
+    earlier run left.
+    """
+
+    def __init__(self, args, budget, grid, opponents, weights, records, folder, work=None):
+        self.args, self.budget, self.grid, self.records = args, budget, grid, records
+        self.opponents, self.weights = opponents, weights
+        self.folder, dice = pathlib.Path(folder), random.Random(args.seed)
+        self.work = work or self.folder
+        self.positions = [Positions(rules_of(args), dice) for _ in self.opponents]
+        self.block_count = self.record_count = self.fights = 0
+        self.began_at, self.seconds, self.seconds_of_play = clock(), 0.0, 0.0
+        self.processes, self.hosts = Processes(args, grid, opponents, self.folder), Hosts(self)
+        self.news, self.pace = "", Pace()
+
+    def __enter__(self):
+        self.processes.__enter__()
+        return self
+
+    def __exit__(self, *_):
+        self.processes.__exit__()
 
     def elapsed(self):
         return clock() - self.began_at
@@ -149,7 +215,8 @@ class Arena:
         that does not assemble."""
         settings = [list(contender.values) for contender in contenders]
         if not self.is_recorded():
-            points = self.hosts.take(settings, blocks) or self.run(settings, blocks)
+            points = (self.hosts.take(settings, blocks)
+                      or self.processes.play(settings, blocks, self.tell_progress))
             self.records.append({"settings": settings, "points": points,
                                  "seconds": round(self.elapsed(), 3)})
         record, plays = self.records[self.record_count], len(settings) * len(blocks)
@@ -163,54 +230,11 @@ class Arena:
         self.charge(plays * len(self.opponents), record["seconds"] - self.seconds)
         return record["points"]
 
-    def run(self, settings, blocks):
-        firsts = range(0, len(blocks), BLOCKS_OF_PROCESS)
-        for piece in firsts:
-            fights = (fight for block in blocks[piece:piece + BLOCKS_OF_PROCESS] for fight in block)
-            (self.folder / f"{piece}.csv").write_text(schedule_text(fights))
-        futures = []
-        for number, values in enumerate(settings):
-            (self.folder / f"{number}.red").write_bytes(self.grid.line_through(values, ()))
-            futures.append([self.threads.submit(self.run_process, number, piece)
-                            for piece in firsts])
-        points = []
-        for of_setting in futures:
-            pieces = [future.result() for future in of_setting]
-            points.append(None if None in pieces else list(itertools.chain(*pieces)))
-            self.tell_progress()
-        self.plays_of_jobs += len(settings) * len(blocks)
-        return points
-
-    def words(self, program, template, schedule, opponents):
-        """Returns the words that play a setting, the only one of a template."""
-        return [program, "tune", "--all", *self.rules.words(), "--", template, schedule,
-                "/dev/stdout", *opponents]
-
-    def run_process(self, number, piece):
-        began_at = time.monotonic()
-        words = self.words(self.args.program, self.folder / f"{number}.red",
-                           self.folder / f"{piece}.csv", self.opponents)
-        with subprocess.Popen([*WITH_PARENT, *words], stdin=subprocess.DEVNULL,
-                              stdout=subprocess.PIPE, stderr=subprocess.PIPE) as process:
-            self.running.add(process)
-            if self.is_over:
-                process.kill()
-            stdout, stderr = process.communicate()
-            self.running.discard(process)
-        self.seconds_of_jobs += time.monotonic() - began_at
-        completed = subprocess.CompletedProcess(words, process.returncode, stdout, stderr)
-        if process.returncode == 1 and stderr.endswith(NO_CANDIDATE.encode()):
-            return None
-        if process.returncode:
-            raise fault_of(completed)
-        with reading_output(self.args.program, "tune"):
-            return points_of(stdout.split(b"\n", 3)[2], len(self.opponents))
-
     def tell_estimate(self, what):
-        if not self.seconds_of_jobs:
+        if not self.processes.seconds:
             tell(f"{what}: goes on where it was stopped")
             return
-        rate = self.args.jobs * self.fights / self.seconds_of_jobs
+        rate = self.args.jobs * self.fights / self.processes.seconds
         limits = [self.budget.seconds, self.budget.fights and self.budget.fights / rate]
         seconds = min(filter(None, limits))
         tell(f"{what}: about {round(seconds * rate, -2):.0f} fights in {duration(seconds)} on "
@@ -234,8 +258,7 @@ def add_budget(parser):
                        f"1000 or more [default: {DEFAULT_FIGHTS}, unless --minutes is given]")
     group.add_argument("--minutes", type=minutes, metavar="N",
                        help="end after N minutes, such as 10 or 0.5")
-    group.add_argument("--jobs", type=number_from(1), default=os.cpu_count(), metavar="N",
-                       help="jobs that run side by side [default: the processors]")
+    add_shared(group, "--jobs")
     group.add_argument("--hosts", type=hosts_file, metavar="FILE", help="run on these hosts what "
                        "takes more than a minute here, as `cwtune-spread --hosts`")
 
