@@ -81,7 +81,7 @@ class Naive:
     def total(self, values, rounds, floor):
         """Returns the total of a setting, or -1 if it has none or one below `floor`."""
         template, cert = self.folder / "t.red", self.folder / "cert"
-        template.write_bytes(self.grid.line_through(values, ()))
+        template.write_bytes(self.grid.alone(values))
         completed = run_program(self.program, "tune", f"--floor={floor}", template,
                                 self.schedule(rounds), cert, *self.opponents)
         if completed.returncode == 1 and completed.stderr.endswith(NO_CANDIDATE.encode()):

@@ -61,11 +61,9 @@ class Grid:
             lines[index] = line.encode("latin-1")
         return b"\n".join(lines)
 
-    def line_through(self, values, free):
-        """Returns the template with START `values`, which only the constants `free` may leave."""
-        ranges = [whole if index in free else range(value, value + 1)
-                  for index, (whole, value) in enumerate(zip(self.ranges, values))]
-        return self.text(ranges, values)
+    def alone(self, values):
+        """Returns the template with a setting as its only one."""
+        return self.text([range(value, value + 1) for value in values], values)
 
     def box(self, values, reach):
         """Returns the ranges of the values at most `reach` steps from those of a setting."""

@@ -110,7 +110,7 @@ class Processes:
         """Writes a template for each setting. Yields its path."""
         for number, values in enumerate(settings):
             path = self.folder / f"{number}.red"
-            path.write_bytes(self.grid.line_through(values, ()))
+            path.write_bytes(self.grid.alone(values))
             yield path
 
     def words(self, program, template, schedule, opponents):
@@ -281,6 +281,5 @@ def minutes(word):
 
 
 def budget_of(args):
-    if not (args.fights or args.minutes):
-        args.fights = DEFAULT_FIGHTS
-    return Budget(args.fights, args.minutes and 60 * args.minutes)
+    fights = args.fights or (None if args.minutes else DEFAULT_FIGHTS)
+    return Budget(fights, args.minutes and 60 * args.minutes)

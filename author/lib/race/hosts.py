@@ -67,7 +67,7 @@ class PiecesFolder:
         piece, grid = self.pieces[number], self.arena.grid
         with self.file(number, "settings").open("wb") as file:
             for values in piece.settings:
-                lines = grid.line_through(values, ()).split(b"\n")
+                lines = grid.alone(values).split(b"\n")
                 file.write(b";".join(b"%ds/.*/%s/" % (index + 1, lines[index])
                                      for index in grid.line_indices) + b"\n")
         fights = (fight for block in piece.blocks for fight in block)

@@ -84,7 +84,7 @@ class Study:
             name = "warrior.red" if inputs.original == inputs.warrior else "original.red"
             folder.run(self.author_words("cwtune-vary", *as_is, name, *words), "template.red")
         grid = Grid(folder.path / "template.red")
-        folder.write("start.red", grid.line_through(grid.start_values, ()))
+        folder.write("start.red", grid.alone(grid.start_values))
 
     def tune_box(self, *words):
         """Tunes the box. Returns how many fights that took, and the last line, that of a check."""

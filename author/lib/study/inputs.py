@@ -137,7 +137,7 @@ def read_inputs(parser, args):
 def refuse_start(args, grid):
     """Refuses a template whose START does not assemble. START is made the only setting, since
     `cwtune` takes at most a million."""
-    with temporary_file(args.warrior, grid.line_through(grid.start_values, ())) as path:
+    with temporary_file(args.warrior, grid.alone(grid.start_values)) as path:
         refuse_text(args, f"START of {args.warrior}", "--setting=start", "--",
                     os.path.basename(path), cwd=os.path.dirname(path))
 

@@ -132,7 +132,7 @@ class RaceOfStudy:
         return {"best": best, "compared": compared, "points": points}
 
     def write_winner(self, winner):
-        self.folder.write("found.red", self.grid.line_through(winner, ()))
+        self.folder.write("found.red", self.grid.alone(winner))
         self.study.write_winner("start", "found.red")
 
 
