@@ -175,7 +175,9 @@ def fault_of(completed):
 
 
 def end_by(signal_number):
+    """Ends the command by a signal, also if the signal was blocked."""
     signal.signal(signal_number, signal.SIG_DFL)
+    signal.pthread_sigmask(signal.SIG_UNBLOCK, [signal_number])
     os.kill(os.getpid(), signal_number)
 
 

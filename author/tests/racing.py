@@ -4,6 +4,7 @@ from unittest import mock
 
 from author.lib import grid, race
 from author.lib.race import fights as race_fights
+from author.lib.race.hosts import SCRIPT
 
 from .trial import SECONDS, Refusal, Trial, came_of, usage_errors, wait_until
 
@@ -21,8 +22,8 @@ FILES = {"plane.red": PLANE, "large.red": LARGE, "dat.red": "DAT 0, 0\n", "imp.r
          "one-host": "good\n"}
 # The files of a race, and what is refused.
 RACED = "plane.red s.csv dat.red imp.red"
-NOBODY = ("refused: no setting that was tried assembles; `cwtune asm --setting start` says why of "
-          "START")
+NONE_ASSEMBLES = ("refused: no setting that was tried assembles; `cwtune asm --setting start` says "
+                  "why of START")
 REFUSALS = [
     Refusal("cwtune-seek none s.csv dat.red", 3, "failed: none: No such file or directory"),
     Refusal("cwtune-seek plane.red two.csv dat.red imp.red", 2,
@@ -99,8 +100,8 @@ class Racing(Trial):
                  for block in blocks]
         self.same("no setting plays a block twice", len(plays), len(set(plays)))
         self.same("no more fights than the budget", True, 19000 < arena.fights <= 20000)
-        self.same("START plays from the first heat to the last", (True, True), (
-            (0, 0) in calls[0][0], (0, 0) in calls[-1][0]))
+        self.same("START plays in the first heat", True, (0, 0) in calls[0][0])
+        self.same("START plays in the last heat", True, (0, 0) in calls[-1][0])
         pair = [(3, 4), (0, 0)]
         gain = [call for call in calls if call[0] == pair]
         others = {block for settings, blocks in calls if settings != pair for block in blocks}
@@ -160,39 +161,54 @@ class Racing(Trial):
             processes.play([[1, 0]] * 8, [[race_fights.Fight(0, 4000, "c")]], tick)
         self.same("the seconds of all processes count", 8, processes.seconds)
 
-    def test_finds(self):
+    def found(self, *words):
         """Races in a plane of 45 settings, against two opponents. One counts three times."""
-        status, out, err = self.seek()
-        self.write("found.red", out)
-        found, whole = (grid.Grid(self.folder / name) for name in ["found.red", "plane.red"])
+        came = self.seek(*words)
+        return came, grid.Grid("found.red", came.out.encode())
+
+    def test_finds(self):
+        (status, _, err), found = self.found()
+        whole = grid.Grid(self.folder / "plane.red")
         self.same("only START differs in the template", (0, whole.ranges), (status, found.ranges))
         lines, constants = err.splitlines(), found.constants_of(found.start_values)
         self.same("what it says", [
             "a race of 45 settings", f"found: {constants}", "note", "over START"], [
             lines[0].partition(": about")[0], lines[-3],
             *(line.partition(":")[0] for line in lines[-2:])])
-        status, as_json, _ = self.seek("--json")
-        numbers = json.loads(as_json)
-        self.same("--json has it too", (0, dict(zip(found.names, found.start_values)), out, True), (
-            status, numbers["winner"], numbers["template"],
-            f"over START: {numbers['gain']['percent']:+.1f}%" in lines[-1]))
-        alone = self.seek("--jobs=1")
-        self.same("one job finds the same", (out, lines[-3:]), (
-            alone.out, alone.err.splitlines()[-3:]))
-        status, out, _ = self.seek("--box=1")
-        self.write("box.red", out)
-        box = grid.Grid(self.folder / "box.red")
-        self.same("a box is cut around it", (0, found.start_values, True), (
-            status, box.start_values, all(len(values) <= 3 for values in box.ranges)))
+
+    def test_json(self):
+        (_, out, err), found = self.found()
+        numbers = json.loads(self.seek("--json").out)
+        self.same("its winner", dict(zip(found.names, found.start_values)), numbers["winner"])
+        self.same("its template", out, numbers["template"])
+        self.same("its gain", err.splitlines()[-1].partition(" +-")[0],
+                  f"over START: {numbers['gain']['percent']:+.1f}%")
+
+    def test_jobs(self):
+        came = [self.seek(f"--jobs={jobs}") for jobs in (2, 1)]
+        self.same("one job finds the same", *((out, err.splitlines()[-3:]) for _, out, err in came))
+
+    def test_box(self):
+        found, box = self.found()[1], self.found("--box=1")[1]
+        self.same("a box is cut around the winner", found.start_values, box.start_values)
+        self.same("no range has more than 3 values", True, max(map(len, box.ranges)) <= 3)
+
+    def test_left_out_opponent(self):
         one, alone = (self.seek(files=f"plane.red one.csv {name} imp.red")
                       for name in ["dat.red", "none.red"])
         self.same("an opponent that SCHEDULE leaves out does not play", one.out, alone.out)
+
+    def test_job(self):
+        self.write("settings", "1s/.*/DAT 0/\n")
+        job = subprocess.run(["sh", SCRIPT, "settings", "true"], cwd=self.folder,
+                             capture_output=True)
+        self.same("sed fails without t.red", (3, b""), (job.returncode, job.stdout))
 
     def test_refusals(self):
         self.refused(REFUSALS)
         for name in ["none-assembles.red", "bad.red"]:
             status, out, err = self.seek(files=f"{name} s.csv dat.red imp.red")
-            self.same(name, (1, "", NOBODY), (status, out, err.splitlines()[-1]))
+            self.same(name, (1, "", NONE_ASSEMBLES), (status, out, err.splitlines()[-1]))
         with mock.patch.dict(os.environ, {"PATH": str(self.folder)}):
             self.same("hosts without GNU parallel", (2, "", "error: --hosts needs GNU parallel and "
                       "rsync, and there is no parallel\n"), self.seek("--hosts=one-host"))

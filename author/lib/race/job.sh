@@ -7,9 +7,9 @@
 settings=$1
 shift
 while read -r setting; do
-    LC_ALL=C sed "$setting" t.red >setting.red
+    LC_ALL=C sed "$setting" t.red >setting.red || exit 3
     row=$({ "$@" 2>fault </dev/null; echo $? >status; } | sed -n 3p)
-    read -r status <status
+    read -r status <status || exit 3
     if [ "$status" != 0 ] && [ "$(tail -n 1 fault)" != "refused: NoCandidate" ]; then
         cat fault >&2
         exit "$status"
