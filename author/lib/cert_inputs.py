@@ -8,7 +8,7 @@ import dataclasses, os, re
 from typing import Annotated
 
 from .endings import Fault, note
-from .program import HILLS, Rules, fill_rules
+from .program import HILLS, Rules, fill_rules, rules_of
 from .regular import NotRegular, digest_of, read_regular
 from .schema import checked
 from .tuning_files import MOST_OPPONENTS, Certificate, Template
@@ -123,7 +123,7 @@ def refuse_other_tuning(args, cert, part, method):
             raise Fault(f"it is of part {inputs.part}", 2)
         if inputs.method != method:
             raise Fault(f"its method is `{inputs.method}`, not `{method}`", 2)
-        refuse_other_rules(args, inputs.rules)
+        refuse_other_rules(rules_of(args), inputs.rules)
         for kind in FILES:
             settled_file(inputs, kind, 0, getattr(args, kind))
         settled_opponents(inputs, args.opponents)
@@ -131,10 +131,10 @@ def refuse_other_tuning(args, cert, part, method):
         raise Fault(f"{cert} is not part {part} of this tuning: {fault}", 2) from None
 
 
-def refuse_other_rules(args, rules):
+def refuse_other_rules(given, rules):
     for name, number in Rules(*rules)._asdict().items():
-        if getattr(args, name, number) != number:
-            raise Fault(f"--{name} is {getattr(args, name)}, but the tuning had {number}", 2)
+        if getattr(given, name, number) != number:
+            raise Fault(f"--{name} is {getattr(given, name)}, but the tuning had {number}", 2)
 
 
 def settled_file(inputs, kind, index, given_path):
