@@ -48,16 +48,17 @@ class Hosts(OnHosts, SpreadTrial):
         self.write("hosts", "\n".join(hosts.split()))
         return self.spread("--hosts=hosts", *words)
 
-    def test_good(self):
+    def test_tunes_and_checks(self):
         """Tunes and checks on hosts that are good, one by an ssh of its own, dead, or this one."""
         tuned = self.tuned()
         self.write("hosts", f"good\n1/ssh -F {self.hosts.folder}/config shared\n\n#x\ndead\n:\n")
         status, out, err = self.spread("--hosts=hosts", "--parts=4", "--jobs=1", "--check",
                                        "--shares=4", *DECOY)
         report, accepted, verdict = out.rpartition("accepted")
-        self.same("a tuning with a check", (tuned, (0, accepted + verdict), NOTHING), (
-            (without_fights(Result(status, report, "")), self.check(DECOY)), self.verdict(DECOY),
-            self.remains()))
+        self.same("a tuning", tuned, (without_fights(Result(status, report, "")),
+                                      self.check(DECOY)))
+        self.same("its check", (0, accepted + verdict), self.verdict(DECOY))
+        self.same("what remains", NOTHING, self.remains())
         self.same("a dead host is named once", [DEAD],
                   [line[:len(DEAD)] for line in err.splitlines()])
         self.idle_folders()
@@ -83,7 +84,7 @@ class Hosts(OnHosts, SpreadTrial):
         came = self.on("noexec good", "--parts=2", *words)
         self.same("beside another", (tuned, NOTHING), (self.found(DECOY, came), self.remains()))
 
-    def test_three(self):
+    def test_lost_hosts(self):
         """Tunes on a host that dies, one that goes silent, one without the program, and here."""
         self.tune(*DECOY)
         best = self.read("CERT").splitlines()[:2]

@@ -9,7 +9,7 @@ from .trial import TUNING, Refusal, Trial, python_with_matplotlib, refusals_of, 
 
 # Files that are read as they should be.
 RIGHT = {
-    # Schedules of two fights, and of four that are not those of step.cert.
+    # Schedules of two fights (quoted.csv has quotes), and one of four, not those of step.cert.
     "two.csv": b"opponent,position,first\n0,3670,c\n0,5123,o\n",
     "other.csv": b"opponent,position,first\n0,3670,c\n0,5123,o\n1,2085,c\n1,6100,o\n",
     "quoted.csv": b'"opponent",position,"first"\n0,3670,c\n0,5123,o\n',
@@ -21,7 +21,7 @@ RIGHT = {
     "none.cert.1.fault": b"refused: NoCandidate\n",
     "none.cert.1.report": b"",
     "none.cert.whole": b"of the user\n",
-    # Certificates of the last two, and one in which no setting reaches the floor.
+    # Certificates of plain.red and of maps.red, and one in which no setting reaches the floor.
     "plain.cert": b"cwcert,1,1\nbest,0,3\ncap,0,0:3\n",
     "quoted.cert": b'"cwcert",1,1\nbest,0,3\ncap,0,0:3\n',
     "maps.cert": b"cwcert,1,37\nbest,0,3\ncap,0,0:3\n" + b"".join(

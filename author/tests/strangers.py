@@ -32,8 +32,8 @@ if not (pid := os.fork()):
 status = os.waitstatus_to_exitcode(os.waitpid(pid, 0)[1])
 print(status, resource.getrusage(resource.RUSAGE_CHILDREN).ru_maxrss << 10)
 """
-# The process id of nobody.
-NOBODY = 2 ** 22 + 1
+# A process id above all that Linux gives.
+NO_PROCESS = 2 ** 22 + 1
 DROPPED = """import signal, time
 from author.lib.endings import run_tool
 class Ending:
@@ -324,22 +324,23 @@ echo $$ >> {self.folder}/pids; exec sleep 99""")
 
     def test_left_files(self):
         """Finds what killed runs have left, and what only looks so."""
-        kept = [f"x.svg.{os.getppid()}.new", f"y.svg.{NOBODY}.new", f"xxsvg.{NOBODY}.new",
+        kept = [f"x.svg.{os.getppid()}.new", f"y.svg.{NO_PROCESS}.new", f"xxsvg.{NO_PROCESS}.new",
                 "x.svg.new"]
-        for name in [*kept, f"x.svg.{NOBODY}.new"]:
+        for name in [*kept, f"x.svg.{NO_PROCESS}.new"]:
             self.write(name, "<svg")
-        os.symlink("t.red", self.folder / f"x.svg.{NOBODY + 1}.new")
+        os.symlink("t.red", self.folder / f"x.svg.{NO_PROCESS + 1}.new")
         with writing.whole_file(self.folder / "x.svg") as file:
             file.write("<svg>")
         self.same("what a killed run has left of a picture is removed", sorted([
-            *kept, "x.svg", f"x.svg.{NOBODY + 1}.new"]),
+            *kept, "x.svg", f"x.svg.{NO_PROCESS + 1}.new"]),
             sorted(name for name in os.listdir(self.folder) if "svg" in name))
         kept = [f"cwtune-{os.getpid()}-abc", "cwtune-x"]
-        for name in [*kept, f"cwtune-{NOBODY}-abc"]:
+        for name in [*kept, f"cwtune-{NO_PROCESS}-abc"]:
             self.write(f"tmp/{name}/t.red", "DAT 0\n")
         temporary = self.folder / "tmp"
-        os.symlink(self.folder, temporary / f"cwtune-{NOBODY}-link")
+        os.symlink(self.folder, temporary / f"cwtune-{NO_PROCESS}-link")
         with mock.patch.dict(os.environ, {"TMPDIR": str(temporary)}):
             status = self.call("cwtune-vary -- -w.red K=0:1").status
-        self.same("and of temporary folders", (0, sorted([*kept, f"cwtune-{NOBODY}-link"]), True), (
-            status, sorted(os.listdir(temporary)), (self.folder / "t.red").exists()))
+        self.same("and of temporary folders", (0, sorted([*kept, f"cwtune-{NO_PROCESS}-link"])), (
+            status, sorted(os.listdir(temporary))))
+        self.same("what a link leads to stays", True, (self.folder / "t.red").exists())

@@ -45,6 +45,7 @@ SSH_OPTIONS = (f"-o BatchMode=yes -o ConnectTimeout={max(2, SECONDS // 6)} "
 # input.
 GUARD = 'read -r _; kill -KILL "$0"; pkill -TERM -s "$0"; sleep 1; pkill -KILL -s "$0"'
 MOST_TOLD = 5
+# The hosts of which it was said why they are left out.
 TOLD = set()
 
 

@@ -30,7 +30,7 @@ NAMES = {
 }
 # How notes on the adapted text begin. The author was told that it is adapted, by the name of the
 # file that was given.
-TOLD = b"note: original.red"
+TOLD_BEFORE = b"note: original.red"
 # What a kill leaves of these.
 UNFINISHED = r".*(\.\d+\.new|\.unfinished-\d+|\.report|\.fault)"
 Count = Annotated[int, range(1 << 53)]
@@ -210,7 +210,7 @@ def run_in(folder, argv, output, returns_messages):
         try:
             for line in job.stderr or ():
                 with naming("standard error"):
-                    sys.stderr.buffer.write(line * (not line.startswith(TOLD)))
+                    sys.stderr.buffer.write(line * (not line.startswith(TOLD_BEFORE)))
                     sys.stderr.flush()
                 messages.append(line.decode(errors="surrogateescape").rstrip("\n"))
             return job.wait(), messages
