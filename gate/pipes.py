@@ -290,19 +290,10 @@ def as_owner(path, program):
     return {"user": NOBODY, "group": NOBODY, "extra_groups": [], "executable": "./program"}
 
 
-TRIALS = [
-    readers_that_go_away,
-    certificates_for_pipes,
-    standard_inputs,
-    inputs_without_end,
-    words_of_bytes,
-    closed_streams,
-    interrupted,
-    limited,
-    links,
-    chains,
-    certificates_in_place,
-]
+# Each yields name, expected and actual.
+TRIALS = [readers_that_go_away, certificates_for_pipes, standard_inputs, inputs_without_end,
+          words_of_bytes, closed_streams, interrupted, limited, links, chains,
+          certificates_in_place]
 
 
 def trials(program):

@@ -161,7 +161,8 @@ def lines_of(text, adapted=None):
                               fields_of(code, head, word), {}, depth, adapted, numbers))
         waiting = [] if word in OPCODES else waiting
         depth += word == "for"
-    numbers |= {line.number for line in lines}
+    # In place: each line has this set.
+    numbers.update(line.number for line in lines)
     hide_fields(lines)
     return lines
 

@@ -1,8 +1,8 @@
 """Reads values of JSON by a schema, and says in which entry one is wrong.
 
-A schema is a type, a dataclass or a TypedDict, and `Annotated` bounds one: a range bounds a number,
-or the length of a list, and a pattern has to match a text. Entries that a schema does not name are
-ignored, and kept in the dict of a TypedDict.
+A schema is a type, a dataclass, a TypedDict, a list, dict or tuple of schemas, `SCHEMA | None` or
+Any. `Annotated` bounds one: a range bounds a number or a length, and a pattern has to match a text.
+Entries that a schema does not name are ignored, and kept in the dict of a TypedDict.
 """
 import dataclasses, json, math, re, types, typing
 from typing import Annotated

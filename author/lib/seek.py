@@ -117,6 +117,7 @@ def main():
     if not grid.names:
         raise Fault(f"{args.template}: no range line, which begins `;@tune` at the left margin "
                     "(cwtune-vary makes a template of a text with EQU lines)")
+    # Refuses a program that cannot be run, before anything is raced.
     run_program(args.program, "--version")
     weights = holdout.weights_by_opponent(args.schedule, len(args.opponents))
     opponents = [path for path, weight in zip(args.opponents, weights) if weight]

@@ -1,8 +1,8 @@
 """Reads templates, schedules (with and without weights) and certificates (of both versions).
 
 A file that is none of these is refused in a few words; what exactly is wrong with it, `cwtune`
-says. A setting is its index here, as in the output of `cwtune`; `settings` of a template has the
-values of each.
+says. A setting is its index here, as in the output of `cwtune`; `values_of_settings` of a template
+has the values of each.
 """
 import array, bisect, collections.abc, contextlib, csv, functools, itertools, math, os, re
 from typing import NamedTuple

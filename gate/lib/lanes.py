@@ -70,7 +70,8 @@ def in_lanes(rounds, judge, jobs, proofs):
                 concurrent.futures.FIRST_COMPLETED)
             for future in done:
                 if future == reading:
-                    reading = future.result()
+                    future.result()  # which raises what `read` raised
+                    reading = None
                 else:
                     del running[future]
                     yield future.result()

@@ -26,15 +26,10 @@ PROGRAMS = [f"crates/{crate}/out/{crate}_tests"
 LARGEST, LARGE = 1 << 24, 30_000
 
 # How a test prints that a call was out of memory.
-ERRORS = [
-    "OutOfMemory",
-    "AllocError",
-    "AllocFailed { .. }",
-    "AsmFault { line: 0, kind: OutOfMemory }",
-    "ExpandFault { line: 0, kind: OutOfMemory }",
-    "ScheduleFault { row: 0, kind: OutOfMemory }",
-    "TemplateFault { line: 0, kind: OutOfMemory }",
-]
+ERRORS = ["OutOfMemory", "AllocError", "AllocFailed { .. }",
+          "AsmFault { line: 0, kind: OutOfMemory }", "ExpandFault { line: 0, kind: OutOfMemory }",
+          "ScheduleFault { row: 0, kind: OutOfMemory }",
+          "TemplateFault { line: 0, kind: OutOfMemory }"]
 PASSED = (0, "")
 FAILED = "the test failed: its result gives status 1"
 REFUSED = [(101, f"error: {error}\n{FAILED}\n") for error in ERRORS]

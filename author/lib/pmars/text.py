@@ -33,14 +33,7 @@ class TooMuch(Exception):
 class State(enum.IntEnum):
     """What was read of a line. VALUE is a value begun, and START that of a pseudo-opcode."""
 
-    WRONG = -1
-    NOTHING = 0
-    LABELS = 1
-    VALUE = 2
-    CODE = 3
-    START = 4
-    BLOCK = 5
-    END_OF_BLOCK = 6
+    WRONG, NOTHING, LABELS, VALUE, CODE, START, BLOCK, END_OF_BLOCK = range(-1, 7)
 
 
 class Line(NamedTuple):

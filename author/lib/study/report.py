@@ -32,7 +32,7 @@ def html_of(report):
         *(landscape(report) if report["landscape"] else ()),
         *(finalists(report) if report["race"] else ranking(report)),
         *making(report),
-        *section(f"The winner’s text: <code>{WINNER_FILE}</code>",
+        *section(f"The winner's text: <code>{WINNER_FILE}</code>",
                  source(f"The text of {WINNER_FILE}", report["winner_text"]))])
 
 
@@ -84,8 +84,8 @@ def raced_items(report):
         yield (f"<strong>Proved:</strong> the first {integer(box['first'])} of the "
                f"{integer(box['settings'])} settings around the race's winner{left_out}, in "
                f"{integer(box['schedule']['fights'])} fights each{checked}. In other fights "
-               + ("one of them was better than the race’s winner, and took its place."
-                  if box["replaces"] else "none of them was better than the race’s winner."))
+               + ("one of them was better than the race's winner, and took its place."
+                  if box["replaces"] else "none of them was better than the race's winner."))
     if gain and race["rise"] is not None and not (box and box["replaces"]):
         yield (f"<strong>Luck:</strong> in the fights that picked it, the winner was "
                f"{decimal(race['rise'])} percentage points over START; "
@@ -174,7 +174,7 @@ def landscape(report):
         luck = LUCK_OF_FIGHT * math.sqrt(schedule["fights"])
         notes.insert(0, f"Luck alone moves a total by about {luck:.0f} points, so squares that "
                      "differ by less may be equal, and a stripe may be one lucky value.")
-    tuned = "all settings" if not report["race"] else "the settings around the race’s winner"
+    tuned = "all settings" if not report["race"] else "the settings around the race's winner"
     return section("Landscape", paragraph(f"Totals of {tuned}, in the fights of the schedule."),
                    f"<figure>{picture}</figure>",
                    *([paragraph(" ".join(notes), "soft")] if notes else []),
