@@ -3,7 +3,7 @@ import json, math, statistics
 from typing import NamedTuple
 
 from author.lib.endings import Fault
-from author.lib.mean_error import error_of_mean
+from author.lib.gain import error_of_mean
 
 SEARCHES = ["search", "naive", "climb"]
 # The search of a run that judges START, which has the seed 0 and no budget.

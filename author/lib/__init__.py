@@ -12,7 +12,7 @@ regular          files that may be anything
 schema           JSON by a schema
 cert_inputs      CERT.inputs, which says what a certificate is for
 watching         how far a long loop is
-mean_error       the standard error of a mean
+gain             points in fresh fights, gains, and the standard error of a mean
 grid             range lines, and settings of any number
 tuning_files     templates, schedules and certificates
 openings         the words of `cwtune-vary`
@@ -37,6 +37,7 @@ race             a race: rounds, heats, final, gain
 race.settings    new settings
 race.model       what they are guessed to make
 race.fights      the fights, and the budget
+race.words       its options
 race.hosts       what hosts play ahead, by job.sh
 race.journal     the file of what was played
 

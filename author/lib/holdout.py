@@ -17,70 +17,16 @@ give them.
 
 Example: cwtune-holdout my.red my.cert
 """
-import math, pathlib, random
-from typing import NamedTuple
+import pathlib, random
 
 from . import cert_inputs, tuning_files
-from .endings import Fault, escaped, fault_of
-from .mean_error import error_of_mean
+from .endings import escaped, fault_of
+from .gain import FreshPoints, gain_numbers, gain_text
 from .program import EXPLAIN, rules_of, run_program
 from .series import refuse_distance, refuse_fights
 from .words import (FILE_HELP, add_cwtune, add_files, add_number, add_shared, command_parser,
                     counted, print_json)
 from .writing import temporary_folder
-
-
-class FreshPoints(NamedTuple):
-    """The points of fresh fights, a list for each opponent, and how much each opponent counts."""
-
-    by_opponent: list
-    opponent_weights: list
-
-    @classmethod
-    def of_texts(cls, texts, weights):
-        """Returns the points that a text has for each opponent, a digit for each fight."""
-        return cls([list(map(int, text)) for text in texts], weights)
-
-    def mean(self):
-        """Returns the points as a part of the greatest total, in percent."""
-        means = (sum(points) / (3 * len(points)) for points in self.by_opponent)
-        weights = self.opponent_weights
-        return 100 * sum(map(math.prod, zip(means, weights))) / sum(weights)
-
-    def error(self):
-        """Returns the standard error of the mean, in percent."""
-        weights = self.opponent_weights
-        errors = map(math.prod, zip(map(error_of_mean, self.by_opponent), weights))
-        return 100 / 3 * math.hypot(*errors) / sum(weights)
-
-    def numbers(self):
-        return {"points": sum(map(sum, self.by_opponent)),
-                "fights": sum(map(len, self.by_opponent)), "percent": self.mean(),
-                "error": self.error()}
-
-    def minus(self, other):
-        pairs = zip(self.by_opponent, other.by_opponent)
-        return FreshPoints([[more - less for more, less in zip(*pair)] for pair in pairs],
-                           self.opponent_weights)
-
-    def __str__(self):
-        """Returns the points and their percentage, or the percentage alone if weights differ."""
-        numbers = self.numbers()
-        percentage = f"{numbers['percent']:.1f}% +- {numbers['error']:.1f}"
-        if len(set(self.opponent_weights)) != 1:
-            return percentage
-        return f"{numbers['points']} of {3 * numbers['fights']} ({percentage})"
-
-
-def weights_by_opponent(schedule, opponents):
-    """Returns the sum of the weights of each opponent's fights in a schedule, 1 without one."""
-    if not schedule:
-        return [1] * opponents
-    fights = tuning_files.read_schedule(schedule)
-    if any(fight.opponent >= opponents for fight in fights):
-        raise Fault(f"{schedule} has fights against more opponents than were given", 2)
-    return [sum(fight.weight for fight in fights if fight.opponent == opponent)
-            for opponent in range(opponents)]
 
 
 def output_of(*words):
@@ -91,31 +37,13 @@ def output_of(*words):
     return completed.stdout
 
 
-def gain_of(points, weights):
-    """Returns the differences of two players' points, given as texts, or None without fights."""
-    first, second = (FreshPoints.of_texts(texts, weights) for texts in points)
-    return first.minus(second) if first.by_opponent else None
-
-
-def gain_numbers(difference):
-    """Returns a gain in percentage points, its error, and in words, by two standard errors."""
-    percent, error = difference.mean(), difference.error()
-    words = ("no difference that these fights show" if abs(percent) <= 2 * error
-             else "a gain" if percent > 0 else "a loss")
-    return {"percent": percent, "error": error, "words": words}
-
-
-def gain_text(gain):
-    return f"{gain['percent']:+.1f}% +- {gain['error']:.1f}, {gain['words']}"
-
-
 class Holdout:
     """The settings of a certificate, and what they make in fresh fights."""
 
     def __init__(self, args, cert, template):
         self.args, self.cert, self.template = args, cert, template
         self.fights = self.cert.fights(args.schedule)
-        self.weights = weights_by_opponent(args.schedule, len(args.opponents))
+        self.weights = tuning_files.weights_by_opponent(args.schedule, len(args.opponents))
         self.ranking = self.cert.ranked(self.fights)
         self.points = {}
 

@@ -13,7 +13,7 @@ import contextlib, itertools, math, os, sys
 
 from . import cert_inputs, tuning_files
 from .endings import Fault, quoted
-from .mean_error import error_of_mean
+from .gain import error_of_mean
 from .watching import watched
 from .words import add_files, add_shared, command_parser, number_from
 from .writing import whole_file

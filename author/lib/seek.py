@@ -16,14 +16,15 @@ Example: cwtune-seek --minutes 10 my.red fights.csv dwarf.red scanner.red > bett
 """
 import math, pathlib, sys
 
-from . import holdout
 from .adapt import adapted_for, adapted_opponents, read_text
 from .endings import Fault, note, tell
+from .gain import gain_numbers, gain_of, gain_text
 from .grid import Grid
 from .program import run_program
 from .race import Race
-from .race.fights import Arena, add_budget, budget_of
-from .tuning_files import MOST_SETTINGS
+from .race.fights import Arena
+from .race.words import add_budget, budget_of
+from .tuning_files import MOST_SETTINGS, weights_by_opponent
 from .words import (add_cwtune, add_files, add_number, add_shared, command_parser, number_from,
                     print_json)
 from .writing import temporary_folder
@@ -38,20 +39,20 @@ def print_outcome(grid, outcome, weights):
     elif not outcome.points[0]:
         note("no fights were left to measure the gain: give more --fights or --minutes")
     else:
-        gain = holdout.gain_of(outcome.points, weights)
+        gain = gain_of(outcome.points, weights)
         luck = 100 * outcome.rise - gain.mean()
         note(f"in the fights that picked it, it was {100 * outcome.rise:+.1f}% over START; "
              f"{luck:+.1f}% of that was luck")
-        tell(f"over START: {holdout.gain_text(holdout.gain_numbers(gain))}")
+        tell(f"over START: {gain_text(gain_numbers(gain))}")
 
 
 def outcome_numbers(grid, outcome, weights, text):
     """Returns the object of --json. A stopped race has no outcome, and its best in the text."""
-    gain = outcome and outcome.points and holdout.gain_of(outcome.points, weights)
+    gain = outcome and outcome.points and gain_of(outcome.points, weights)
     return {"winner": dict(zip(grid.names, outcome.winner)) if outcome else None,
             "start": dict(zip(grid.names, grid.start_values)),
             "rise": outcome and outcome.rise and 100 * outcome.rise,
-            "gain": holdout.gain_numbers(gain) if gain else None,
+            "gain": gain_numbers(gain) if gain else None,
             "finalists": [{"values": dict(zip(grid.names, one.values)),
                            "percent": 100 * one.rate(), "blocks": one.blocks}
                           for one in (outcome.finalists if outcome else ())],
@@ -119,7 +120,7 @@ def main():
                     "(cwtune-vary makes a template of a text with EQU lines)")
     # Refuses a program that cannot be run, before anything is raced.
     run_program(args.program, "--version")
-    weights = holdout.weights_by_opponent(args.schedule, len(args.opponents))
+    weights = weights_by_opponent(args.schedule, len(args.opponents))
     opponents = [path for path, weight in zip(args.opponents, weights) if weight]
     weights = list(filter(None, weights))
     winner, outcome = seek(args, grid, opponents, weights)

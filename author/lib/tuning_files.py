@@ -296,6 +296,17 @@ def read_schedule(path):
     raise Fault(f"{path}: not a schedule")
 
 
+def weights_by_opponent(schedule, opponents):
+    """Returns the sum of the weights of each opponent's fights in a schedule, 1 without one."""
+    if not schedule:
+        return [1] * opponents
+    fights = read_schedule(schedule)
+    if any(fight.opponent >= opponents for fight in fights):
+        raise Fault(f"{schedule} has fights against more opponents than were given", 2)
+    return [sum(fight.weight for fight in fights if fight.opponent == opponent)
+            for opponent in range(opponents)]
+
+
 def schedule_text(fights):
     """Returns the text of a schedule, with weights if one is not 1."""
     fights = list(fights)

@@ -4,20 +4,17 @@ Each process plays one setting, as the only one of a template, in some blocks; -
 side by side. What was played is a list of records, which a study keeps in a file. A race that is
 begun again with these takes the points from them, up to where it was stopped.
 """
-import argparse, concurrent.futures, itertools, operator, os, pathlib, random, resource, shutil
-import subprocess, time
+import concurrent.futures, itertools, operator, os, pathlib, random, resource, shutil, subprocess
+import time
 from typing import NamedTuple
 
 from ..endings import Fault, fault_of, tell
 from ..program import NO_CANDIDATE, reading_output, rules_of
-from ..spread.hosts import read_hosts, refuse_missing_tools
 from ..tuning_files import Fight, schedule_text
 from ..watching import Pace
-from ..words import add_shared, counted, number_from
+from ..words import counted
 from .hosts import Hosts, points_of
 
-# The fights of a race that is given no budget.
-DEFAULT_FIGHTS = 300000
 # The blocks of one process, so that a long heat runs on several processors.
 BLOCKS_OF_PROCESS = 8
 # The most blocks, and about the most fights, of the trial before a race.
@@ -250,36 +247,3 @@ def duration(seconds):
     if seconds < 6000:
         return counted(round(seconds / 60), "minute")
     return f"{seconds / 3600:.1f} hours"
-
-
-def add_budget(parser):
-    group = parser.add_argument_group("race")
-    group.add_argument("--fights", type=number_from(1000), metavar="N", help="end after N fights, "
-                       f"1000 or more [default: {DEFAULT_FIGHTS}, unless --minutes is given]")
-    group.add_argument("--minutes", type=minutes, metavar="N",
-                       help="end after N minutes, such as 10 or 0.5")
-    add_shared(group, "--jobs")
-    group.add_argument("--hosts", type=hosts_file, metavar="FILE", help="run on these hosts what "
-                       "takes more than a minute here, as `cwtune-spread --hosts`")
-
-
-def hosts_file(word):
-    """Reads the name of a file of hosts for argparse. Refuses it now if it cannot be used."""
-    read_hosts(word)
-    refuse_missing_tools()
-    return os.path.abspath(word)
-
-
-def minutes(word):
-    try:
-        number = float(word)
-    except ValueError:
-        raise argparse.ArgumentTypeError(f"{word} is not a number of minutes") from None
-    if not 0.01 <= number <= 100000:
-        raise argparse.ArgumentTypeError(f"{word} is not 0.01 to 100000")
-    return number
-
-
-def budget_of(args):
-    fights = args.fights or (None if args.minutes else DEFAULT_FIGHTS)
-    return Budget(fights, args.minutes and 60 * args.minutes)

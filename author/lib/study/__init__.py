@@ -22,11 +22,12 @@ Example: cwtune-study --minutes 10 my.red opponents/ STEP=5:7995:10 GATE=-3500:-
 import contextlib, json, os, pathlib, sys
 
 from ..endings import tell
+from ..gain import gain_text
 from ..grid import Grid
-from ..holdout import gain_text
 from ..program import Rules, rules_of
 from ..race import Contender
-from ..race.fights import Arena, Budget, add_budget
+from ..race.fights import Arena, Budget
+from ..race.words import add_budget
 from ..series import series_fights
 from ..tuning_files import MOST_FIGHTS, MOST_SETTINGS, Certificate, read_schedule, schedule_text
 from ..words import add_cwtune, add_number, add_shared, command_parser, number_from, print_json

@@ -6,7 +6,7 @@ beside it has the same numbers. Coordinates are in units, from the left upper co
 import math
 from typing import NamedTuple
 
-from ..mean_error import error_of_mean
+from ..gain import error_of_mean
 from .page import decimal, escaped
 
 WIDTH = 360

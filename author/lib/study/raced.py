@@ -8,10 +8,11 @@ only if further fights, which picked nothing, show that it is better. What was p
 import contextlib, math, time
 
 from ..endings import tell
-from ..holdout import gain_of
+from ..gain import gain_of
 from ..race import Race
-from ..race.fights import Arena, budget_of
+from ..race.fights import Arena
 from ..race.journal import Journal
+from ..race.words import budget_of
 from ..tuning_files import Template, schedule_text
 from ..writing import temporary_folder
 from .fresh import FIRST_HEAT_PLAYERS

@@ -2,8 +2,8 @@
 import datetime, math, re
 
 from .. import landscape
+from ..gain import FreshPoints, gain_numbers, gain_of
 from ..grid import Grid
-from ..holdout import FreshPoints, gain_numbers, gain_of
 from ..program import rules_of, run_program
 from ..tuning_files import Certificate, Template, read_schedule
 from .fresh import START
