@@ -119,7 +119,7 @@ def maps_of(totals, x, y, others):
 
 
 def label_ticks(set_ticks, values, most):
-    indices = range(0, len(values), -(-len(values) // most))
+    indices = range(0, len(values), math.ceil(len(values) / most))
     set_ticks(list(indices), [str(values[index]) for index in indices])
 
 

@@ -106,11 +106,13 @@ def spots_of(lines, fields):
 
 def heads_of_prose(lines):
     """Returns the rows of the FOR lines whose blocks are dropped and have no instruction."""
-    dropped = [index for index, line in enumerate(lines)
-               if line.word == "for" and line.spelled(line.fields["a"]) == "0"]
-    return [lines[index].row for index in dropped if not any(
-        line.word in OPCODES for line in itertools.takewhile(
-            lambda line: line.depth > lines[index].depth, lines[index + 1:]))]
+    heads = []
+    for index, head in enumerate(lines):
+        if head.word == "for" and head.spelled(head.fields["a"]) == "0":
+            block = itertools.takewhile(lambda line: line.depth > head.depth, lines[index + 1:])
+            if not any(line.word in OPCODES for line in block):
+                heads.append(head.row)
+    return heads
 
 
 def lines_of_numbers(lines):

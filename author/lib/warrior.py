@@ -86,14 +86,17 @@ def with_equs(lines, value_of, end):
     """Returns lines with an EQU line for each range line, in its place. Where no EQU is read, as in
     a block or after END, it follows the `;redcode` line, or begins the text."""
     text = "\n".join(lines)
-    depths = [(line.number, line.depth + (line.word == "for")) for line in lines_of(text)]
-    read = {number for number, _ in assembled_lines(text)
-            if not next((depth for of, depth in reversed(depths) if of < number), 0)}
+    depth_after = {line.number: line.depth + (line.word == "for") for line in lines_of(text)}
+    read, depth = set(), 0
+    for number, _ in assembled_lines(text):
+        if not depth:
+            read.add(number)
+        depth = depth_after.get(number, depth)
     new, moved = [], []
     for number, line in enumerate(lines, 1):
         if is_range_line(line.encode("latin-1")):
-            name = line.split()[1]
-            (new if number in read else moved).append(equ_line(name, value_of[name]) + end)
+            name, target = line.split()[1], new if number in read else moved
+            target.append(equ_line(name, value_of[name]) + end)
         else:
             new.append(line)
     place = 1 + last_that_begins(new, ";redcode")

@@ -15,6 +15,7 @@ from .values import NoValue, ParserThere, Registers
 MOST_LABELS, MOST_CODE, MOST_LINE_BYTES = 7, 1000, 255
 # How many tokens are read at most, copies and all, so that the reading of any text ends.
 MOST_TOKENS = 200000
+# The copies of a block, and the warnings, at which pMARS gives up.
 MOST_PMARS_COPIES, MOST_WARNINGS = 65535, 9
 
 
@@ -407,8 +408,8 @@ class PmarsText:
         known, name = Name("counter"), block.counter and block.counter.name
         if name:
             self.names[name] = known
-        for known.value in range(1, block.count + 1):
-            self.at = block.head
+        for value in range(1, block.count + 1):
+            known.value, self.at = value, block.head
             self.read_copy(made)
             if not self.goes_on:
                 break

@@ -6,7 +6,7 @@ from typing import NamedTuple
 
 from .tokens import BLANKS, LETTERS, tokens_of
 
-# How tightly an operator binds, in pMARS and here.
+# How tightly an operator binds, in pMARS and here. `first` is before the first operand.
 THERE = {"first": 0, "||": 1, "&&": 2, "==": 3, "!=": 3, "<": 3, ">": 3, "<=": 3, ">=": 3, "+": 4,
          "-": 4, "*": 5, "/": 5, "%": 5}
 HERE = {"||": 1, "&&": 2, "==": 3, "!=": 3, "<": 4, ">": 4, "<=": 4, ">=": 4, "+": 5, "-": 5,
@@ -14,8 +14,8 @@ HERE = {"||": 1, "&&": 2, "==": 3, "!=": 3, "<": 4, ">": 4, "<=": 4, ">=": 4, "+
 UNARY, OPERAND = 7, 8
 SKIPPED, DECIMAL = re.compile(f"[{BLANKS}]*"), re.compile("[0-9]+")
 OPERATOR = re.compile(r"&&|\|\||[<>=!]=|[-+*/%<>]")
-MOST_DECIMAL = 4294967295
-LONGEST_NUMBER = 19
+# The greatest number in a text of `cwtune`, and the most digits of one that is read here.
+MOST_DECIMAL, LONGEST_NUMBER = 4294967295, 19
 
 
 class NoValue(Exception):
@@ -148,13 +148,15 @@ class Parser:
 class ParserThere(Parser):
     """Reads an expression as pMARS does, with its way to group operators."""
 
+    # The operator at which an inner call stopped, for an outer one to go on with.
     saved = ""
 
     def expression(self):
         return self.rest(-1, None, "first")
 
     def rest(self, least, left, operator):
-        """Reads what comes after an operator and what is left of it."""
+        """Reads on after `left` and the `operator` that follows it. `least` is how tightly the
+        operator before that one binds."""
         right = self.operand()
         if self.ended():
             return self.made(left, operator, right)

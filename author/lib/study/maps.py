@@ -6,6 +6,7 @@ second: the second constant goes from left to right and the first one upwards, a
 has no total, None. The values of a setting are here a dict, by the names of the constants; of one
 that is an index of a list in the author's text the pictures show what is in the list there.
 """
+import math
 from typing import NamedTuple
 
 from . import charts
@@ -74,7 +75,7 @@ def greatest(totals):
 def thinned(landscape, most=MOST_SQUARES):
     """Returns the step of thinning to `most` squares, and the landscape of greatest totals."""
     step, totals = 1, landscape.totals
-    while -(-len(totals) // step) * -(-len(totals[0]) // step) > most:
+    while math.ceil(len(totals) / step) * math.ceil(len(totals[0]) / step) > most:
         step += 1
     rows, columns = range(0, len(totals), step), range(0, len(totals[0]), step)
     thin_totals = [[greatest(total for row in totals[first_row:first_row + step]
@@ -155,12 +156,12 @@ def draw_mark(squares, place, style):
 
 def draw_ticks(squares, landscape):
     upwards, across = landscape.shown_ranges()
-    every = -(-squares.columns * 40 // max(1, round(squares.columns * squares.width)))
+    every = math.ceil(squares.columns * 40 / max(1, round(squares.columns * squares.width)))
     for column in range(0, squares.columns, every):
         x, _ = squares.corner((0, column))
         yield charts.label(round(x + squares.width / 2, 2), squares.bottom() + 15,
                            across[column], "soft middle")
-    every = -(-squares.rows * 14 // max(1, round(squares.rows * squares.height)))
+    every = math.ceil(squares.rows * 14 / max(1, round(squares.rows * squares.height)))
     for row in range(0, squares.rows, every):
         _, y = squares.corner((row, 0))
         yield charts.label(charts.LEFT - 5, round(y + squares.height / 2 + 4, 2),
