@@ -44,16 +44,16 @@ def main():
     parser = module_parser("gate.answers", __doc__)
     parser.add_argument("--delete", action="store_true", help="delete these files")
     parser.add_argument("crates", nargs="+", metavar="CRATE", help="a folder of crates/")
-    options = parser.parse_args()
+    args = parser.parse_args()
     if not shutil.which("rt"):
         raise Fault("no `rt` on the PATH", 2)
-    for name in options.crates:
+    for name in args.crates:
         crate = ROOT / "crates" / name
         if not (crate / "proofs").is_dir():
             raise Fault(f"no crate is called {name}, or it has no proofs", 2)
         for file in without_answers(crate):
             print(file.relative_to(ROOT))
-            if options.delete:
+            if args.delete:
                 file.unlink()
     return 0
 

@@ -11,7 +11,7 @@ from .lib import inputs
 from .lib.inputs import FILES, RULES
 from .lib.play import end, play
 from .lib.running import side_by_side
-from .lib.tally import compare, tally
+from .lib.tally import difference, tally
 
 IMP = b"ORG 0\nMOV.I $0, $1\n"
 FIGHT, CERT = (FILES[name].encode() for name in ("imps.fight", "imps.cert"))
@@ -101,16 +101,15 @@ def dwarf_end(text):
     the last byte. Of other cuts only the form of the end is known: None."""
     if text == DWARF or text == DWARF[:-1]:
         return end(0, DWARF_CODE)
-    lines = text.split(b"\n")
-    if text.endswith(b"\n") and 2 <= len(lines) - 1 <= 6:
+    count, is_whole_line = text.count(b"\n"), text.endswith(b"\n")
+    if is_whole_line and 2 <= count <= 6:
         # the header, the comments, an assert that holds, and EQU lines: no code yet
         return refused("Asm line 0 Warrior Empty")
-    if text.endswith(b"\n") and len(lines) - 1 in (7, 8):
+    if is_whole_line and count in (7, 8):
         # `start` is not defined before line 9
         return refused("Asm line 7 Value UnknownName")
-    if text.endswith(b"\n") and 9 <= len(lines) - 1 <= 11:
-        count = len(lines) - 1 - 7
-        return end(0, b"".join(line + b"\n" for line in DWARF_CODE.split(b"\n")[: count + 1]))
+    if is_whole_line and 9 <= count <= 11:
+        return end(0, b"".join(line + b"\n" for line in DWARF_CODE.split(b"\n")[: count - 6]))
     return None
 
 
@@ -119,12 +118,12 @@ def try_dwarf(program, text):
     actual, expected = play(program, ["asm", "x.red"], {"x.red": text}), dwarf_end(text)
     if expected is None:
         return [] if is_of_form(text, actual) else [f"got {actual}"]
-    return compare("", expected, actual)[1]
+    return difference(expected, actual)
 
 
 def try_fight(program, text):
     """Plays a cut of `FIGHT`. Returns what is wrong, in a list."""
-    return compare("", fight_end(text), play(program, [], {}, text=text))[1]
+    return difference(fight_end(text), play(program, [], {}, text=text))
 
 
 def try_cert(program, text):
@@ -133,8 +132,7 @@ def try_cert(program, text):
     files = {**BENCHMARK, "x.cert": text}
     whole = play(program, ["check", *words], files)
     share = play(program, ["check", "--share=3/4", *words], files)
-    return [*compare("", cert_end(text), whole)[1],
-            *compare("", cert_end(text, "share 3/4 "), share)[1]]
+    return [*difference(cert_end(text), whole), *difference(cert_end(text, "share 3/4 "), share)]
 
 
 def main():

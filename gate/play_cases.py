@@ -255,9 +255,9 @@ def main():
     add_built(parser)
     parser.add_argument("cases", nargs="*", type=pathlib.Path, metavar="CASES",
                         help="files such as gate/cases/asm.toml [default: all of gate/cases/]")
-    asked = parser.parse_args()
-    program, folder = program_of(asked.program), pathlib.Path(__file__).resolve().parent / "cases"
-    paths = asked.cases or sorted(folder.glob("*.toml"))
+    args = parser.parse_args()
+    program, folder = program_of(args.program), pathlib.Path(__file__).resolve().parent / "cases"
+    paths = args.cases or sorted(folder.glob("*.toml"))
     cases = [case for path in paths for case in read_cases(path)]
     return tally(side_by_side(lambda case: (case["name"], differences(program, case)), cases))
 

@@ -15,7 +15,7 @@ from .lib.play import in_folder
 from .lib.ranking_model import (Aim, Search, Table, first_too_high, rank_line, ranking_of,
                                 row_line)
 from .lib.running import side_by_side
-from .lib.tally import compare, tally
+from .lib.tally import compare, difference, tally
 
 TEMPLATES = 300
 CORE = 40
@@ -96,7 +96,7 @@ class Trial:
         return job.returncode, out.decode() + err.decode()
 
     def see(self, name, expected, actual):
-        self.wrong += [f"{name}: {line}" for line in compare(name, expected, actual)[1]]
+        self.wrong += [f"{name}: {line}" for line in difference(expected, actual)]
 
     def read_table(self):
         """Reads the points of all fights from CERT, and compares which settings assemble. Without

@@ -55,7 +55,8 @@ def shown_whole(place, words):
 
 
 def progress(place):
-    """Tries the progress of a tuning and of a check that end at once."""
+    """Tries the progress of a tuning and of a check that end at once. Yields name, expected and
+    actual, as the other groups of trials."""
     tuned, accepted = end(0, REPORT, CERT=CERT), end(0, "accepted best 0 total 4\n")
     for name, words, expected in [("a tuning", tune("two.red"), tuned),
                                   ("a check", CHECK, accepted)]:

@@ -6,17 +6,22 @@ class LeftOut(Exception):
     """Why a trial is left out, as `no rsync`."""
 
 
+def difference(expected, actual):
+    """Returns what is wrong with an actual value, in a list."""
+    return [] if actual == expected else [f"expected {expected!r}, got {actual!r}"[:2000]]
+
+
 def compare(name, expected, actual):
-    """Returns a name, and what was wrong, in a list."""
-    return name, [] if actual == expected else [f"expected {expected!r}, got {actual!r}"[:2000]]
+    """Returns a trial: a name, and what is wrong with the actual value."""
+    return name, difference(expected, actual)
 
 
 def tally(trials, before=""):
     """Prints what failed, and as its last line `N passed, N failed`. Returns the exit status.
 
     Each of the trials, or cases, is a name, and a list of what was wrong, or why it was left out.
-    Those are printed before the last line, and with CWTUNE_ALL=1 they have failed. Status 1: one
-    failed, or there were none.
+    Trials left out are printed before the last line, and with CWTUNE_ALL=1 they have failed.
+    Status 1: one failed, or there were none.
     """
     passed = failed = 0
     lines_left_out = []
