@@ -27,6 +27,8 @@ File = tuple[Digest, Annotated[str, range(1, 1 << 16)]]
 
 @dataclasses.dataclass
 class CertInputs:
+    """What a CERT.inputs says, but for the program."""
+
     rules: tuple[(Annotated[int, range(1 << 32)],) * len(Rules._fields)]
     part: Annotated[str, re.compile(r"\d{1,10}/\d{1,10}")]
     method: Annotated[str, re.compile(r"all|cache \d{1,10}")]

@@ -137,10 +137,12 @@ def say(word, message, status):
 
 
 def note(text):
+    """Writes a note on standard error, escaped."""
     say("note", text, 0)
 
 
 def tell(line):
+    """Writes a line on standard error as it is."""
     print(line, file=sys.stderr, flush=True)
 
 

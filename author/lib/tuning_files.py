@@ -25,6 +25,8 @@ class TooManySettings(Fault):
 
 
 class Fight(NamedTuple):
+    """A fight of a schedule."""
+
     opponent: int
     position: int
     first: str

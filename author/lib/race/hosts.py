@@ -30,6 +30,8 @@ def points_of(row, width):
 
 
 class Piece(NamedTuple):
+    """Some settings, which play some blocks."""
+
     settings: list
     blocks: list
 

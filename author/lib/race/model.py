@@ -49,6 +49,8 @@ class Constant:
 
 
 class Sums:
+    """Weighted sums by key, and the sums of their weights."""
+
     def __init__(self, entries):
         self.totals, self.weights = {}, {}
         for key, weight, number in entries:
@@ -57,6 +59,8 @@ class Sums:
 
 
 class Model:
+    """What settings make, as was seen of some contenders."""
+
     def __init__(self, ranges, contenders):
         known = [contender for contender in contenders if contender.blocks]
         weights = [contender.blocks / (contender.blocks + PRIOR_BLOCKS) for contender in known]

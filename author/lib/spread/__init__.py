@@ -125,7 +125,7 @@ def check(args, setting_count, notes, cert):
 
 @contextlib.contextmanager
 def explaining_stop(folder, progress):
-    """Says after Ctrl-C what is done, unless that was said."""
+    """Says after Ctrl-C what is done, once: an interrupt with words has passed such a block."""
     try:
         yield
     except KeyboardInterrupt as stop:
