@@ -27,6 +27,6 @@ refuse.two_devices
                  a certificate and a template that have one inode
 
 `author.tests.run` and `release.try_release` try the commands for authors and the release.
-Their libraries are in `lib`, but for `functions`, which is of `edits`, and `refuse.runs` and
-`refuse.once_each`, which are of `refuse`. `prove.sh` is `make prove`.
+What they share is in `lib`. `functions` is part of `edits`; `refuse.runs` and `refuse.once_each`
+are parts of `refuse`. `prove.sh` is `make prove`.
 """

@@ -65,8 +65,8 @@ def follow(step, left_out, edits=None):
 @contextlib.contextmanager
 def edits_beside(tree, proved, anew):
     """Begins the edits in a second copy of the tree, which has must-fail/, over the libraries that
-    `rt ci` builds in the copy `proved`. Kills what is left of them at the end, but for temporary
-    files, which are beside the copies."""
+    `rt ci` builds in the copy `proved`. If they still run at the end, kills them; their temporary
+    files are beside the copies, and go with these."""
     copy_tree(tree)
     for crate in (proved / "crates").iterdir():
         (tree / "crates" / crate.name / "out").symlink_to(crate / "out")

@@ -1,8 +1,8 @@
 """Plays the best settings of a certificate and START in fresh fights, and says what was gained.
 
 A tuning picks the setting that was best in a few fights, and part of that is luck. Here START and
-the K best settings among those that played all fights of the tuning play R fights against each
-opponent, at random positions, moving first in every other fight, the same for all settings.
+the K best of the settings that played the whole tuning play R fresh fights against each opponent.
+The positions are random, and the same for all; who moves first alternates.
 
 For each setting a line says its total in the tuning and in the fresh fights, the points as a part
 of the greatest total, in percent, and the standard error of that. A line after these compares the

@@ -1,11 +1,11 @@
 """Draws the totals of a tuning over its constants, as an SVG or a PNG file by the name's end.
 
 Of one constant it is a line, of two a map of colours, of more a map for each choice of the others.
-The best setting is a star, and START a ring. A setting that does not assemble is left white. One
-that was dropped is grey: in a map a square, lighter if its total can be greater, on a line a
-triangle, as high as its total can be at most. A second picture shows for each constant the mean
-total of each of its values, with its standard error, to one scale; it needs every total, so a
-certificate of `cwtune tune --all`. Needs matplotlib (Debian: python3-matplotlib).
+The best setting is a star, and START a ring. A setting that does not assemble is white. One that
+was dropped is grey: in a map a square, the lighter the more it might total; on a line a triangle at
+the most that it might total. A second picture shows for each constant the mean total of each of its
+values, with its standard error, to one scale; it needs every total, so a certificate of
+`cwtune tune --all`. Needs matplotlib (Debian: python3-matplotlib).
 
 Example: cwtune-landscape my.red my.cert totals.png --effects effects.png
 """

@@ -5,9 +5,9 @@ command made it and of what, so that no folder of somebody else is touched.
 
 A folder may come from a stranger, with links where the command writes. The path to it may go
 through links, but the folder and its rooms, the folders in it, have to be real ones of the user.
-Each name that the command gives has to be that of a regular file of the user, if it is there;
-anything else is refused with its name. What has another name is left alone. All is done by the
-descriptors of the folders, so nothing is written or removed through a link.
+What has a name that the command uses has to be a regular file of the user, else it is refused by
+name. What has another name is left alone. All is done by the descriptors of the folders, so nothing
+is written or removed through a link.
 """
 import contextlib, dataclasses, errno, fcntl, json, os, pathlib, re, stat
 
@@ -73,8 +73,8 @@ class OwnFolder:
     `MARK` is the name of its mark, and `SCHEMA` its dataclass, with the entry `by`. `THROWN` and
     `INSTEAD` are words of the fault for other inputs: what --anew throws away, and which word of
     the command names another folder. `given_path` is its path as the user or the command gives it,
-    and `path` the whole one. `rooms()` returns for each room the pattern of the names that the
-    command gives in it; that of the empty name is the folder itself, without the mark.
+    and `path` the whole one. `rooms()` returns, by the name of each room, the pattern of the names
+    that the command uses in it; the empty name is the folder itself, without the mark.
     """
 
     COMMAND = MARK = THROWN = INSTEAD = ""
@@ -93,7 +93,7 @@ class OwnFolder:
                 raise Fault(f"another {self.COMMAND} is at work in {given_path}", 2) from None
 
     def patterns(self):
-        """Yields the rooms, each with the pattern of its names, also while they are written."""
+        """Yields the rooms, each with the pattern of its names and those of unfinished files."""
         for room, names in self.rooms().items():
             more = "" if room else rf"|{re.escape(self.MARK)}\.\d+\.new"
             yield room, rf"({names})(\.\d+\.new)?{more}"

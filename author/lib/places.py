@@ -47,9 +47,9 @@ class Span(NamedTuple):
 class Line(NamedTuple):
     """A line that is assembled. `number` is that of the author's line, and `row` that of the line
     in the text that is read. `word` is its opcode or directive in small letters, and `fields` has a
-    span for each field; that of an EQU line is `equ`. `hidden` has why others are no places.
-    `depth` is how many blocks are open. `adapted` is the adapted text, or None, and `numbers` has
-    the numbers of all lines."""
+    span for each field; that of an EQU line is `equ`. `hidden` says of other fields why they are no
+    places. `depth` is how many blocks are open. `adapted` is the adapted text, or None, and
+    `numbers` has the numbers of all lines."""
 
     number: int
     row: int
@@ -82,8 +82,8 @@ class Line(NamedTuple):
 
     def is_own(self, span):
         """Returns whether characters are of this line of the author's text, or of one that has no
-        places, unless these are another block's count in a sum for CURLINE: in a count, after a
-        parenthesis that `cwtune-adapt` wrote."""
+        places of its own; but the count of another block in a sum for CURLINE, which follows a
+        parenthesis that `cwtune-adapt` wrote in a count, is not."""
         origin, before = self.origin(span), Span(span.start - 1, span.start)
         is_in_sum = self.word == "for" and self.spelled(before) == "(" and not self.origin(before)
         return origin and (origin.line == self.number
@@ -125,8 +125,8 @@ def kind_of(field):
 
 
 def place_of(adapted, row, start, end):
-    """Returns where characters of the adapted text are in the original, or None. Of no character it
-    is where the one before ends, or the next one begins."""
+    """Returns where characters of the adapted text are in the original, or None. An empty span is
+    where the character before it ends, or the next one begins."""
     before = adapted.span(row, start - 1, start) if start == end > 0 else None
     if before:
         return before._replace(column=before.column + 1)
@@ -144,7 +144,8 @@ def assembled_lines(text):
 
 
 def lines_of(text, adapted=None):
-    """Returns the opcode and directive lines with their labels. `adapted` is None of own text."""
+    """Returns the opcode and directive lines with their labels. `adapted` is None if the text is
+    the author's own."""
     lines, waiting, depth, numbers = [], [], 0, set()
     for row, line in assembled_lines(text):
         code = code_of(line)

@@ -127,7 +127,7 @@ class AnyCertificate:
 
     If no setting reaches the floor of the tuning, `best` is None and `total` is the floor. A
     certificate may have a million rows, so these are kept in arrays: `twins` has for each setting
-    the one whose fights are its own, itself for a cap row, and -1 for one that does not assemble.
+    the one whose row has its fights, itself for a cap row, and -1 if it does not assemble.
     What the cap row of a setting lists is in `listed`, the fights, and `made`, the points, from the
     place `starts[setting]` on.
     """
@@ -213,8 +213,8 @@ class AnyCertificate:
 
 
 class Ranked(collections.abc.Sequence):
-    """Total and setting of each setting that played all fights, the best first. Each is kept in
-    eight bytes: in a number that is less for a greater total."""
+    """Total and setting of each setting that played all fights, the best first. A pair is one
+    number of eight bytes, the less the greater its total."""
 
     def __init__(self, keys):
         self.keys = array.array("q", sorted(keys))
@@ -326,7 +326,7 @@ def read_fight(record):
 
 
 def cap(listed, fights):
-    """Returns the cap of a setting with `listed`, pairs of fight and points: its total if all."""
+    """Returns the cap of a setting with `listed`, pairs of fight and points."""
     weights = fights.weights
     return fights.greatest - sum((3 - points) * weights[fight] for fight, points in listed)
 

@@ -31,14 +31,14 @@ UNWRITTEN = {"a-mode": "$", "b-mode": "$", "modifier": "-"}
 
 
 class Source(NamedTuple):
-    """A text that is read, and it as an `Adapted` if the author's own is another one, else None."""
+    """A text that is read, and the `Adapted` that it is of, None if it is the author's own."""
 
     text: str
     adapted: Adapted | None
 
 
 class Opened(NamedTuple):
-    """A place that is open, its constant, and whether the range line of that follows it."""
+    """A place that is open, its constant, and whether the constant's range line follows."""
 
     spot: Spot
     constant: Constant

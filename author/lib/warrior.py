@@ -3,9 +3,9 @@
 The setting is the best one of a certificate, or the one that --setting names: its index, or
 `start`. In a template that `cwtune-vary` made each number, mode, modifier or opcode is written
 where the author wrote it. A range line of one's own becomes an EQU line. Nothing else is changed,
-but that after the author's `;strategy` lines comes one that names the values; it replaces the one
-of an earlier tuning. So the text is ready for the next `cwtune-vary`. With --template the template
-is printed, with the setting as its START.
+except for one new line after the author's `;strategy` lines, which names the values, and replaces
+that of an earlier tuning. So the text is ready for the next `cwtune-vary`. With --template the
+template is printed, with the setting as its START.
 
 The text is printed only if `cwtune asm` makes the same load file of it as of the setting.
 
@@ -25,8 +25,8 @@ from .slots import STRATEGY
 from .words import FILE_HELP, add_cwtune, add_files, add_shared, command_parser
 from .writing import temporary_file
 
-# It follows the last line that begins with the first of these words, else with the second, and so
-# on.
+# The line of STRATEGY follows the last line that begins with the first of these words, else with
+# the second, and so on.
 LINES_BEFORE = [";strategy", ";author", ";name", ";redcode"]
 # pMARS 0.9.2 reads no longer lines.
 MOST_LINE_BYTES = 255

@@ -37,8 +37,8 @@ def whole_file(path, mode="w"):
 
 @contextlib.contextmanager
 def replacing(folder, name, mode):
-    """Opens a new file, which replaces the file `name` once all is written. `folder` is the
-    descriptor of theirs. A link is replaced itself, and nothing is written through it."""
+    """Opens a new file, which replaces the file `name` once all is written. `folder` is a
+    descriptor of their folder. A link is replaced itself, and nothing is written through it."""
     new = f"{name}.{os.getpid()}.new"
     try:
         with open_new(folder, new, mode) as file:
@@ -65,9 +65,9 @@ def open_new(folder, name, mode):
 
 
 def remove_left(folder, pattern):
-    """Removes what killed runs of this user have left in a folder. The pattern is of the names,
-    with the process id of the maker as its last group: what a process still makes stays. One on
-    another host holds a lock. Without /proc no maker is seen, and only the locks protect."""
+    """Removes what killed runs of this user have left in a folder, by a pattern of names whose last
+    group is the process id of the maker. What a living process makes stays; a maker on another host
+    holds a lock. Without /proc only the locks protect."""
     with contextlib.suppress(OSError):
         for name in os.listdir(folder):
             match = re.fullmatch(pattern, name)

@@ -1,5 +1,5 @@
-"""What all trials have: a folder, the program and the commands in it, what is compared, and how it
-is told what came of that.
+"""What all trials share: a folder with the program and the commands, comparisons, and the list of
+what failed.
 """
 import contextlib, os, pathlib, re, shutil, signal, subprocess, sys, tempfile, time, traceback
 import unittest

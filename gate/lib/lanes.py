@@ -35,8 +35,8 @@ class Proofs:
         self.are_over = not line
 
     def allow(self, crate):
-        """Returns whether the crate's rounds may begin. None does before `rt ci` has proved a
-        crate: it plans by the memory that is free when it starts."""
+        """Returns whether the crate's rounds may begin. None begins before `rt ci` has proved its
+        first crate, since `rt ci` plans by the memory that is free when it starts."""
         below = crate.made.below()
         unbuilt = [made.name for made in below if not os.path.isdir(made.rlib)]
         if self.are_over and unbuilt:
@@ -45,8 +45,8 @@ class Proofs:
 
 
 def has_room(begun):
-    """Returns whether a round has memory beside `rt ci`, which may still take as much, and beside
-    the rounds that were begun at these times."""
+    """Returns whether there is memory for a round: beside `rt ci`, which may take as much as one
+    more, and beside the rounds that began at these times and still grow."""
     young = sum(time.monotonic() - at < SETTLED for at in begun)
     return free_memory() > (2 + young) * ROOM
 

@@ -1,8 +1,8 @@
 /* Refuses the request for memory whose number, from 1, is in REFUSE. With REFUSE_COUNT set, prints
  * the number of requests on standard error at the end. Requests of fewer bytes than REFUSE_LEAST
- * are neither counted nor refused. With REFUSE_AFTER set, all are refused that come after the first
- * of at least as many bytes. Loaded before the C library. By `nm -D`, the programs of the gate call
- * no other function for memory than these two. */
+ * are neither counted nor refused. With REFUSE_AFTER set, the first request of at least that many
+ * bytes is the last one that is not refused. Loaded before the C library. By `nm -D`, the programs
+ * of the gate call no other function for memory than these two. */
 #define _GNU_SOURCE
 #include <dlfcn.h>
 #include <errno.h>

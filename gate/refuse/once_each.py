@@ -1,8 +1,8 @@
 """Counts requests for memory, to see that no run repeats an assembly or makes a second arena.
 
-One more setting, row, `same` row or opponent costs one more assembly, with up to 64 opponents, with
-the explanations of a terminal and without, and a run makes one arena, whatever its number of
-settings. `memory.py` takes the trials: names, and for each a list of what was wrong.
+One more setting, row, `same` row or opponent costs one more assembly: also among 64 opponents, and
+at a terminal, which explains. A run makes one arena, however many settings. `memory.py` takes the
+trials: names, and for each a list of what was wrong.
 """
 from author.lib.endings import Fault
 

@@ -3,7 +3,7 @@
 The runs are those of `runs.py`, each with an older certificate in CERT, and with none. A step is a
 write of one byte, the flush of a file to the disk, or its new name. In each run one step, the
 first, the second and so on, goes wrong: it fails, the disk is full, it takes no byte, or the
-program is killed after it. Until a certificate has its name CERT is as it was, and nothing is on
+program is killed after it. Until a certificate has its name, CERT is as it was, and nothing is on
 standard output. CERT.inputs is written after the report; a step of it that fails does not change
 how the run ends. Only a kill leaves an unfinished file. The last line says how many steps failed,
 too. Needs `cc` and a system with LD_PRELOAD.

@@ -50,7 +50,8 @@ def blanks(lines):
 
 
 def changes_of_joins(changes, inverted):
-    """Yields changes that join outer counters first. If names spell digits, blocks are unrolled."""
+    """Yields changes that join outer counters first. If the text has a name that such a join may
+    make, as x0102 of x&i&j, the blocks are unrolled instead."""
     words = {token.text for line in changes.lines for token in tokens_of(code_of(line.text))}
     bases = {new.partition("&")[0] for found in inverted.values() for _, _, new in found}
     spelled = {word for word in words for base in bases

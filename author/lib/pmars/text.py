@@ -32,7 +32,7 @@ class TooMuch(Exception):
 
 
 class State(enum.IntEnum):
-    """What was read of a line. VALUE is a value begun, and START that of a pseudo-opcode."""
+    """What was read of a line. In VALUE and START a value goes on; START is of a pseudo-opcode."""
 
     WRONG, NOTHING, LABELS, VALUE, CODE, START, BLOCK, END_OF_BLOCK = range(-1, 7)
 

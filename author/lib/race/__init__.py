@@ -25,8 +25,8 @@ EXPLORED, RACED, DECIDED = 0.33, 0.70, 0.88
 # The blocks of the first heat of a round, and of its longest. Each heat is twice as long as the one
 # before.
 FIRST_HEAT, LONGEST_HEAT = 2, 8
-# Which part of the settings of a heat goes on to the next. At least SURVIVORS do, and as many
-# survive the round.
+# Which part of the settings of a heat goes on to the next. At least SURVIVORS do, and a round ends
+# when no more are left beside START.
 GOES_ON, SURVIVORS = 0.34, 8
 # How many new settings a round has, and how many of these come from anywhere. For each, TRIES are
 # made, of which the model takes one.

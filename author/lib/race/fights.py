@@ -22,7 +22,7 @@ TRIAL_BLOCKS, TRIAL_FIGHTS = 16, 200
 # How much of --minutes is left for the end of the command: a part of them, and some seconds.
 END_PART, END_SECONDS = 0.01, 0.4
 # Has the kernel end a process with the thread that started it. A function that is called in the
-# new process would do so, too, but it takes Python three times as long.
+# new process would do so, too, but then Python takes three times as long to start it.
 WITH_PARENT = ["setpriv", "--pdeathsig", "KILL", "--"] if shutil.which("setpriv") else []
 
 

@@ -95,8 +95,8 @@ class PiecesFolder:
 
 
 class Hosts:
-    """The hosts of a race, if there are any. `points` are those of what they played and the race
-    did not come to, by setting and block, and `seconds` those that a play of it took."""
+    """The hosts of a race, if there are any. `points` has, by setting and block, what they played
+    and the race has not come to, and `seconds` is how long one play took there."""
 
     def __init__(self, arena):
         self.arena, self.points, self.seconds = arena, {}, 0.0

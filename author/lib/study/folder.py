@@ -19,8 +19,8 @@ from ..spread.shares import Shares
 from ..writing import naming
 
 AUTHOR = pathlib.Path(__file__).resolve().parents[2]
-# The names that a study gives in its folder, in its rooms, and those that cwtune-spread gives in
-# the rooms that it makes beside best.cert. `opponents` has the names of the opponents.
+# The names of files that a study makes, by room, and in the last two rooms those that cwtune-spread
+# makes for it. `opponents` has the names of the opponents.
 NAMES = {
     "": r"(original|template|warrior|start|box|found|winner)\.red|schedule\.csv|log\.txt|"
         r"best\.(cert(\.inputs)?|txt)|(race|challenge)\.jsonl|report\.(json|html)",
@@ -31,7 +31,7 @@ NAMES = {
 # How notes on the adapted text begin. The author was told that it is adapted, by the name of the
 # file that was given.
 TOLD_BEFORE = b"note: original.red"
-# What a kill leaves of these.
+# Which of these names only a kill leaves.
 UNFINISHED = r".*(\.\d+\.new|\.unfinished-\d+|\.report|\.fault)"
 Count = Annotated[int, range(1 << 53)]
 Points = Annotated[str, re.compile("[013]+")]

@@ -3,8 +3,8 @@
 The totals are a list for each value of the first constant, with a total for each value of the
 second: the second constant goes from left to right and the first one upwards, as in
 `cwtune-landscape`. Of one constant they are a list with one list. A setting that does not assemble
-has no total, None. The values of a setting are here a dict, by the names of the constants; of one
-that is an index of a list in the author's text the pictures show what is in the list there.
+has no total, None. Here the values of a setting are a dict by the names of the constants. If a
+value is an index of a list in the author's text, the pictures show what is in the list.
 """
 import math
 from typing import NamedTuple
