@@ -17,14 +17,11 @@ from .lib.tally import compare, tally
 FILES = inputs.files("dat.red", "imp.red", "both.csv", "imps.red", "step.red", "tail.red",
                      "empty.red")
 TUNE = ["tune", *RULES, "imps.red", "both.csv", "CERT", "dat.red", "imp.red"]
-OTHERS = [
-    ["tune", "--all", *TUNE[1:]],
-    ["tune", "--cache", "7", *TUNE[1:]],
-    ["tune", "--part=2/3", *TUNE[1:]],
-    ["tune", *RULES, "--", "./imps.red", "both.csv", "CERT", "imp.red", "dat.red"],
-    ["tune", "--core=400", "--distance", "50", "--length=50", "imps.red", "wide.csv", "CERT",
-     "dat.red"],
-]
+OTHERS = [*(["tune", *options, *TUNE[1:]]
+            for options in [["--all"], ["--cache", "7"], ["--part=2/3"]]),
+          ["tune", *RULES, "--", "./imps.red", "both.csv", "CERT", "imp.red", "dat.red"],
+          ["tune", "--core=400", "--distance", "50", "--length=50", "imps.red", "wide.csv", "CERT",
+           "dat.red"]]
 REPORT = report(4, 4, 0, "K=0", "4 of 6", "2 of 8")
 OLD = "cwtune inputs 1\nof an older certificate\n"
 HOLDS = ("  a certificate holds only for its own template, schedule, opponents in order, rules and "

@@ -143,11 +143,6 @@ def typed(program, runs, folder):
     return list(zip(parts[::2], parts[1::2]))
 
 
-def write_files(folder, tables):
-    for name, text in (pair for table in tables for pair in table.items()):
-        (folder / name).write_text(text)
-
-
 def played(program, document, folder):
     """Plays what a document shows. Yields each run with what was wrong."""
     text = document.read_text("utf-8")
@@ -157,7 +152,9 @@ def played(program, document, folder):
     found += [*runs_in_blocks(text), *runs_in_tables(text, saved)]
     runs = [run for run in found if isinstance(run, Run)]
     yield from ((document.name, [lack]) for lack in found if isinstance(lack, str))
-    write_files(folder, [saved, *(run.files for run in runs)])
+    for files in [saved, *(run.files for run in runs)]:
+        for name, file_text in files.items():
+            (folder / name).write_text(file_text)
     results = typed(program, runs, folder)
     for run, (out, status) in zip(runs, results):
         right = is_printed(run.printed, out) and int(status) == status_of(run.printed)

@@ -80,10 +80,6 @@ def edits_beside(tree, proved, anew):
             edits.wait()
 
 
-def minutes(seconds):
-    return f"{seconds / 60:.1f} min"
-
-
 def main():
     parser = module_parser("gate.gate", __doc__)
     parser.add_argument("--anew", action="store_true", help="prove and try again what earlier "
@@ -105,8 +101,8 @@ def main():
         for step in STEPS if is_proved else []:
             counts.append(follow(begin([*WATCHED, "-m", step], copy), left_out))
     used = resource.getrusage(resource.RUSAGE_CHILDREN)
-    print(f"The gate took {minutes(time.monotonic() - began)}, and "
-          f"{minutes(used.ru_utime + used.ru_stime)} of processor time.")
+    print(f"The gate took {(time.monotonic() - began) / 60:.1f} min, and "
+          f"{(used.ru_utime + used.ru_stime) / 60:.1f} min of processor time.")
     print(*left_out, sep="", end="")
     passed, failed = map(sum, zip(*counts))
     print(f"{passed} passed, {failed} failed")

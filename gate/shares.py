@@ -15,19 +15,12 @@ from .lib.running import side_by_side
 from .lib.tally import compare, tally
 
 SHARE_COUNTS = [1, 2, 3, 7]
-# Templates with rows of all kinds: refused ones, and ones that share a warrior.
-TEMPLATES = {
-    "half.red": inputs.FILES["half.red"],
-    "tail.red": inputs.FILES["tail.red"],
+OPPONENTS = ["dat.red", "imp.red"]
+# The templates have rows of all kinds: refused ones, and ones that share a warrior.
+FILES = inputs.files(*OPPONENTS, "half.red", "tail.red", "both.csv") | {
     "kinds.red": ";@tune K 0 5 1 4\nMOV 0, 1\nDAT 12/(K/2-1)\n",
     "leaps.red": ";@tune K 0 5 1 5\nJMP K\nMOV 0, 1\nDAT 0\nJMP -1\n",
-}
-SCHEDULES = {
-    "both.csv": inputs.FILES["both.csv"],
-    "weights.csv": "opponent,position,first,weight\n0,4,c,1\n1,5,o,3\n1,6,c,2\n0,4,o,1\n",
-}
-OPPONENTS = ["dat.red", "imp.red"]
-FILES = inputs.files(*OPPONENTS) | TEMPLATES | SCHEDULES
+    "weights.csv": "opponent,position,first,weight\n0,4,c,1\n1,5,o,3\n1,6,c,2\n0,4,o,1\n"}
 # The certificates: a template, a schedule and a method.
 TUNINGS = [("half.red", "both.csv", "--cache=2"), ("tail.red", "weights.csv", "--all"),
            ("kinds.red", "weights.csv", "--cache=4"), ("leaps.red", "both.csv", "--all"),

@@ -25,8 +25,6 @@ class TooManySettings(Fault):
 
 
 class Fight(NamedTuple):
-    """A fight of a schedule."""
-
     opponent: int
     position: int
     first: str

@@ -19,7 +19,7 @@ FILES = {"plane.red": PLANE, "large.red": LARGE, "dat.red": "DAT 0, 0\n", "imp.r
          "bad.red": ";@tune K 0 5 1 2\nMOV 1\n",
          "none-assembles.red": ";@tune K 0 5 1 2\nDAT 1/0\n",
          "two.csv": "opponent,position,first\n2,40,c\n", "empty": "# good\n\n  # :\n",
-         "one-host": "good\n"}
+         "one-host": "good\n", "settings": "1s/.*/DAT 0/\n"}
 # The files of a race, and what is refused.
 RACED = "plane.red s.csv dat.red imp.red"
 NONE_ASSEMBLES = ("refused: no setting that was tried assembles; `cwtune asm --setting start` says "
@@ -199,7 +199,6 @@ class Racing(Trial):
         self.same("an opponent that SCHEDULE leaves out does not play", one.out, alone.out)
 
     def test_job(self):
-        self.write("settings", "1s/.*/DAT 0/\n")
         job = subprocess.run(["sh", SCRIPT, "settings", "true"], cwd=self.folder,
                              capture_output=True)
         self.same("sed fails without t.red", (3, b""), (job.returncode, job.stdout))

@@ -124,22 +124,20 @@ OF_WRONG_TEMPLATES = [
         ("too-many-settings.red", "refused: too-many-settings.red: more than 1000000 settings")]),
 ]
 OF_ANOTHER_SCHEDULE = [
-    *(Refusal(words, 2, f"error: {cert} is not a certificate of the schedule {schedule}")
+    *(Refusal(words.format(cert, schedule), 2,
+              f"error: {cert} is not a certificate of the schedule {schedule}")
       for words, cert, schedule in [
-          ("cwtune-scores step.cert other.csv", "step.cert", "other.csv"),
-          ("cwtune-scores step.cert weighted.csv", "step.cert", "weighted.csv"),
-          ("cwtune-scores more-than-the-best.cert two.csv", "more-than-the-best.cert", "two.csv"),
-          ("cwtune-scores no-such-fight.cert two.csv", "no-such-fight.cert", "two.csv"),
-          ("cwtune-landscape step.red step.cert x.png --schedule other.csv", "step.cert",
-           "other.csv")]),
-    *(Refusal(words, 2, f"error: {cert}: its rows are not those of its best setting and total")
+          ("cwtune-landscape step.red {} x.png --schedule {}", "step.cert", "other.csv"),
+          *(("cwtune-scores {} {}", cert, schedule) for cert, schedule in [
+              ("step.cert", "other.csv"), ("step.cert", "weighted.csv"),
+              ("more-than-the-best.cert", "two.csv"), ("no-such-fight.cert", "two.csv")])]),
+    *(Refusal(words.format(cert), 2,
+              f"error: {cert}: its rows are not those of its best setting and total")
       for words, cert in [
-          ("cwtune-holdout --top 1 two.red more-than-the-best.cert x.red",
-           "more-than-the-best.cert"),
-          ("cwtune-holdout --top 1 two.red no-fights.cert x.red", "no-fights.cert"),
-          ("cwtune-landscape two.red no-such-fight.cert x.png", "no-such-fight.cert"),
-          ("cwtune-landscape step.red total-17-and-not-16.cert x.png",
-           "total-17-and-not-16.cert")]),
+          ("cwtune-holdout --top 1 two.red {} x.red", "more-than-the-best.cert"),
+          ("cwtune-holdout --top 1 two.red {} x.red", "no-fights.cert"),
+          ("cwtune-landscape two.red {} x.png", "no-such-fight.cert"),
+          ("cwtune-landscape step.red {} x.png", "total-17-and-not-16.cert")]),
 ]
 WRONG_WORDS = [
     *usage_errors("cwtune-scores", [
@@ -166,13 +164,10 @@ WRONG_WORDS = [
         ("stone.red all-fights.cert x.png --schedule schedule.csv --opponent 5",
          "--opponent 5: the opponents of the schedule are 0, 1, 2, 3, 4"),
         ("plain.red plain.cert x.png", "the template has no constants to draw"),
-        ("step.red step.cert x.jpg", "the picture's name has to end with .png or .svg: x.jpg"),
-        ("step.red step.cert x", "the picture's name has to end with .png or .svg: x"),
-        ("step.red step.cert png", "the picture's name has to end with .png or .svg: png"),
-        ("step.red step.cert x.svg --effects=y.jpg",
-         "the picture's name has to end with .png or .svg: y.jpg"),
-        ("step.red step.cert x.svg --effects=svg",
-         "the picture's name has to end with .png or .svg: svg")]),
+        *((f"step.red step.cert {options}{name}",
+           f"the picture's name has to end with .png or .svg: {name}")
+          for options, name in [("", "x.jpg"), ("", "x"), ("", "png"),
+                                ("x.svg --effects=", "y.jpg"), ("x.svg --effects=", "svg")])]),
 ]
 NOT_ASSEMBLED = [
     Refusal("cwtune-vary two-equs.red STEP=1:9", 1,

@@ -156,13 +156,9 @@ REPORTS = {
     "a race and a box": raced((3, 5, 2, 4), BOX),
     "a race and a box that was checked": raced(
         (5, 5), BOX | {"check": "accepted best 7 total 99", "replaces": True}, has_totals=True),
-    "one constant": sample((21,)),
-    "two constants": sample((5, 5)),
-    "four constants": sample((3, 5, 2, 4)),
-    "a hostile report": hostile(),
-    "one setting": sample((1,), opponents=1),
-    "one value of a constant": sample((1, 7)),
+    "one constant": sample((21,)), "two constants": sample((5, 5)),
+    "four constants": sample((3, 5, 2, 4)), "a hostile report": hostile(),
+    "one setting": sample((1,), opponents=1), "one value of a constant": sample((1, 7)),
     "many opponents": sample((2, 2, 2, 2, 2), opponents=64),
-    "many settings": sample((51, 50), opponents=2),
-    "many values": sample((10001,), opponents=2),
+    "many settings": sample((51, 50), opponents=2), "many values": sample((10001,), opponents=2),
 }

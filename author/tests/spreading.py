@@ -66,10 +66,9 @@ class Spreading(SpreadTrial):
             ("template", ["other.red", *DECOY[1:]]),
             ("schedule", ["decoy.red", "other.csv", *DECOY[2:]]),
             ("opponents", reversed_opponents),
-            ("rules", ["--cycles=79999", *DECOY]),
-            ("cache", ["--cache=1", *DECOY]),
-            ("keep", ["--keep=2", *DECOY]),
-            ("program", ["--program=./program", *DECOY]),
+            *((other, [option, *DECOY]) for other, option in [
+                ("rules", "--cycles=79999"), ("cache", "--cache=1"), ("keep", "--keep=2"),
+                ("program", "--program=./program")]),
         ]:
             line = (f"error: the parts in CERT.parts are of other inputs ({other}): give --anew to "
                     "throw the parts away and begin again, or another CERT\n")

@@ -58,8 +58,6 @@ TEXTS = [
     (f"{CHECK} --share=1/2 points.cert dat.red imp.red", end(1, "rejected row 3 CapTooHigh\n")),
     (f"{CHECK} --share=2/2 points.cert dat.red imp.red", end(1, "rejected row 4 WrongPoints\n")),
 ]
-
-
 # Here the end has the certificate, if one is written.
 TUNINGS = [
     ("tune one.red both.csv CERT dat.red imp.red",

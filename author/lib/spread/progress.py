@@ -55,8 +55,6 @@ class Progress:
 
 
 class PartsProgress(Progress):
-    """The progress of a tuning."""
-
     def line(self):
         parts, folder = self.done(), self.folder
         line = (f"{len(parts)} of {folder.piece_count} parts, {self.settings_done()} of "
@@ -68,8 +66,6 @@ class PartsProgress(Progress):
 
 
 class SharesProgress(Progress):
-    """The progress of a check."""
-
     def line(self):
         return (f"{len(self.done())} of {self.folder.piece_count} shares of the check, "
                 f"{self.settings_done()} of {self.folder.setting_count} settings"
