@@ -65,7 +65,7 @@ study.page       pieces of a page, in the styles of style.css
 Where nothing else is said, a name means this:
 
 - `setting`: the index of a setting, or in `race` its `values`, which are one for each constant;
-- `ranges`: the values that each constant may have; `constant`: the index of one;
+- `ranges`: the values that each constant may have; `whole`: those of one; `constant`: its index;
 - `cert`: a certificate, or its path in `args`, which are the words of a command once parsed;
 - `completed`: a run of a program that has ended;
 - `number`: which part, share or heat, counted from 1;

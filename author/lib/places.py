@@ -14,7 +14,7 @@ from .adapt import Adapted
 from .endings import Fault, shown
 from .pmars import tokens
 from .pmars.tokens import MODES, NAME, code_of
-from .traced import Place
+from .traced import Origin
 from .words import counted
 
 OPCODES = [word.lower() for word in tokens.OPCODES
@@ -67,8 +67,8 @@ class Line(NamedTuple):
 
     def origin(self, span):
         """Returns where characters are in the author's text, or None if they are not there."""
-        return (place_of(self.adapted, self.row, *span) if self.adapted
-                else Place(self.row, span.start))
+        return (origin_of(self.adapted, self.row, *span) if self.adapted
+                else Origin(self.row, span.start))
 
     def plain(self, field):
         """Returns the span of the number of a field that is a plain number, else None."""
@@ -124,7 +124,7 @@ def kind_of(field):
     return "number" if field in ("a", "b", "equ") else field.rpartition("-")[2]
 
 
-def place_of(adapted, row, start, end):
+def origin_of(adapted, row, start, end):
     """Returns where characters of the adapted text are in the original, or None. An empty span is
     where the character before it ends, or the next one begins."""
     before = adapted.span(row, start - 1, start) if start == end > 0 else None
@@ -172,8 +172,8 @@ def number_of(adapted, row, column):
     """Returns the number of the author's line in which a word is, or begins; 0 if it is new."""
     if adapted is None:
         return row
-    places = adapted.lines[row - 1].places
-    return next((place.line for place in [*places[column:], *places] if place), 0)
+    origins = adapted.lines[row - 1].origins
+    return next((origin.line for origin in [*origins[column:], *origins] if origin), 0)
 
 
 def hide_fields(lines):
@@ -316,4 +316,4 @@ def line_written_out(lines, name):
         texts = lines[0].adapted.lines
     numbers = {text.number() for text in texts if text.text[:1] == ";" and equ.match(text.text)}
     return next((line for line in lines if numbers and any(
-        place and place.line in numbers for place in texts[line.row - 1].places)), None)
+        origin and origin.line in numbers for origin in texts[line.row - 1].origins)), None)

@@ -9,7 +9,7 @@ from . import slots
 from .adapt import adapt, read_text
 from .endings import Fault
 from .grid import is_range_line
-from .places import place_of
+from .places import origin_of
 from .program import rules_of
 
 
@@ -19,17 +19,17 @@ def original_lines(args, template, setting):
     text = read_text(args.original)
     adapted = adapt(args.original, text, rules_of(args), args.program)
     lines, news = text.decode("latin-1").split("\n"), {}
-    for place, length, new in edits_of(args, template, setting, adapted):
-        # Of one place of several lines some may want parentheses.
-        news[place, length] = max(new, news.get((place, length), ""), key=len)
-    for (place, length), new in sorted(news.items(), reverse=True):
-        line = lines[place.line - 1]
-        lines[place.line - 1] = line[:place.column] + new + line[place.column + length:]
+    for origin, length, new in edits_of(args, template, setting, adapted):
+        # Of one origin of several lines some may want parentheses.
+        news[origin, length] = max(new, news.get((origin, length), ""), key=len)
+    for (origin, length), new in sorted(news.items(), reverse=True):
+        line = lines[origin.line - 1]
+        lines[origin.line - 1] = line[:origin.column] + new + line[origin.column + length:]
     return lines
 
 
 def edits_of(args, template, setting, adapted):
-    """Yields the edits of the original: the `Place`, how many characters go, and the new ones."""
+    """Yields the edits of the original: the `Origin`, how many characters go, and the new ones."""
     value_of, texts = template.values_by_name(setting), adapted.text.decode("latin-1").split("\n")
     lines = [line.decode("latin-1") for line in template.lines]
     own, _ = slots.author_lines(template.path, lines, value_of)
@@ -42,10 +42,10 @@ def edits_of(args, template, setting, adapted):
             new = slots.text_in(kept, slot, slot.text_of(value_of[slot.name]))
             if new == text[start:end]:
                 continue
-            place = place_of(adapted, number, start, end)
-            if place is None:
+            origin = origin_of(adapted, number, start, end)
+            if origin is None:
                 raise Fault(f"{args.original} has no place for {slot.name}")
-            yield place, end - start, new
+            yield origin, end - start, new
 
 
 def other_text(args):

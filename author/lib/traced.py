@@ -1,24 +1,24 @@
-"""Holds text that knows where it comes from: for each character its place in an original text."""
+"""Holds text that knows where it comes from: for each character its origin in another text."""
 from typing import NamedTuple
 
 
-class Place(NamedTuple):
-    """A place in the original text: the number of a line, from 1, and a column, from 0."""
+class Origin(NamedTuple):
+    """Where a character is in the original: the number of a line, from 1, and a column, from 0."""
 
     line: int
     column: int
 
 
 class Traced:
-    """A text, and for each of its characters the place in the original, or None if it is new."""
+    """A text, and for each of its characters the origin, or None if it is new."""
 
-    def __init__(self, text, places):
-        self.text, self.places = text, places
+    def __init__(self, text, origins):
+        self.text, self.origins = text, origins
 
     @classmethod
     def line(cls, number, text):
         """Returns a line of the original."""
-        return cls(text, [Place(number, column) for column in range(len(text))])
+        return cls(text, [Origin(number, column) for column in range(len(text))])
 
     @classmethod
     def new(cls, text):
@@ -27,13 +27,13 @@ class Traced:
 
     def __add__(self, other):
         other = Traced.new(other) if isinstance(other, str) else other
-        return Traced(self.text + other.text, self.places + other.places)
+        return Traced(self.text + other.text, self.origins + other.origins)
 
     def __radd__(self, text):
         return Traced.new(text) + self
 
     def __getitem__(self, where):
-        return Traced(self.text[where], self.places[where])
+        return Traced(self.text[where], self.origins[where])
 
     def __len__(self):
         return len(self.text)
@@ -54,7 +54,7 @@ class Traced:
 
     def number(self):
         """Returns the number of the first line of the original that is in it, or None."""
-        return next((place.line for place in self.places if place), None)
+        return next((origin.line for origin in self.origins if origin), None)
 
 
 def joined(parts, between):

@@ -60,15 +60,15 @@ class Settings(collections.abc.Sequence):
         if not 0 <= setting < self.count:
             raise IndexError(setting)
         values = []
-        for of_constant in reversed(self.ranges):
-            setting, index = divmod(setting, len(of_constant))
-            values.append(of_constant[index])
+        for whole in reversed(self.ranges):
+            setting, index = divmod(setting, len(whole))
+            values.append(whole[index])
         return tuple(reversed(values))
 
     def index(self, values):
         setting = 0
-        for of_constant, value in zip(self.ranges, values, strict=True):
-            setting = setting * len(of_constant) + of_constant.index(value)
+        for whole, value in zip(self.ranges, values, strict=True):
+            setting = setting * len(whole) + whole.index(value)
         return setting
 
 

@@ -34,7 +34,7 @@ class Box:
         totals = [None if math.isnan(total) else total
                   for values, total in zip(template.values_of_settings, self.totals)
                   if values[2:] == held]
-        values = [list(constant_range) for constant_range in template.ranges[:2]]
+        values = [list(whole) for whole in template.ranges[:2]]
         width = len(values[-1])
         return {"axes": template.names[:2], "values": values,
                 "totals": [totals[first:first + width] for first in range(0, len(totals), width)]}
