@@ -107,7 +107,7 @@ def build_of(built, digest, proof):
     return Build(built, text)
 
 
-def kit():
+def kit_folder():
     """Returns the folder of the kit whose `rt` is on the PATH."""
     rt = shutil.which("rt")
     if not rt:
@@ -154,7 +154,7 @@ def stage(tree, build, zsh=ZSH):
     shutil.copytree(ROOT / "docs", tree / DOC / "docs")
     for name in ["README.md", "CHANGELOG.md", "LICENSE"]:
         shutil.copy(ROOT / name, tree / DOC / name)
-    (tree / DOC / "LICENSES-of-libraries").write_text(licences(kit() / "rattle"))
+    (tree / DOC / "LICENSES-of-libraries").write_text(licences(kit_folder() / "rattle"))
     (tree / DOC / "PROVED").write_text(build.proof)
     return version
 
