@@ -220,8 +220,8 @@ def debian(folder, build):
 def install(prefix, build):
     """Puts the release below a folder such as /usr/local, in place of an older one.
 
-    Returns the path of the program in a list.
-    The list of its files comes first, so that `uninstall` can remove what a kill has left.
+    The list of its files comes first, so that `uninstall` can remove what a kill has left. Returns
+    the path of the program in a list.
     """
     with tempfile.TemporaryDirectory() as name:
         tree = pathlib.Path(name, "tree")
