@@ -10,7 +10,7 @@ help:
 	@awk '/^# /{s = s substr($$0, 2)} /^[a-z]+:/{sub(/:.*/, ""); sub(/\. .*/, ".", s); \
 	    printf "%-10s%s\n", $$0, s} !/^#/{s = ""}' Makefile
 
-# Tunes the example template in about two minutes. A first look, with a quick build that is not
+# Tunes examples/tuning/stone.red in about two minutes. A first look, with a quick build that is not
 # proved.
 look:
 	@sh examples/look.sh

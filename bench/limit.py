@@ -76,10 +76,10 @@ def print_instructions(pairs):
         turns = sum(pair.executed.values())
         for words, count in pair.executed.items():
             shares[words] += count / turns / len(pairs)
-    for (opcode, modifier, *modes), share in shares.most_common(SHOWN):
-        words = (opcode, modifier, *modes)
-        print(f"{f'{opcode}.{modifier} {modes[0]}, {modes[1]}':<32}{share:>8.1%}"
-              f"{'' if words in known else '  no arm'}")
+    for words, share in shares.most_common(SHOWN):
+        opcode, modifier, a_mode, b_mode = words
+        shown = f"{opcode}.{modifier} {a_mode}, {b_mode}"
+        print(f"{shown:<32}{share:>8.1%}{'' if words in known else '  no arm'}")
     rest = sum(share for words, share in shares.items() if words not in known)
     print(f"{'all without an arm':<32}{rest:>8.1%}")
 

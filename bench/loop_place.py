@@ -6,12 +6,13 @@ the runs added up, relative to the quickest place. On some processors a jump is 
 multiple of 32 bytes; the contracts, the points and the gate do not depend on it. Takes the object
 file PROGRAM.o, which `make build` leaves beside the program, and the kit that made it.
 """
-import itertools, pathlib, shutil, subprocess, tempfile
+import itertools, pathlib, subprocess, tempfile
 
 from author.lib.endings import Fault, run_tool
 from author.lib.program import Rules, program_of
 from author.lib.words import add_program, module_parser, number_from
 from pmars.games import Game, fights_of
+from release.dist import kit_folder
 
 from .pairs import FOLDERS, SEED, loads_of
 from .runs import least, run
@@ -19,14 +20,6 @@ from .runs import least, run
 PLACES = (0, 16, 32, 48)
 WARRIORS = ["coil", "hail-bomber", "imp-stone", "silk-paper"]
 FIGHTS = 60
-
-
-def kit_folder():
-    """Returns the folder of the kit that is on the PATH."""
-    rt = shutil.which("rt")
-    if not rt:
-        raise Fault("no `rt` on the PATH", 2)
-    return pathlib.Path(rt).resolve().parent.parent
 
 
 def linked(program, kit, shift, folder):

@@ -46,9 +46,10 @@ def main():
                  (asked.short, lambda: print_short(players, asked.short, folder)),
                  (asked.texts, lambda: print_texts(program, asked.texts)),
                  (asked.tunings, lambda: print_tunings(program, asked.tunings))]
-        for number, play in enumerate(play for is_asked, play in parts if is_asked):
-            print(end="\n" * (number > 0))
-            play()
+        for index, print_part in enumerate(part for is_asked, part in parts if is_asked):
+            if index > 0:
+                print()
+            print_part()
 
 
 if __name__ == "__main__":

@@ -1,4 +1,5 @@
 #!/bin/sh
+# shellcheck disable=SC2086
 # Plays the fights, assembles the warriors, tunes the templates and checks certificates, and
 # compares with what is stored here. Prints the lines of fights and checks, the reports, and what
 # differs. Ends with status 0 if all is as expected, otherwise with 1.
@@ -15,7 +16,6 @@ trap 'rm -rf "$work"' EXIT
 cd "$(dirname "$0")" || exit 1
 # shellcheck source=examples/opponents.sh
 . ./opponents.sh
-# shellcheck disable=SC2086
 opponents=$(printf 'warriors/%s ' $opponents)
 nothing=$work/nothing line=$work/line
 : >"$nothing"
@@ -46,7 +46,6 @@ expect_line() {
 
 # Tunes a template, and prints the report: tuned TEMPLATE SCHEDULE REPORT
 tuned() {
-    # shellcheck disable=SC2086
     expect 0 "tuning/$3" "$nothing" tune "tuning/$1" "tuning/$2" "$work/tuned.cert" $opponents
     cat "$work/output"
     echo
@@ -54,13 +53,11 @@ tuned() {
 
 # Checks a certificate of the stone: checked NAME CERT STATUS LINE
 checked() {
-    # shellcheck disable=SC2086
     expect_line "$1" "$3" "$4" check tuning/stone.red "$schedule" "$2" $opponents
 }
 
 # Checks what was tuned by the schedule, and what certify.py makes in its own way: both REPORT
 both() {
-    # shellcheck disable=SC2086
     python3 tuning/certify.py "$program" tuning/stone.red "$schedule" $opponents \
         >"$work/own.cert" || wrong=1
     accepted=$(sed -n -e 's/^best \(.*\)/accepted best \1/p' -e 's/^total \(.*\) of .*/total \1/p' \
@@ -93,7 +90,6 @@ both tuning/report.txt
 checked "the stored certificate" tuning/all-fights.cert 0 "$accepted"
 sed '3s/:0/:1/' tuning/all-fights.cert >"$work/changed.cert"
 checked "one byte changed" "$work/changed.cert" 1 "rejected row 2 WrongPoints"
-# shellcheck disable=SC2086
 "$program" tune --all tuning/stone.red "$schedule" "$work/all.cert" $opponents >"$work/output"
 cmp "$work/all.cert" tuning/all-fights.cert || wrong=1
 echo

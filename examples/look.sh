@@ -1,7 +1,7 @@
 #!/bin/sh
-# Tunes the template of tuning/ with an unproved build, which is ready within a minute, and prints
-# the report. Such a build checks each step while it runs and is slow, so the fights are cut short,
-# and the best setting is not the one of demo.sh. Ends with the program's status.
+# Tunes tuning/stone.red with an unproved build, and prints the report: two minutes. Such a build
+# checks each step while it runs and is slow, so the fights are cut short, and the best setting is
+# not the one of demo.sh. Ends with the program's status.
 # Use: examples/look.sh
 
 here=$(cd "$(dirname "$0")" && pwd)

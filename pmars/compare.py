@@ -5,8 +5,8 @@ first movers are those of `pmars -F`, and the wins, ties and losses have to be t
 random ones and those of the repository: the instructions and the start have to be those of
 `pmars -r 0`. Then the differences of known.py (docs/PMARS.md) are shown, and what `cwtune-adapt`
 makes of texts is compared with the listings of the originals. A fight that differs is printed as
-two warriors, cut as short as they still differ, and two commands. The exit status is 1 if something
-else differs, or if a known difference no longer shows.
+two commands and two warriors, without the instructions that the difference does not need. The exit
+status is 1 if something else differs, or if a known difference no longer shows.
 
 PMARS is a server build of pMARS 0.9.2; `make pmars` builds one, and prints its path.
 """

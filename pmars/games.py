@@ -82,10 +82,10 @@ def fights_of(rules, seed, rounds):
     return list(series(seed, rounds, rules.core, rules.distance))
 
 
-def run(words, **more):
+def run(words):
     """Runs a command, and returns what it prints. It has to succeed."""
     done = subprocess.run(words, stdin=subprocess.DEVNULL, capture_output=True, encoding="latin-1",
-                          timeout=LONGEST, **more)
+                          timeout=LONGEST)
     if done.returncode != 0:
         raise Fault(f"{' '.join(words)} ended with status {done.returncode}: {done.stderr}", 3)
     return done.stdout

@@ -107,7 +107,7 @@ def build_of(built, digest, proof):
     return Build(built, text)
 
 
-def kit():
+def kit_folder():
     """Returns the folder of the kit whose `rt` is on the PATH."""
     rt = shutil.which("rt")
     if not rt:
@@ -154,7 +154,7 @@ def stage(tree, build, zsh=ZSH):
     shutil.copytree(ROOT / "docs", tree / DOC / "docs")
     for name in ["README.md", "CHANGELOG.md", "LICENSE"]:
         shutil.copy(ROOT / name, tree / DOC / name)
-    (tree / DOC / "LICENSES-of-libraries").write_text(licences(kit() / "rattle"))
+    (tree / DOC / "LICENSES-of-libraries").write_text(licences(kit_folder() / "rattle"))
     (tree / DOC / "PROVED").write_text(build.proof)
     return version
 
@@ -220,8 +220,8 @@ def debian(folder, build):
 def install(prefix, build):
     """Puts the release below a folder such as /usr/local, in place of an older one.
 
-    Returns the path of the program in a list.
-    The list of its files comes first, so that `uninstall` can remove what a kill has left.
+    The list of its files comes first, so that `uninstall` can remove what a kill has left. Returns
+    the path of the program in a list.
     """
     with tempfile.TemporaryDirectory() as name:
         tree = pathlib.Path(name, "tree")

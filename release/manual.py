@@ -58,8 +58,8 @@ FILES = [
 ]
 FAULTS = ("A refusal is a line `refused: ..` on standard error with the names of the fault, and "
           "the line or the record at fault. At a terminal, or with --explain, more lines say what "
-          "is wrong and what to write. If a certificate was found and cannot be written, "
-          "`found: ..` names the best setting.")
+          "is wrong and what to write. If the certificate cannot be written, `found: ..` names the "
+          "best setting.")
 
 
 EXAMPLES = [

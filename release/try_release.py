@@ -80,6 +80,7 @@ def faults_of_use(prefix, zsh=dist.ZSH):
 
 
 def trial_of_tar(work, build):
+    """Packs twice, checks the checksums, and uses what is unpacked."""
     tar, checksum = dist.pack(work, build)
     if checksum.read_text() != f"{dist.sha256(tar)}  {tar.name}\n":
         yield "its checksum is another one"
@@ -97,6 +98,7 @@ def trial_of_tar(work, build):
 
 
 def trial_of_install(work, build):
+    """Installs over an older release, uses what is installed, and removes it."""
     prefix = work / "prefix"
     (prefix / "bin").mkdir(parents=True)
     (prefix / "bin/other").write_text("of somebody else\n")
@@ -158,6 +160,7 @@ def trial_of_builds(work, build):
 
 
 def trial_of_package(work, build):
+    """Unpacks a Debian package of a program that was built before, and uses it."""
     [package] = dist.debian(work, dist.build_of(build.path, dist.sha256(build.path), None))
     line = dist.run("dpkg-deb", "--field", str(package), "Description").splitlines()[-1]
     yield from compare("what is proved", " Not proved here: the program was built before.", line)[1]
