@@ -40,8 +40,8 @@ const LETTERS_BEHIND: &str =
 ///   is not a certificate. A regular file is replaced whole or not at all, and none is made if
 ///   there is no certificate. Beside a regular file CERT the file CERT.inputs says which inputs the
 ///   certificate is for, as `docs/FORMATS.md` describes it; a CERT.inputs with another text is not
-///   overwritten either. If the certificate was found and cannot be written, a line `found: ..`
-///   names the best setting.
+///   overwritten either. If a setting was found and the certificate cannot be written, a line
+///   `found: ..` names the setting.
 /// - `check`: checks the rules, reads the template, the schedule, the certificate and the
 ///   opponents, and writes the line of the verdict, on all rows or on a share. With `--keep` or
 ///   `--floor` it writes the lines of the judgement.

@@ -1,6 +1,7 @@
 -- Whether the words of a command line ask for help, or for the version.
 use Rattle.std.specs.Prelude.{if◌then◌else◌, ℕ, ◌||◌, ◌&&◌, Bool, true, false, List, [], ◌∷◌, codes, IsTrue}
 use Rattle.std.specs.Str.{bytes_eq}
+use Rattle.command_words.specs.CommandLine.{is_command}
 
 -- The first word before `--` that is a command, else the empty word.
 abbrev pub command_in : List (List ℕ) → List ℕ
