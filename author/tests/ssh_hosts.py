@@ -17,7 +17,7 @@ SEPARATION = pathlib.Path("/run/sshd")
 CONFIGS = pathlib.Path(__file__).with_name("configs")
 
 
-def config(name, **values):
+def config(name, /, **values):
     return (CONFIGS / name).read_text().format(**values)
 
 
