@@ -1,7 +1,6 @@
 pub mod Below
 pub mod Keys
 pub mod Packing
-pub mod Words
 pub mod ClassParts
 pub mod Canonical
 pub mod Stores

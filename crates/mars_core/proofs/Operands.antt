@@ -4,7 +4,7 @@ use Rattle.std.specs.Prelude.{slice_set}
 use Rattle.rc_instr.specs.declared.instruction.Instruction.{Instruction}
 use Rattle.mars_core.specs.Numbers.{field_of}
 use Rattle.mars_core.specs.Core.{cell_at, IsCore}
-use Rattle.mars_core.specs.Numbers.{Field}
+use Rattle.mars_core.specs.declared.number.Field.{Field}
 
 -- the number that was written is read again
 pub cell_set : (m n : ℕ) (core core' : List Instruction) (at : ℕ) (f : Field) (i : Instruction) → core' ≡ slice_set core at i → IsCore m core →

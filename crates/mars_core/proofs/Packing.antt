@@ -10,7 +10,7 @@ use Rattle.rc_instr.specs.declared.instruction.Modifier.TheVariants.{A, B, AB, B
 use Rattle.rc_instr.specs.declared.instruction.Mode.{Mode}
 use Rattle.rc_instr.specs.declared.instruction.Mode.TheVariants.{Immediate, Direct, AIndirect, BIndirect, APredecrement, BPredecrement, APostincrement, BPostincrement}
 use Rattle.mars_core.specs.Numbers.{with_field}
-use Rattle.mars_core.specs.Numbers.{ANumber, BNumber}
+use Rattle.mars_core.specs.declared.number.Field.TheVariants.{ANumber, BNumber}
 use Rattle.mars_core.specs.Classes.{key_of, canonical_modifier, canonical, class_of, modes_class_of, IsClassOf}
 use Rattle.mars_core.specs.Codes.{opcode_of, modifier_of, mode_of}
 use Rattle.mars_core.specs.Packed.{IsClassed, class_in, packed, unpacked, mark_of, marked, same_parts}

@@ -4,7 +4,7 @@ use Rattle.rc_instr.specs.Instruction.{empty_cell, same_instruction}
 use Rattle.rc_instr.specs.Warrior.{IsBelow}
 use Rattle.rc_instr.specs.declared.instruction.Instruction.{Instruction}
 use Rattle.mars_core.specs.Numbers.{field_of, with_field}
-use Rattle.mars_core.specs.Numbers.{Field}
+use Rattle.mars_core.specs.declared.number.Field.{Field}
 
 -- The instruction at an address.
 unfoldable pub cell_at : List Instruction → ℕ → Instruction

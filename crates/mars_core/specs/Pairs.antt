@@ -7,7 +7,8 @@ use Rattle.rc_instr.specs.declared.instruction.Opcode.TheVariants.{Mov, Add, Sub
 use Rattle.rc_instr.specs.declared.instruction.Modifier.{Modifier}
 use Rattle.rc_instr.specs.declared.instruction.Modifier.TheVariants.{A, B, AB, BA, F, X, I}
 use Rattle.mars_core.specs.Numbers.{sum_of, difference_of, product_of, field_of, with_field}
-use Rattle.mars_core.specs.Numbers.{Field, ANumber, BNumber}
+use Rattle.mars_core.specs.declared.number.Field.{Field}
+use Rattle.mars_core.specs.declared.number.Field.TheVariants.{ANumber, BNumber}
 
 -- Each pair leads from a number of the A-instruction to a number of the B-instruction. I has the
 -- pairs of F, except that MOV, SEQ and SNE take whole instructions with it.

@@ -2,15 +2,13 @@
 ghost use Rattle.std.specs.Prelude.{◌≡◌, ◌<◌, ◌/◌, ◌%◌, true};
 ghost use Rattle.rc_instr.specs.Instruction.{same_instruction};
 ghost use Rattle.rc_instr.specs.declared.instruction.Instruction.{Instruction};
-ghost use Rattle.mars_core.specs.Core.{IsCellOf};
-ghost use Rattle.mars_core.specs.Numbers.{sum_of, difference_of, with_field};
+ghost use Rattle.mars_core.specs.Numbers.{field_of, with_field};
 ghost use Rattle.mars_core.specs.Classes.{IsClassOf};
 ghost use Rattle.mars_core.specs.Codes.{code_count, opcode_of, modifier_of};
-ghost use Rattle.mars_core.specs.Numbers.{ANumber, BNumber};
 
 use crate::classes::FIRST_OF_MODES;
 use crate::codes::{mode_code, modifier_code, opcode_code};
-use crate::number::{difference, sum};
+use crate::number::Field;
 use rc_instr::Instruction;
 
 /// A cell in the form in which a store keeps it.
@@ -43,33 +41,21 @@ pub trait Cell: Copy {
     fn b_number(self) -> u32
         ensures { result ≡ (held self).b_number };
 
-    fn with_a_number(self, number: u32) -> Self
+    /// Returns one of the two numbers.
+    #[inline]
+    fn number(self, field: Field) -> u32
+        ensures { result ≡ field_of field (held self) }
+    {
+        match field {
+            Field::ANumber => self.a_number(),
+            Field::BNumber => self.b_number(),
+        }
+    }
+
+    /// Returns the cell with `number` in place of one of its numbers.
+    fn with_number(self, field: Field, number: u32) -> Self
         requires { number < 65536 }
-        ensures { held result ≡ with_field ANumber number (held self) };
-
-    fn with_b_number(self, number: u32) -> Self
-        requires { number < 65536 }
-        ensures { held result ≡ with_field BNumber number (held self) };
-
-    /// Returns the cell with its A-number lowered by 1, in a core of `size` cells.
-    fn with_a_lowered(self, size: u32) -> Self
-        requires { IsCellOf size (held self) }
-        ensures { held result ≡ with_field ANumber (difference_of size (held self).a_number 1) (held self) };
-
-    /// Returns the cell with its B-number lowered by 1, in a core of `size` cells.
-    fn with_b_lowered(self, size: u32) -> Self
-        requires { IsCellOf size (held self) }
-        ensures { held result ≡ with_field BNumber (difference_of size (held self).b_number 1) (held self) };
-
-    /// Returns the cell with its A-number raised by 1, in a core of `size` cells.
-    fn with_a_raised(self, size: u32) -> Self
-        requires { IsCellOf size (held self) }
-        ensures { held result ≡ with_field ANumber (sum_of size (held self).a_number 1) (held self) };
-
-    /// Returns the cell with its B-number raised by 1, in a core of `size` cells.
-    fn with_b_raised(self, size: u32) -> Self
-        requires { IsCellOf size (held self) }
-        ensures { held result ≡ with_field BNumber (sum_of size (held self).b_number 1) (held self) };
+        ensures { held result ≡ with_field field number (held self) };
 
     /// Checks whether both cells hold the same instruction.
     fn is_same(self, other: Self) -> bool
@@ -117,39 +103,12 @@ impl Cell for Instruction {
     }
 
     #[inline]
-    fn with_a_number(self, number: u32) -> Instruction {
-        Instruction {
-            a_number: number as u16,
-            ..self
+    fn with_number(mut self, field: Field, number: u32) -> Instruction {
+        match field {
+            Field::ANumber => self.a_number = number as u16,
+            Field::BNumber => self.b_number = number as u16,
         }
-    }
-
-    #[inline]
-    fn with_b_number(self, number: u32) -> Instruction {
-        Instruction {
-            b_number: number as u16,
-            ..self
-        }
-    }
-
-    #[inline]
-    fn with_a_lowered(self, size: u32) -> Instruction {
-        self.with_a_number(difference(size, self.a_number(), 1))
-    }
-
-    #[inline]
-    fn with_b_lowered(self, size: u32) -> Instruction {
-        self.with_b_number(difference(size, self.b_number(), 1))
-    }
-
-    #[inline]
-    fn with_a_raised(self, size: u32) -> Instruction {
-        self.with_a_number(sum(size, self.a_number(), 1))
-    }
-
-    #[inline]
-    fn with_b_raised(self, size: u32) -> Instruction {
-        self.with_b_number(sum(size, self.b_number(), 1))
+        self
     }
 
     #[inline]

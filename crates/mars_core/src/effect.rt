@@ -1,9 +1,8 @@
 //! The opcodes: what each writes, and what it queues.
 ghost use Rattle.std.specs.Prelude.{◌≡◌, ◌<◌, ◌≤◌, ◌+◌, if◌then◌else◌};
 ghost use Rattle.rc_instr.specs.Warrior.{IsBelow};
-ghost use Rattle.rc_instr.specs.declared.instruction.Opcode.{Opcode};
 ghost use Rattle.mars_core.specs.Core.{updated_at, IsCore};
-ghost use Rattle.mars_core.specs.Pairs.{computed, computed_in_pairs, counted_down, has_zero_divisor};
+ghost use Rattle.mars_core.specs.Pairs.{computed};
 ghost use Rattle.mars_core.specs.Seen.{seen_operand};
 ghost use Rattle.mars_core.specs.Executed.{IsInside, IsActed};
 ghost use Rattle.mars_core.specs.declared.effect.Queued.{Queued};
@@ -13,8 +12,7 @@ use crate::cells::{Store, read, write};
 use crate::effect::Queued::{Jump, Next, Nothing, Skip, Split};
 use crate::operand::Located;
 use crate::pairs::{
-    Adding, Dividing, Moving, Multiplying, Operation, Remaining, Subtracting, all_equal, all_less,
-    all_tested_are, count_down, divides_by_zero, write_pairs,
+    all_equal, all_less, all_tested_are, count_down, divides_by_zero, write_pairs,
 };
 use rc_instr::{Modifier, Opcode};
 
@@ -54,18 +52,21 @@ pub(crate) fn act<C: Store>(
     let (x, y) = (a.copy, b.copy);
     match opcode {
         Opcode::Dat => Nothing,
-        Opcode::Mov => move_numbers(cells, size, modifier, x, b),
-        Opcode::Add => apply::<C, Adding>(cells, size, modifier, x, b),
-        Opcode::Sub => apply::<C, Subtracting>(cells, size, modifier, x, b),
-        Opcode::Mul => apply::<C, Multiplying>(cells, size, modifier, x, b),
-        Opcode::Div => divide::<C, Dividing>(cells, size, modifier, x, b),
-        Opcode::Mod => divide::<C, Remaining>(cells, size, modifier, x, b),
+        Opcode::Mov | Opcode::Add | Opcode::Sub | Opcode::Mul => {
+            compute(cells, size, opcode, modifier, x, b);
+            Next
+        }
+        Opcode::Div | Opcode::Mod => {
+            compute(cells, size, opcode, modifier, x, b);
+            choose(divides_by_zero(modifier, x), Nothing, Next)
+        }
         Opcode::Jmp => Jump,
         Opcode::Jmz => choose(all_tested_are(modifier, 0, y), Jump, Next),
         Opcode::Jmn => choose(all_tested_are(modifier, 0, y), Next, Jump),
         // `y` was copied before: a number that is 1 in it is 0 in the cell now.
         Opcode::Djn => {
-            apply_count_down(cells, size, modifier, b.address);
+            let target = read(cells, size, b.address);
+            write(cells, size, b.address, count_down(modifier, size, target));
             choose(all_tested_are(modifier, 1, y), Next, Jump)
         }
         Opcode::Seq => choose(all_equal(modifier, x, y), Skip, Next),
@@ -83,84 +84,30 @@ fn choose(test: bool, yes: Queued, no: Queued) -> Queued
     if test { yes } else { no }
 }
 
-// Runs MOV: writes the A-values into the cell of the B-operand, with I the whole instruction.
+// Writes what MOV, ADD, SUB, MUL, DIV or MOD computes into the cell of the B-operand.
 #[tactic(auto, using(crate::proofs::Written::computed_pairs), unfolding(crate::specs::Pairs::computed))]
 #[inline(always)]
-fn move_numbers<C: Store>(
+fn compute<C: Store>(
     cells: &mut C,
     size: u32,
+    opcode: Opcode,
     modifier: Modifier,
     a: C::Kept,
     b: Located<C::Kept>,
-) -> Queued
+)
     requires core { IsCore size (C.items cells.old) }
     requires a { IsBelow size (C.Kept.held a) }
     requires b { IsInside size (seen_operand C.Kept.held b) }
-    ensures queued { result ≡ Queued.Next }
-    ensures items { C.items cells.new ≡ updated_at (C.items cells.old) b.address (computed Opcode.Mov modifier size (C.Kept.held a) (C.Kept.held b.copy)) }
+    ensures items { C.items cells.new ≡ updated_at (C.items cells.old) b.address (computed opcode modifier size (C.Kept.held a) (C.Kept.held b.copy)) }
     ensures core { IsCore size (C.items cells.new) }
     ensures marks { C.marks cells.new ≤ C.marks cells.old + 1 }
 {
-    if modifier == Modifier::I {
-        write(cells, size, b.address, a);
-        return Next;
-    }
-    apply::<C, Moving>(cells, size, modifier, a, b)
-}
-
-// Writes the values of an operation into the cell of the B-operand. The task goes on.
-#[inline(always)]
-fn apply<C: Store, O: Operation>(
-    cells: &mut C,
-    size: u32,
-    modifier: Modifier,
-    a: C::Kept,
-    b: Located<C::Kept>,
-) -> Queued
-    requires core { IsCore size (C.items cells.old) }
-    requires a { IsBelow size (C.Kept.held a) }
-    requires b { IsInside size (seen_operand C.Kept.held b) }
-    ensures queued { result ≡ Queued.Next }
-    ensures items { C.items cells.new ≡ updated_at (C.items cells.old) b.address (computed_in_pairs O.opcode modifier size (C.Kept.held a) (C.Kept.held b.copy)) }
-    ensures core { IsCore size (C.items cells.new) }
-    ensures marks { C.marks cells.new ≤ C.marks cells.old + 1 }
-{
-    let target = read(cells, size, b.address);
-    let changed = write_pairs::<O, C::Kept>(modifier, size, a, b.copy, target);
+    let changed = match (opcode, modifier) {
+        (Opcode::Mov, Modifier::I) => a,
+        _ => {
+            let target = read(cells, size, b.address);
+            write_pairs(opcode, modifier, size, a, b.copy, target)
+        }
+    };
     write(cells, size, b.address, changed);
-    Next
-}
-
-// Runs DIV or MOD: writes its values, and ends the task if some A-value is 0.
-#[inline(always)]
-fn divide<C: Store, O: Operation>(
-    cells: &mut C,
-    size: u32,
-    modifier: Modifier,
-    a: C::Kept,
-    b: Located<C::Kept>,
-) -> Queued
-    requires core { IsCore size (C.items cells.old) }
-    requires a { IsBelow size (C.Kept.held a) }
-    requires b { IsInside size (seen_operand C.Kept.held b) }
-    ensures queued { result ≡ (if has_zero_divisor modifier (C.Kept.held a) then Queued.Nothing else Queued.Next) }
-    ensures items { C.items cells.new ≡ updated_at (C.items cells.old) b.address (computed_in_pairs O.opcode modifier size (C.Kept.held a) (C.Kept.held b.copy)) }
-    ensures core { IsCore size (C.items cells.new) }
-    ensures marks { C.marks cells.new ≤ C.marks cells.old + 1 }
-{
-    apply::<C, O>(cells, size, modifier, a, b);
-    choose(divides_by_zero(modifier, a), Nothing, Next)
-}
-
-// Lowers the numbers that DJN tests, in the cell at `at`.
-#[inline(always)]
-fn apply_count_down<C: Store>(cells: &mut C, size: u32, modifier: Modifier, at: u32)
-    requires core { IsCore size (C.items cells.old) }
-    requires at { at < size }
-    ensures items { C.items cells.new ≡ updated_at (C.items cells.old) at (counted_down modifier size) }
-    ensures core { IsCore size (C.items cells.new) }
-    ensures marks { C.marks cells.new ≤ C.marks cells.old + 1 }
-{
-    let target = read(cells, size, at);
-    write(cells, size, at, count_down(modifier, size, target));
 }

@@ -8,7 +8,7 @@ ghost use Rattle.mars_core.specs.Executed.{IsEvaluated};
 
 use crate::cell::Cell;
 use crate::cells::{Store, read, write};
-use crate::number::{FieldA, FieldB, Number, sum};
+use crate::number::{Field, lowered, raised, sum};
 use rc_instr::Mode;
 
 // An address, and a copy of the cell there: where an operand points, or what it goes through.
@@ -51,24 +51,24 @@ pub(crate) fn evaluate<C: Store>(
         }
         Mode::APredecrement => {
             let way = sum(size, pc, n);
-            let lowered = lower::<C, FieldA>(cells, size, way);
-            at(cells, size, sum(size, way, lowered))
+            let number = lower(cells, size, Field::ANumber, way);
+            at(cells, size, sum(size, way, number))
         }
         Mode::BPredecrement => {
             let way = sum(size, pc, n);
-            let lowered = lower::<C, FieldB>(cells, size, way);
-            at(cells, size, sum(size, way, lowered))
+            let number = lower(cells, size, Field::BNumber, way);
+            at(cells, size, sum(size, way, number))
         }
         Mode::APostincrement => {
             let way = at(cells, size, sum(size, pc, n));
             let evaluated = at(cells, size, sum(size, way.address, way.copy.a_number()));
-            raise::<C, FieldA>(cells, size, way);
+            raise(cells, size, Field::ANumber, way);
             evaluated
         }
         Mode::BPostincrement => {
             let way = at(cells, size, sum(size, pc, n));
             let evaluated = at(cells, size, sum(size, way.address, way.copy.b_number()));
-            raise::<C, FieldB>(cells, size, way);
+            raise(cells, size, Field::BNumber, way);
             evaluated
         }
     }
@@ -77,35 +77,34 @@ pub(crate) fn evaluate<C: Store>(
 // Lowers one number of the cell at `at` by 1. Returns the lowered number.
 #[tactic(auto, using(crate::proofs::Operands::cell_set), unfolding(crate::specs::Core::changed_at))]
 #[inline]
-fn lower<C: Store, N: Number>(cells: &mut C, size: u32, at: u32) -> u32
+fn lower<C: Store>(cells: &mut C, size: u32, field: Field, at: u32) -> u32
     requires core { IsCore size (C.items cells.old) }
     requires at { at < size }
-    ensures items { C.items cells.new ≡ changed_at (C.items cells.old) at N.field (λ x. difference_of size x 1) }
-    ensures number { result ≡ field_of N.field (cell_at (C.items cells.new) at) }
+    ensures items { C.items cells.new ≡ changed_at (C.items cells.old) at field (λ x. difference_of size x 1) }
+    ensures number { result ≡ field_of field (cell_at (C.items cells.new) at) }
     ensures below { result < size }
     ensures core { IsCore size (C.items cells.new) }
     ensures marks { C.marks cells.new ≤ C.marks cells.old + 1 }
 {
     let cell = read(cells, size, at);
-    let changed = N::lower(size, cell);
+    let changed = lowered(size, field, cell);
     write(cells, size, at, changed);
-    N::of(size, changed)
+    changed.number(field)
 }
 
 // Raises one number of the cell at `way.address` by 1. `way.copy` is that cell.
 #[tactic(auto, unfolding(crate::specs::Core::changed_at))]
 #[inline]
-fn raise<C: Store, N: Number>(cells: &mut C, size: u32, way: Located<C::Kept>)
+fn raise<C: Store>(cells: &mut C, size: u32, field: Field, way: Located<C::Kept>)
     requires core { IsCore size (C.items cells.old) }
     requires address { way.address < size }
     requires copy { C.Kept.held way.copy ≡ cell_at (C.items cells.old) way.address }
     requires below { IsBelow size (C.Kept.held way.copy) }
-    ensures items { C.items cells.new ≡ changed_at (C.items cells.old) way.address N.field (λ x. sum_of size x 1) }
+    ensures items { C.items cells.new ≡ changed_at (C.items cells.old) way.address field (λ x. sum_of size x 1) }
     ensures core { IsCore size (C.items cells.new) }
     ensures marks { C.marks cells.new ≤ C.marks cells.old + 1 }
 {
-    let cell = N::raise(size, way.copy);
-    write(cells, size, way.address, cell);
+    write(cells, size, way.address, raised(size, field, way.copy));
 }
 
 // Returns an address, and a copy of the cell there.

@@ -11,6 +11,7 @@ use crate::classes::{CLASS_COUNT, class_of_key};
 use crate::codes::{
     CODE_COUNT, mode_code, mode_from, modifier_code, modifier_from, opcode_code, opcode_from,
 };
+use crate::number::Field;
 use rc_instr::{Instruction, Modifier, Opcode};
 
 // What the parts of a word are multiplied by: the mark, the A-number, the class and the B-number.
@@ -150,76 +151,16 @@ impl Cell for PackedCell {
         (self.word / B_NUMBER) as u32
     }
 
-    #[tactic(auto, using(crate::proofs::Packing::classed_a))]
     #[inline]
-    fn with_a_number(self, number: u32) -> PackedCell {
-        let low = self.word % A_NUMBER;
-        let high = self.word / CLASS;
-        PackedCell {
-            word: low + A_NUMBER * u64::from(number) + CLASS * high,
-        }
-    }
-
-    #[tactic(auto, using(crate::proofs::Packing::classed_b))]
-    #[inline]
-    fn with_b_number(self, number: u32) -> PackedCell {
-        let low = self.word % B_NUMBER;
-        PackedCell {
-            word: low + B_NUMBER * u64::from(number),
-        }
-    }
-
-    // One addition to the word, or one subtraction, changes the number and nothing else: no carry
-    // leaves its bits.
-    #[inline]
-    fn with_a_lowered(self, size: u32) -> PackedCell {
-        if self.word / A_NUMBER % 65536 == 0 {
-            return PackedCell {
-                word: self.word + A_NUMBER * u64::from(size - 1),
-            };
-        }
-        PackedCell {
-            word: self.word - A_NUMBER,
-        }
-    }
-
-    #[inline]
-    fn with_b_lowered(self, size: u32) -> PackedCell {
-        if self.word / B_NUMBER == 0 {
-            return PackedCell {
-                word: self.word + B_NUMBER * u64::from(size - 1),
-            };
-        }
-        PackedCell {
-            word: self.word - B_NUMBER,
-        }
-    }
-
-    #[tactic(auto, unfolding(crate::specs::Packed::unpacked))]
-    #[inline]
-    fn with_a_raised(self, size: u32) -> PackedCell {
-        let last = u64::from(size - 1);
-        if self.word / A_NUMBER % 65536 == last {
-            return PackedCell {
-                word: self.word - A_NUMBER * last,
-            };
-        }
-        PackedCell {
-            word: self.word + A_NUMBER,
-        }
-    }
-
-    #[tactic(auto, unfolding(crate::specs::Packed::unpacked))]
-    #[inline]
-    fn with_b_raised(self, size: u32) -> PackedCell {
-        let last = u64::from(size - 1);
-        if self.word / B_NUMBER == last {
-            return PackedCell {
-                word: self.word - B_NUMBER * last,
-            };
-        }
-        PackedCell {
-            word: self.word + B_NUMBER,
+    fn with_number(self, field: Field, number: u32) -> PackedCell {
+        let number = u64::from(number);
+        match field {
+            Field::ANumber => PackedCell {
+                word: self.word % A_NUMBER + A_NUMBER * number + CLASS * (self.word / CLASS),
+            },
+            Field::BNumber => PackedCell {
+                word: self.word % B_NUMBER + B_NUMBER * number,
+            },
         }
     }
 

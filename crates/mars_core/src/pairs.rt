@@ -2,103 +2,66 @@
 //! skips.
 ghost use Rattle.std.specs.Prelude.{◌≡◌, ◌<◌, ◌≤◌, IfSome};
 ghost use Rattle.rc_instr.specs.Warrior.{IsBelow};
-ghost use Rattle.rc_instr.specs.declared.instruction.Opcode.{Opcode};
 ghost use Rattle.mars_core.specs.Core.{IsCellOf};
+ghost use Rattle.mars_core.specs.Numbers.{field_of};
 ghost use Rattle.mars_core.specs.Pairs.{written_value, put, computed_in_pairs, counted_down, has_zero_divisor, all_are, are_equal, are_less};
 
 use crate::cell::Cell;
-use crate::number::{FieldA, FieldB, Number, difference, product, sum};
-use rc_instr::Modifier;
+use crate::number::Field::{self, ANumber, BNumber};
+use crate::number::{difference, lowered, product, sum};
+use rc_instr::{Modifier, Opcode};
 
-// What an opcode computes for one pair from its A-value and its B-value. Each opcode is a type, so
-// that it is known at compile time.
-pub(crate) trait Operation {
-    ghost opcode: { Opcode };
-
-    // `None` if it writes nothing, as DIV and MOD do with a zero divisor.
-    fn value(size: u32, a: u32, b: u32) -> Option<u32>
-        requires size { size ≤ 65535 }
-        requires a { a < size }
-        requires b { b < size }
-        ensures value { result ≡ written_value opcode size a b }
-        ensures below { IfSome result (λ n. n < size) };
-}
-
-pub(crate) struct Moving;
-
-impl Operation for Moving {
-    ghost opcode = { Opcode.Mov };
-
-    #[tactic(auto, unfolding(crate::specs::Pairs::written_value))]
-    #[inline]
-    fn value(_size: u32, a: u32, _b: u32) -> Option<u32> {
-        Some(a)
+// Returns what an opcode writes for one pair of an A-value and a B-value. `None` if it writes
+// nothing, as DIV and MOD do with a zero divisor.
+#[tactic(auto, unfolding(crate::specs::Pairs::written_value))]
+#[inline]
+fn written_value(opcode: Opcode, size: u32, a: u32, b: u32) -> Option<u32>
+    requires size { size ≤ 65535 }
+    requires a { a < size }
+    requires b { b < size }
+    ensures value { result ≡ written_value opcode size a b }
+    ensures below { IfSome result (λ n. n < size) }
+{
+    match opcode {
+        Opcode::Mov => Some(a),
+        Opcode::Add => Some(sum(size, b, a)),
+        Opcode::Sub => Some(difference(size, b, a)),
+        Opcode::Mul => Some(product(size, b, a)),
+        Opcode::Div => b.checked_div(a),
+        Opcode::Mod => b.checked_rem(a),
+        _ => None,
     }
 }
 
-pub(crate) struct Adding;
-
-impl Operation for Adding {
-    ghost opcode = { Opcode.Add };
-
-    #[tactic(auto, unfolding(crate::specs::Pairs::written_value))]
-    #[inline]
-    fn value(size: u32, a: u32, b: u32) -> Option<u32> {
-        Some(sum(size, b, a))
+// Returns the target after the value of one pair is written to the number that the pair leads to.
+#[tactic(auto, using(crate::proofs::Fields::fields))]
+#[inline]
+fn write_pair<K: Cell>(
+    opcode: Opcode,
+    size: u32,
+    from: Field,
+    to: Field,
+    a: K,
+    b: K,
+    target: K,
+) -> K
+    requires size { size ≤ 65535 }
+    requires a { IsBelow size (K.held a) }
+    requires b { IsBelow size (K.held b) }
+    requires target { IsBelow size (K.held target) }
+    ensures value { K.held result ≡ put to (written_value opcode size (field_of from (K.held a)) (field_of to (K.held b))) (K.held target) }
+    ensures below { IsBelow size (K.held result) }
+{
+    match written_value(opcode, size, a.number(from), b.number(to)) {
+        Some(number) => target.with_number(to, number),
+        None => target,
     }
 }
 
-pub(crate) struct Subtracting;
-
-impl Operation for Subtracting {
-    ghost opcode = { Opcode.Sub };
-
-    #[tactic(auto, unfolding(crate::specs::Pairs::written_value))]
-    #[inline]
-    fn value(size: u32, a: u32, b: u32) -> Option<u32> {
-        Some(difference(size, b, a))
-    }
-}
-
-pub(crate) struct Multiplying;
-
-impl Operation for Multiplying {
-    ghost opcode = { Opcode.Mul };
-
-    #[tactic(auto, unfolding(crate::specs::Pairs::written_value))]
-    #[inline]
-    fn value(size: u32, a: u32, b: u32) -> Option<u32> {
-        Some(product(size, b, a))
-    }
-}
-
-pub(crate) struct Dividing;
-
-impl Operation for Dividing {
-    ghost opcode = { Opcode.Div };
-
-    #[tactic(auto, unfolding(crate::specs::Pairs::written_value))]
-    #[inline]
-    fn value(_size: u32, a: u32, b: u32) -> Option<u32> {
-        b.checked_div(a)
-    }
-}
-
-pub(crate) struct Remaining;
-
-impl Operation for Remaining {
-    ghost opcode = { Opcode.Mod };
-
-    #[tactic(auto, unfolding(crate::specs::Pairs::written_value))]
-    #[inline]
-    fn value(_size: u32, a: u32, b: u32) -> Option<u32> {
-        b.checked_rem(a)
-    }
-}
-
-// Returns the target after the value of each pair is written to the number that the pair leads to.
+// Returns the target after the value of each pair is written.
 #[inline(always)]
-pub(crate) fn write_pairs<O: Operation, K: Cell>(
+pub(crate) fn write_pairs<K: Cell>(
+    opcode: Opcode,
     modifier: Modifier,
     size: u32,
     a: K,
@@ -109,47 +72,22 @@ pub(crate) fn write_pairs<O: Operation, K: Cell>(
     requires a { IsBelow size (K.held a) }
     requires b { IsBelow size (K.held b) }
     requires target { IsBelow size (K.held target) }
-    ensures value { K.held result ≡ computed_in_pairs O.opcode modifier size (K.held a) (K.held b) (K.held target) }
+    ensures value { K.held result ≡ computed_in_pairs opcode modifier size (K.held a) (K.held b) (K.held target) }
     ensures below { IsBelow size (K.held result) }
 {
     match modifier {
-        Modifier::A => {
-            put_number::<FieldA, K>(size, O::value(size, a.a_number(), b.a_number()), target)
-        }
-        Modifier::B => {
-            put_number::<FieldB, K>(size, O::value(size, a.b_number(), b.b_number()), target)
-        }
-        Modifier::AB => {
-            put_number::<FieldB, K>(size, O::value(size, a.a_number(), b.b_number()), target)
-        }
-        Modifier::BA => {
-            put_number::<FieldA, K>(size, O::value(size, a.b_number(), b.a_number()), target)
-        }
+        Modifier::A => write_pair(opcode, size, ANumber, ANumber, a, b, target),
+        Modifier::B => write_pair(opcode, size, BNumber, BNumber, a, b, target),
+        Modifier::AB => write_pair(opcode, size, ANumber, BNumber, a, b, target),
+        Modifier::BA => write_pair(opcode, size, BNumber, ANumber, a, b, target),
         Modifier::F | Modifier::I => {
-            let first = O::value(size, a.a_number(), b.a_number());
-            let half = put_number::<FieldA, K>(size, first, target);
-            put_number::<FieldB, K>(size, O::value(size, a.b_number(), b.b_number()), half)
+            let half = write_pair(opcode, size, ANumber, ANumber, a, b, target);
+            write_pair(opcode, size, BNumber, BNumber, a, b, half)
         }
         Modifier::X => {
-            let first = O::value(size, a.a_number(), b.b_number());
-            let half = put_number::<FieldB, K>(size, first, target);
-            put_number::<FieldA, K>(size, O::value(size, a.b_number(), b.a_number()), half)
+            let half = write_pair(opcode, size, ANumber, BNumber, a, b, target);
+            write_pair(opcode, size, BNumber, ANumber, a, b, half)
         }
-    }
-}
-
-// Replaces the A-number or the B-number of a cell, as `N` says; `None` leaves it.
-#[inline]
-fn put_number<N: Number, K: Cell>(size: u32, number: Option<u32>, cell: K) -> K
-    requires size { size ≤ 65535 }
-    requires number { IfSome number (λ n. n < size) }
-    requires cell { IsBelow size (K.held cell) }
-    ensures value { K.held result ≡ put N.field number (K.held cell) }
-    ensures below { IsBelow size (K.held result) }
-{
-    match number {
-        Some(number) => N::put(size, cell, number),
-        None => cell,
     }
 }
 
@@ -162,11 +100,10 @@ pub(crate) fn count_down<K: Cell>(modifier: Modifier, size: u32, target: K) -> K
     ensures below { IsBelow size (K.held result) }
 {
     match modifier {
-        Modifier::A | Modifier::BA => FieldA::lower(size, target),
-        Modifier::B | Modifier::AB => FieldB::lower(size, target),
+        Modifier::A | Modifier::BA => lowered(size, ANumber, target),
+        Modifier::B | Modifier::AB => lowered(size, BNumber, target),
         Modifier::F | Modifier::X | Modifier::I => {
-            let changed = FieldA::lower(size, target);
-            FieldB::lower(size, changed)
+            lowered(size, BNumber, lowered(size, ANumber, target))
         }
     }
 }

@@ -3,4 +3,4 @@ use Rattle.mars_core.proofs.operand.lower.Goals as goal
 
 pub returns-clause-number : goal.returns-clause-number
 returns-clause-number g c =
-    cell_set _ _ (g.C.Store.items c.args.cells.now) _ c.args.at g.N.Number.field _ c.write.ensures.items c.requires.core c.requires.at c.of.ensures.value
+    cell_set _ _ (g.C.Store.items c.args.cells.now) _ c.args.at c.args.field _ c.write.ensures.items c.requires.core c.requires.at c.number.ensures
