@@ -6,7 +6,6 @@ pub mod Canonical
 pub mod Stores
 pub mod Written
 pub mod Sums
-pub mod Fields
 pub mod Operands
 pub mod Slots
 pub mod Queues

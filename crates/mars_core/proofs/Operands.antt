@@ -2,8 +2,7 @@
 use Rattle.std.proofs.Common.{◌≡◌, ℕ, ◌<◌, List, length, arith, get_or-set_same}
 use Rattle.std.specs.Prelude.{slice_set}
 use Rattle.rc_instr.specs.declared.instruction.Instruction.{Instruction}
-use Rattle.mars_core.specs.Numbers.{field_of}
-use Rattle.mars_core.specs.Core.{cell_at, IsCore}
+use Rattle.mars_core.specs.Core.{cell_at, IsCore, field_of}
 use Rattle.mars_core.specs.declared.number.Field.{Field}
 
 -- the number that was written is read again

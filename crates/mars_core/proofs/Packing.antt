@@ -1,7 +1,6 @@
 -- Words and their parts.
-use Rattle.std.specs.Prelude.{Bool, ◌==◌, if◌then◌else◌}
-use Rattle.std.proofs.Common.{◌≡◌, ℕ, zero, suc, sym, ◌∙◌, ◌<◌, ◌≤◌, ◌+◌, ◌*◌, ◌-◌, ◌/◌, ◌%◌, inl, inr, ap, refl, arith}
-use Rattle.rc_instr.specs.Instruction.{opcode_number, modifier_number, mode_number, same_instruction}
+use Rattle.std.proofs.Common.{◌≡◌, ℕ, sym, ◌∙◌, ◌<◌, ◌≤◌, ◌+◌, ◌*◌, ◌-◌, ◌/◌, ◌%◌, inl, inr, ap, refl, arith}
+use Rattle.rc_instr.specs.Instruction.{opcode_number, modifier_number, mode_number}
 use Rattle.rc_instr.specs.declared.instruction.Instruction.{Instruction}
 use Rattle.rc_instr.specs.declared.instruction.Opcode.{Opcode}
 use Rattle.rc_instr.specs.declared.instruction.Opcode.TheVariants.{Dat, Mov, Add, Sub, Mul, Div, Mod, Jmp, Jmz, Jmn, Djn, Seq, Sne, Slt, Spl, Nop}
@@ -9,11 +8,11 @@ use Rattle.rc_instr.specs.declared.instruction.Modifier.{Modifier}
 use Rattle.rc_instr.specs.declared.instruction.Modifier.TheVariants.{A, B, AB, BA, F, X, I}
 use Rattle.rc_instr.specs.declared.instruction.Mode.{Mode}
 use Rattle.rc_instr.specs.declared.instruction.Mode.TheVariants.{Immediate, Direct, AIndirect, BIndirect, APredecrement, BPredecrement, APostincrement, BPostincrement}
-use Rattle.mars_core.specs.Numbers.{with_field}
+use Rattle.mars_core.specs.Core.{with_field}
 use Rattle.mars_core.specs.declared.number.Field.TheVariants.{ANumber, BNumber}
 use Rattle.mars_core.specs.Classes.{key_of, canonical_modifier, canonical, class_of, modes_class_of, IsClassOf}
 use Rattle.mars_core.specs.Codes.{opcode_of, modifier_of, mode_of}
-use Rattle.mars_core.specs.Packed.{IsClassed, class_in, packed, unpacked, mark_of, marked, same_parts}
+use Rattle.mars_core.specs.Packed.{IsClassed, class_in, packed, unpacked, mark_of, marked}
 use Rattle.mars_core.proofs.Keys.{Leads, leads, class_small}
 
 pub opcode_small : (o : Opcode) → (opcode_number o < 16) × (opcode_of (opcode_number o) ≡ o)
@@ -147,27 +146,26 @@ same_class : (v w : ℕ) → class_in v ≡ class_in w → class_of (unpacked v)
     modes_class_of (unpacked v) ≡ modes_class_of (unpacked w) → IsClassed w → IsClassed v
 same_class v w e f g h = record { class_is = still_class (unpacked w) (unpacked v) (class_in w) (class_in v) e f g h.class_is }
 
-pub with_a : (w n k v : ℕ) → k ≡ n → n < 65536 → v ≡ w % 65536 + 65536 * k + 4294967296 * (w / 4294967296) →
-    unpacked v ≡ with_field ANumber n (unpacked w)
+-- a word with another A-number
+with_a : (w n v : ℕ) → n < 65536 → v ≡ w % 65536 + 65536 * n + 4294967296 * (w / 4294967296) →
+    (unpacked v ≡ with_field ANumber n (unpacked w)) × (IsClassed w → IsClassed v)
 unfolding unpacked
-with_a w n k v h l e =
+with_a w n v l e =
+    let p : unpacked v ≡ with_field ANumber n (unpacked w) =
     parts _ _ _ _ _ _ _ _ _ _ _ _ (let h : v / 8 % 16 ≡ w / 8 % 16 = omega arith in h) (let h : v % 8 ≡ w % 8 = omega arith in h)
     (let h : v / 256 % 8 ≡ w / 256 % 8 = omega arith in h) (let h : v / 65536 % 65536 ≡ n = omega arith in h)
-    (let h : v / 2048 % 8 ≡ w / 2048 % 8 = omega arith in h) (let h : v / 281474976710656 ≡ w / 281474976710656 = omega arith in h)
+    (let h : v / 2048 % 8 ≡ w / 2048 % 8 = omega arith in h) (let h : v / 281474976710656 ≡ w / 281474976710656 = omega arith in h) in
+    (p, same_class v w (let h : class_in v ≡ class_in w = omega arith in h) (ap class_of p) (ap modes_class_of p))
 
-pub with_b : (w n k v : ℕ) → k ≡ n → n < 65536 → v ≡ w % 281474976710656 + 281474976710656 * k →
-    unpacked v ≡ with_field BNumber n (unpacked w)
+with_b : (w n v : ℕ) → n < 65536 → v ≡ w % 281474976710656 + 281474976710656 * n →
+    (unpacked v ≡ with_field BNumber n (unpacked w)) × (IsClassed w → IsClassed v)
 unfolding unpacked
-with_b w n k v h l e =
+with_b w n v l e =
+    let p : unpacked v ≡ with_field BNumber n (unpacked w) =
     parts _ _ _ _ _ _ _ _ _ _ _ _ (let h : v / 8 % 16 ≡ w / 8 % 16 = omega arith in h) (let h : v % 8 ≡ w % 8 = omega arith in h)
     (let h : v / 256 % 8 ≡ w / 256 % 8 = omega arith in h) (let h : v / 65536 % 65536 ≡ w / 65536 % 65536 = omega arith in h)
-    (let h : v / 2048 % 8 ≡ w / 2048 % 8 = omega arith in h) (let h : v / 281474976710656 ≡ n = omega arith in h)
-
-pub classed_a : (w n k v : ℕ) → k ≡ n → n < 65536 → v ≡ w % 65536 + 65536 * k + 4294967296 * (w / 4294967296) → IsClassed w → IsClassed v
-classed_a w n k v h l e p = same_class v w (let h : class_in v ≡ class_in w = omega arith in h) (ap class_of (with_a w n k v h l e)) (ap modes_class_of (with_a w n k v h l e)) p
-
-pub classed_b : (w n k v : ℕ) → k ≡ n → n < 65536 → v ≡ w % 281474976710656 + 281474976710656 * k → IsClassed w → IsClassed v
-classed_b w n k v h l e p = same_class v w (let h : class_in v ≡ class_in w = omega arith in h) (ap class_of (with_b w n k v h l e)) (ap modes_class_of (with_b w n k v h l e)) p
+    (let h : v / 2048 % 8 ≡ w / 2048 % 8 = omega arith in h) (let h : v / 281474976710656 ≡ n = omega arith in h) in
+    (p, same_class v w (let h : class_in v ≡ class_in w = omega arith in h) (ap class_of p) (ap modes_class_of p))
 
 -- a mark changes nothing in the instruction
 pub unpacked_marked : (w : ℕ) → unpacked (marked w) ≡ unpacked w
@@ -188,66 +186,18 @@ pub mark_marked : (w : ℕ) → mark_of (marked w) ≡ 1
 unfolding marked mark_of
 mark_marked w = let h : (w + 32768 * (1 - w / 32768 % 2)) / 32768 % 2 ≡ 1 = omega arith in h
 
--- a number is that of its variant
-number_opcode : (n : ℕ) → n < 16 → opcode_number (opcode_of n) ≡ n
-number_opcode zero l = refl
-number_opcode (suc zero) l = refl
-number_opcode (suc (suc zero)) l = refl
-number_opcode (suc (suc (suc zero))) l = refl
-number_opcode (suc (suc (suc (suc zero)))) l = refl
-number_opcode (suc (suc (suc (suc (suc zero))))) l = refl
-number_opcode (suc (suc (suc (suc (suc (suc zero)))))) l = refl
-number_opcode (suc (suc (suc (suc (suc (suc (suc zero))))))) l = refl
-number_opcode (suc (suc (suc (suc (suc (suc (suc (suc zero)))))))) l = refl
-number_opcode (suc (suc (suc (suc (suc (suc (suc (suc (suc zero))))))))) l = refl
-number_opcode (suc (suc (suc (suc (suc (suc (suc (suc (suc (suc zero)))))))))) l = refl
-number_opcode (suc (suc (suc (suc (suc (suc (suc (suc (suc (suc (suc zero))))))))))) l = refl
-number_opcode (suc (suc (suc (suc (suc (suc (suc (suc (suc (suc (suc (suc zero)))))))))))) l = refl
-number_opcode (suc (suc (suc (suc (suc (suc (suc (suc (suc (suc (suc (suc (suc zero))))))))))))) l = refl
-number_opcode (suc (suc (suc (suc (suc (suc (suc (suc (suc (suc (suc (suc (suc (suc zero)))))))))))))) l = refl
-number_opcode (suc (suc (suc (suc (suc (suc (suc (suc (suc (suc (suc (suc (suc (suc (suc zero))))))))))))))) l = refl
-number_opcode (suc (suc (suc (suc (suc (suc (suc (suc (suc (suc (suc (suc (suc (suc (suc (suc n)))))))))))))))) l = absurd (omega arith)
+-- a word to which the difference of two A-numbers is added
+pub moved_a : (w n u x y v : ℕ) → w < 18446744073709551616 → n < 65536 → u ≡ 65536 → x ≡ n → y ≡ w / 65536 % 65536 →
+    v ≡ (w + u * ((x + (18446744073709551616 - y)) % 18446744073709551616) % 18446744073709551616) % 18446744073709551616 →
+    (unpacked v ≡ with_field ANumber n (unpacked w)) × (IsClassed w → IsClassed v)
+moved_a w n u x y v s l eu ex ey h =
+    let g : v ≡ (w + 65536 * ((x + (18446744073709551616 - y)) % 18446744073709551616) % 18446744073709551616) % 18446744073709551616 = rw (← eu) h in
+    with_a w n v l (omega (arith, s, l, ex, ey, g))
 
-number_mode : (n : ℕ) → n < 8 → mode_number (mode_of n) ≡ n
-number_mode zero l = refl
-number_mode (suc zero) l = refl
-number_mode (suc (suc zero)) l = refl
-number_mode (suc (suc (suc zero))) l = refl
-number_mode (suc (suc (suc (suc zero)))) l = refl
-number_mode (suc (suc (suc (suc (suc zero))))) l = refl
-number_mode (suc (suc (suc (suc (suc (suc zero)))))) l = refl
-number_mode (suc (suc (suc (suc (suc (suc (suc zero))))))) l = refl
-number_mode (suc (suc (suc (suc (suc (suc (suc (suc n)))))))) l = absurd (omega arith)
-
-number_modifier : (n : ℕ) → n < 8 → modifier_number (modifier_of n) ≡ (if n == 7 then 6 else n)
-number_modifier zero l = refl
-number_modifier (suc zero) l = refl
-number_modifier (suc (suc zero)) l = refl
-number_modifier (suc (suc (suc zero))) l = refl
-number_modifier (suc (suc (suc (suc zero)))) l = refl
-number_modifier (suc (suc (suc (suc (suc zero))))) l = refl
-number_modifier (suc (suc (suc (suc (suc (suc zero)))))) l = refl
-number_modifier (suc (suc (suc (suc (suc (suc (suc zero))))))) l = refl
-number_modifier (suc (suc (suc (suc (suc (suc (suc (suc n)))))))) l = absurd (omega arith)
-
-pub modifier_capped : (w n : ℕ) → n ≡ (if w % 8 == 7 then 6 else w % 8) → n ≡ modifier_number (modifier_of (w % 8))
-modifier_capped w n e = let l : w % 8 < 8 = omega arith in e ∙ sym (number_modifier (w % 8) l)
-
--- words are compared part by part
-pub same_packed : (x y : ℕ) (b : Bool) → b ≡ same_parts x y → b ≡ same_instruction (unpacked x) (unpacked y)
-unfolding unpacked same_instruction same_parts
-same_packed x y b e =
-    let ox : x / 8 % 16 < 16 = omega arith in
-    let oy : y / 8 % 16 < 16 = omega arith in
-    let ax : x / 256 % 8 < 8 = omega arith in
-    let ay : y / 256 % 8 < 8 = omega arith in
-    let bx : x / 2048 % 8 < 8 = omega arith in
-    let bj : y / 2048 % 8 < 8 = omega arith in
-    rw (
-      number_opcode (x / 8 % 16) ox,
-      number_opcode (y / 8 % 16) oy,
-      number_mode (x / 256 % 8) ax,
-      number_mode (y / 256 % 8) ay,
-      number_mode (x / 2048 % 8) bx,
-      number_mode (y / 2048 % 8) bj,
-    ) e
+-- a word to which the difference of two B-numbers is added
+pub moved_b : (w n u x y v : ℕ) → w < 18446744073709551616 → n < 65536 → u ≡ 281474976710656 → x ≡ n → y ≡ w / 281474976710656 →
+    v ≡ (w + u * ((x + (18446744073709551616 - y)) % 18446744073709551616) % 18446744073709551616) % 18446744073709551616 →
+    (unpacked v ≡ with_field BNumber n (unpacked w)) × (IsClassed w → IsClassed v)
+moved_b w n u x y v s l eu ex ey h =
+    let g : v ≡ (w + 281474976710656 * ((x + (18446744073709551616 - y)) % 18446744073709551616) % 18446744073709551616) % 18446744073709551616 = rw (← eu) h in
+    with_b w n v l (omega (arith, s, l, ex, ey, g))

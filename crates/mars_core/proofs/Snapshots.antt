@@ -7,7 +7,7 @@ use Rattle.mars_core.specs.Core.{cell_at}
 use Rattle.mars_core.specs.Queue.{Queue}
 use Rattle.mars_core.specs.State.{play_of, seen_from}
 use Rattle.mars_core.specs.Fight.{ComesBack}
-use Rattle.mars_core.specs.Snapshot.{SnapshotView, snapshot_view, IsBack}
+use Rattle.mars_core.specs.Arena.{SnapshotView, snapshot_view, IsBack}
 use Rattle.mars_core.specs.declared.side.Side.{Side}
 use Rattle.mars_core.proofs.Returns.{comes_back}
 use Rattle.mars_core.proofs.Stretches.{CyclesMade}

@@ -1,11 +1,11 @@
--- An arena as contracts see it, and what holds of every arena.
-use Rattle.std.specs.Prelude.{◌≡◌, ℕ, ◌+◌, ◌*◌, ◌%◌, ◌≤◌, List, length}
+-- An arena as contracts see it, and the state that it keeps, to see whether it comes back.
+use Rattle.std.specs.Prelude.{◌≡◌, ℕ, ◌+◌, ◌*◌, ◌%◌, ◌<◌, ◌≤◌, List, [], length, replicate}
+use Rattle.rc_instr.specs.Instruction.{empty_cell}
 use Rattle.rc_instr.specs.Rules.{RulesView, IsRules}
 use Rattle.rc_instr.specs.declared.instruction.Instruction.{Instruction}
 use Rattle.mars_core.specs.Core.{IsCore, AreTasks}
 use Rattle.mars_core.specs.Queue.{Queue}
-use Rattle.mars_core.specs.State.{State, blank_of}
-use Rattle.mars_core.specs.Snapshot.{SnapshotView}
+use Rattle.mars_core.specs.State.{State}
 
 pub record ArenaView : Type 0 where
   pub rules : RulesView
@@ -29,8 +29,34 @@ fights_after fights more = (fights + more) % 18446744073709551616
 -- and with any marks.
 pub record IsBlank (rules : RulesView) (a : ArenaView) : Type 0 where
   pub rules_kept : a.rules ≡ rules
-  pub state : a.state ≡ blank_of rules.core
+  pub state : a.state ≡ record { core = replicate rules.core empty_cell; candidate = []; opponent = [] }
   pub turns : a.turns ≡ 0
+
+-- The cells, the tasks of the side that moves first, and those of the other side.
+pub record SnapshotView : Type 0 where
+  pub core : List Instruction
+  pub mine : List ℕ
+  pub theirs : List ℕ
+  -- After how many cycles it was taken, 0 if none was taken in this fight.
+  pub cycles : ℕ
+
+abbrev pub snapshot_view : List Instruction → List ℕ → List ℕ → ℕ → SnapshotView
+snapshot_view core mine theirs cycles = record { core = core; mine = mine; theirs = theirs; cycles = cycles }
+
+-- The most tasks of a side in a state that is kept.
+abbrev pub few_tasks : ℕ
+few_tasks = 8
+
+-- A snapshot has room for these tasks of each side.
+pub record HasRoom (mine theirs : Queue) : Type 0 where
+  pub mine_room : mine.capacity ≡ few_tasks
+  pub theirs_room : theirs.capacity ≡ few_tasks
+
+-- The state after these cycles is the one that was kept, a period ago.
+pub record IsBack (kept : SnapshotView) (core : List Instruction) (mine theirs : List ℕ) (cycles period : ℕ) : Type 0 where
+  pub taken : 0 < kept.cycles
+  pub state : kept ≡ snapshot_view core mine theirs kept.cycles
+  pub period_is : kept.cycles + period ≡ cycles
 
 -- What holds of every arena: checked rules, a core and tasks of their size, queues with room for
 -- the tasks that the rules allow, and a snapshot of as many cells.

@@ -5,7 +5,7 @@ use Rattle.std.specs.Prelude.{◌≡◌, ℕ, ◌+◌, ◌*◌, ◌/◌, ◌<◌
 use Rattle.rc_instr.specs.Instruction.{opcode_number, modifier_number, mode_number}
 use Rattle.rc_instr.specs.declared.instruction.Instruction.{Instruction}
 use Rattle.rc_instr.specs.declared.instruction.Opcode.{Opcode}
-use Rattle.rc_instr.specs.declared.instruction.Opcode.TheVariants.{Dat, Mov, Add, Sub, Mul, Div, Mod, Jmp, Jmz, Jmn, Djn, Seq, Sne, Slt, Spl, Nop}
+use Rattle.rc_instr.specs.declared.instruction.Opcode.TheVariants.{Dat, Mov, Jmp, Seq, Sne, Spl, Nop}
 use Rattle.rc_instr.specs.declared.instruction.Modifier.{Modifier}
 use Rattle.rc_instr.specs.declared.instruction.Modifier.TheVariants.{B, F, I}
 use Rattle.mars_core.specs.Codes.{opcode_of, modifier_of, mode_of}
@@ -36,15 +36,7 @@ canonical_modifier Nop k = B
 canonical_modifier Mov k = k
 canonical_modifier Seq k = k
 canonical_modifier Sne k = k
-canonical_modifier Add k = in_pairs k
-canonical_modifier Sub k = in_pairs k
-canonical_modifier Mul k = in_pairs k
-canonical_modifier Div k = in_pairs k
-canonical_modifier Mod k = in_pairs k
-canonical_modifier Jmz k = in_pairs k
-canonical_modifier Jmn k = in_pairs k
-canonical_modifier Djn k = in_pairs k
-canonical_modifier Slt k = in_pairs k
+canonical_modifier _ k = in_pairs k
 
 -- The opcode, canonical modifier and modes of an instruction have these numbers.
 pub record IsCoded (opcode modifier a_mode b_mode : ℕ) (i : Instruction) : Type 0 where

@@ -1,10 +1,29 @@
--- A core is a ring of m cells, each one instruction: the list of its m instructions (1994 draft).
-use Rattle.std.specs.Prelude.{◌≡◌, ℕ, ◌+◌, ◌<◌, ◌≤◌, List, ◌++◌, length, take, drop, slice_index_or, slice_set, count_by, not, All}
+-- A core is a ring of m cells, each one instruction: the list of its m instructions. Numbers in it
+-- are 0 to m - 1; arithmetic is modulo m (1994 draft).
+use Rattle.std.specs.Prelude.{◌≡◌, ℕ, ◌+◌, ◌-◌, ◌*◌, ◌%◌, ◌<◌, ◌≤◌, List, ◌++◌, length, take, drop, slice_index_or, slice_set, count_by, not, All}
 use Rattle.rc_instr.specs.Instruction.{empty_cell, same_instruction}
 use Rattle.rc_instr.specs.Warrior.{IsBelow}
 use Rattle.rc_instr.specs.declared.instruction.Instruction.{Instruction}
-use Rattle.mars_core.specs.Numbers.{field_of, with_field}
 use Rattle.mars_core.specs.declared.number.Field.{Field}
+use Rattle.mars_core.specs.declared.number.Field.TheVariants.{ANumber, BNumber}
+
+unfoldable pub sum_of : ℕ → ℕ → ℕ → ℕ
+sum_of m x y = (x + y) % m
+
+unfoldable pub difference_of : ℕ → ℕ → ℕ → ℕ
+difference_of m x y = (x + (m - y)) % m
+
+unfoldable pub product_of : ℕ → ℕ → ℕ → ℕ
+product_of m x y = (x * y) % m
+
+-- One of the two numbers of an instruction.
+abbrev pub field_of : Field → Instruction → ℕ
+field_of ANumber i = i.a_number
+field_of BNumber i = i.b_number
+
+abbrev pub with_field : Field → ℕ → Instruction → Instruction
+with_field ANumber n i = record i { a_number = n }
+with_field BNumber n i = record i { b_number = n }
 
 -- The instruction at an address.
 unfoldable pub cell_at : List Instruction → ℕ → Instruction

@@ -5,8 +5,7 @@ use Rattle.std.specs.Prelude.{ℕ, List}
 use Rattle.rc_instr.specs.declared.instruction.Instruction.{Instruction}
 use Rattle.rc_instr.specs.declared.instruction.Mode.{Mode}
 use Rattle.rc_instr.specs.declared.instruction.Mode.TheVariants.{Immediate, Direct, AIndirect, BIndirect, APredecrement, BPredecrement, APostincrement, BPostincrement}
-use Rattle.mars_core.specs.Numbers.{sum_of, difference_of, field_of}
-use Rattle.mars_core.specs.Core.{cell_at, changed_at}
+use Rattle.mars_core.specs.Core.{cell_at, changed_at, sum_of, difference_of, field_of}
 use Rattle.mars_core.specs.declared.number.Field.{Field}
 use Rattle.mars_core.specs.declared.number.Field.TheVariants.{ANumber, BNumber}
 

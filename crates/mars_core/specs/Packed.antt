@@ -4,8 +4,8 @@
 --          modifier  opcode   A-mode    B-mode     mark   A-number   class      B-number
 --
 -- The other bits are 0.
-use Rattle.std.specs.Prelude.{ℕ, Bool, ◌+◌, ◌-◌, ◌*◌, ◌/◌, ◌%◌, ◌==◌, ◌&&◌}
-use Rattle.rc_instr.specs.Instruction.{modifier_number, empty_cell}
+use Rattle.std.specs.Prelude.{ℕ, Bool, ◌+◌, ◌-◌, ◌*◌, ◌/◌, ◌%◌, ◌==◌}
+use Rattle.rc_instr.specs.Instruction.{empty_cell}
 use Rattle.rc_instr.specs.declared.instruction.Instruction.{Instruction}
 use Rattle.mars_core.specs.Classes.{class_count, key_of, class_of, IsClassOf}
 use Rattle.mars_core.specs.Codes.{opcode_of, modifier_of, mode_of}
@@ -47,13 +47,3 @@ is_marked w = mark_of w == 1
 -- The word of the empty cell, without a mark.
 unfoldable pub empty_word : ℕ
 empty_word = packed empty_cell
-
--- Two words agree in all parts of an instruction.
-unfoldable pub same_parts : ℕ → ℕ → Bool
-same_parts x y =
-    (x / 8 % 16 == y / 8 % 16)
-    && ((modifier_number (modifier_of (x % 8)) == modifier_number (modifier_of (y % 8)))
-    && ((x / 256 % 8 == y / 256 % 8)
-    && ((x / 65536 % 65536 == y / 65536 % 65536)
-    && ((x / 2048 % 8 == y / 2048 % 8)
-    && (x / 281474976710656 == y / 281474976710656)))))

@@ -6,7 +6,7 @@ use Rattle.rc_instr.specs.declared.instruction.Opcode.{Opcode}
 use Rattle.rc_instr.specs.declared.instruction.Opcode.TheVariants.{Mov, Add, Sub, Mul, Div, Mod}
 use Rattle.rc_instr.specs.declared.instruction.Modifier.{Modifier}
 use Rattle.rc_instr.specs.declared.instruction.Modifier.TheVariants.{A, B, AB, BA, F, X, I}
-use Rattle.mars_core.specs.Numbers.{sum_of, difference_of, product_of, field_of, with_field}
+use Rattle.mars_core.specs.Core.{sum_of, difference_of, product_of, field_of, with_field}
 use Rattle.mars_core.specs.declared.number.Field.{Field}
 use Rattle.mars_core.specs.declared.number.Field.TheVariants.{ANumber, BNumber}
 
@@ -46,14 +46,10 @@ abbrev pub every_pair : (ℕ → ℕ → Bool) → List (Field × Field) → Ins
 every_pair test [] a b = true
 every_pair test (p ∷ ps) a b = test (field_of p.0 a) (field_of p.1 b) && every_pair test ps a b
 
--- The target after the opcode's value for each pair is written.
-abbrev pub computed_in_pairs : Opcode → Modifier → ℕ → Instruction → Instruction → Instruction → Instruction
-computed_in_pairs opcode modifier m a b target = written (written_value opcode m) (pairs_of modifier) a b target
-
 -- The target after MOV, ADD, SUB, MUL, DIV or MOD. MOV takes the whole instruction with I.
 unfoldable pub computed : Opcode → Modifier → ℕ → Instruction → Instruction → Instruction → Instruction
 computed Mov I m a b target = a
-computed opcode modifier m a b target = computed_in_pairs opcode modifier m a b target
+computed opcode modifier m a b target = written (written_value opcode m) (pairs_of modifier) a b target
 
 -- The target after DJN: the numbers that it tests are lowered by 1.
 unfoldable pub counted_down : Modifier → ℕ → Instruction → Instruction

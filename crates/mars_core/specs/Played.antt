@@ -9,16 +9,6 @@ use Rattle.mars_core.specs.State.{seen_from, play_of}
 use Rattle.mars_core.specs.Fight.{turns_of}
 use Rattle.mars_core.specs.declared.side.Side.{Side}
 
--- A fight takes `turns` turns within these cycles if the side with the queue `mine` moves first,
--- whichever side that is. Both queues have the same capacity.
-abbrev pub AreTurns : List Instruction → (mine theirs : Queue) → (cycles turns : ℕ) → Type 0
-AreTurns core mine theirs cycles turns = (first : Side) → turns ≡ turns_of mine.capacity (seen_from first core mine.items theirs.items) first cycles
-
--- The core and the tasks that these turns leave.
-abbrev pub TurnsLeave : List Instruction → (mine theirs : Queue) → (turns : ℕ) → List Instruction → (my_new their_new : Queue) → Type 0
-TurnsLeave core mine theirs turns core_new my_new their_new =
-    (first : Side) → seen_from first core_new my_new.items their_new.items ≡ play_of mine.capacity (seen_from first core mine.items theirs.items) first turns
-
 -- The premise of a fight: a core of m cells, the tasks of both sides in it, the same room for both,
 -- and no more cycles than rules allow.
 pub record CanPlay (m : ℕ) (core : List Instruction) (mine theirs : Queue) (cycles : ℕ) : Type 0 where
@@ -28,11 +18,12 @@ pub record CanPlay (m : ℕ) (core : List Instruction) (mine theirs : Queue) (cy
   pub same_room : theirs.capacity ≡ mine.capacity
   pub few : cycles ≤ MOST_CYCLES
 
--- The result of a fight: its turns, at most two for each cycle; the state after them, in a core of
--- m cells again; and queues with the room that they had.
+-- The result of a fight, whichever side moves first: its turns, at most two for each cycle; the state
+-- after them, in a core of m cells again; and queues with the room that they had.
 pub record Plays (m : ℕ) (core : List Instruction) (mine theirs : Queue) (cycles turns : ℕ) (core_new : List Instruction) (my_new their_new : Queue) : Type 0 where
-  pub turns_are : AreTurns core mine theirs cycles turns
-  pub state_is : TurnsLeave core mine theirs turns core_new my_new their_new
+  pub turns_are : (first : Side) → turns ≡ turns_of mine.capacity (seen_from first core mine.items theirs.items) first cycles
+  pub state_is : (first : Side) →
+      seen_from first core_new my_new.items their_new.items ≡ play_of mine.capacity (seen_from first core mine.items theirs.items) first turns
   pub within : turns ≤ 2 * cycles
   pub core_holds : IsCore m core_new
   pub mine_below : AreTasks m my_new.items

@@ -18,9 +18,6 @@ abbrev pub tasks_of : Side → State → List ℕ
 tasks_of Candidate s = s.candidate
 tasks_of Opponent s = s.opponent
 
-abbrev pub blank_of : ℕ → State
-blank_of m = record { core = replicate m empty_cell; candidate = []; opponent = [] }
-
 -- A fight starts with the candidate's code at address 0, the opponent's at p, all other cells
 -- empty, and one task for each side, at its start.
 unfoldable pub start_of : ℕ → WarriorView → WarriorView → ℕ → State

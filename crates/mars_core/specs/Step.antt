@@ -4,8 +4,7 @@ use Rattle.rc_instr.specs.declared.instruction.Instruction.{Instruction}
 use Rattle.rc_instr.specs.declared.instruction.Opcode.{Opcode}
 use Rattle.rc_instr.specs.declared.instruction.Opcode.TheVariants.{Dat, Mov, Add, Sub, Mul, Div, Mod, Jmp, Jmz, Jmn, Djn, Seq, Sne, Slt, Spl, Nop}
 use Rattle.rc_instr.specs.declared.instruction.Modifier.{Modifier}
-use Rattle.mars_core.specs.Numbers.{sum_of}
-use Rattle.mars_core.specs.Core.{cell_at, updated_at}
+use Rattle.mars_core.specs.Core.{cell_at, updated_at, sum_of}
 use Rattle.mars_core.specs.Operand.{Located, located, operand_of}
 use Rattle.mars_core.specs.Pairs.{computed, counted_down, has_zero_divisor, all_are, are_equal, are_less}
 

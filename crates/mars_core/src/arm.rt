@@ -3,8 +3,7 @@ ghost use Rattle.std.specs.Prelude.{◌<◌, ◌≤◌, ◌+◌};
 ghost use Rattle.mars_core.specs.Classes.{IsCoded};
 ghost use Rattle.mars_core.specs.Codes.{opcode_of, modifier_of, mode_of};
 ghost use Rattle.mars_core.specs.Core.{IsCore};
-ghost use Rattle.mars_core.specs.Seen.{seen_operand};
-ghost use Rattle.mars_core.specs.Executed.{IsFetched, IsExecuted, IsInside, IsEvaluated, IsActed};
+ghost use Rattle.mars_core.specs.Executed.{seen_operand, IsFetched, IsExecuted, IsInside, IsEvaluated, IsActed};
 
 use crate::cell::Cell;
 use crate::cells::Store;

@@ -3,17 +3,14 @@ ghost use Rattle.std.specs.Prelude.{◌≡◌, ◌<◌, ◌≤◌, ◌+◌, if�
 ghost use Rattle.rc_instr.specs.Warrior.{IsBelow};
 ghost use Rattle.mars_core.specs.Core.{updated_at, IsCore};
 ghost use Rattle.mars_core.specs.Pairs.{computed};
-ghost use Rattle.mars_core.specs.Seen.{seen_operand};
-ghost use Rattle.mars_core.specs.Executed.{IsInside, IsActed};
+ghost use Rattle.mars_core.specs.Executed.{seen_operand, IsInside, IsActed};
 ghost use Rattle.mars_core.specs.declared.effect.Queued.{Queued};
 
 use crate::cell::Cell;
 use crate::cells::{Store, read, write};
 use crate::effect::Queued::{Jump, Next, Nothing, Skip, Split};
 use crate::operand::Located;
-use crate::pairs::{
-    all_equal, all_less, all_tested_are, count_down, divides_by_zero, write_pairs,
-};
+use crate::pairs::{all_equal, all_less, all_tested_are, count_down, divides_by_zero, write_pairs};
 use rc_instr::{Modifier, Opcode};
 
 // Says which addresses a task queues, in order.

@@ -2,17 +2,16 @@
 ghost use Rattle.std.specs.Prelude.{◌<◌, ◌≤◌, ◌+◌, ◌/◌, ◌%◌};
 ghost use Rattle.rc_instr.specs.Warrior.{IsBelow};
 ghost use Rattle.mars_core.specs.Classes.{first_of_modes, IsClassOf, IsModed};
-ghost use Rattle.mars_core.specs.Codes.{code_count, opcode_of, modifier_of};
+ghost use Rattle.mars_core.specs.Codes.{opcode_of, modifier_of};
 ghost use Rattle.mars_core.specs.Core.{IsCore};
-ghost use Rattle.mars_core.specs.Seen.{seen_operand};
-ghost use Rattle.mars_core.specs.Executed.{IsFetched, IsExecuted, IsInside, AreEvaluated, IsActed};
+ghost use Rattle.mars_core.specs.Executed.{seen_operand, IsFetched, IsExecuted, IsInside, AreEvaluated, IsActed};
 
 use crate::arm::evaluate_in;
 use crate::cell::Cell;
 use crate::cells::Store;
 use crate::codes::{modifier_from, opcode_from};
 use crate::effect::{Queued, act};
-use crate::operand::{Located, Operands};
+use crate::operand::Located;
 use crate::turn::Executed;
 
 // Executes the instruction at `pc`, which is `cell`, if its class gives its modes.
@@ -48,7 +47,7 @@ fn operands<C: Store, const PLACE: u64>(
     pc: u32,
     cell: C::Kept,
     class: u64,
-) -> Operands<C::Kept>
+) -> (Located<C::Kept>, Located<C::Kept>)
     requires core { IsCore size (C.items cells.old) }
     requires pc { pc < size }
     requires below { IsBelow size (C.Kept.held cell) }
@@ -134,7 +133,7 @@ fn pair_in<C: Store, const A_MODE: u64, const B_MODE: u64>(
     size: u32,
     pc: u32,
     cell: C::Kept,
-) -> Operands<C::Kept>
+) -> (Located<C::Kept>, Located<C::Kept>)
     requires known { (A_MODE < 8) × (B_MODE < 8) }
     requires core { IsCore size (C.items cells.old) }
     requires pc { pc < size }
@@ -158,7 +157,7 @@ fn act_by_code<C: Store, const PLACE: u64>(
     a: Located<C::Kept>,
     b: Located<C::Kept>,
 ) -> Queued
-    requires code { code < code_count }
+    requires code { code < 128 }
     requires core { IsCore size (C.items cells.old) }
     requires a { IsInside size (seen_operand C.Kept.held a) }
     requires b { IsInside size (seen_operand C.Kept.held b) }

@@ -1,8 +1,7 @@
 //! The numbers of a core, 0 to `size - 1`: the two of a cell, and arithmetic modulo the core size.
 ghost use Rattle.std.specs.Prelude.{◌≡◌, ◌<◌, ◌≤◌};
 ghost use Rattle.rc_instr.specs.Warrior.{IsBelow};
-ghost use Rattle.mars_core.specs.Core.{IsCellOf};
-ghost use Rattle.mars_core.specs.Numbers.{sum_of, difference_of, product_of, field_of, with_field};
+ghost use Rattle.mars_core.specs.Core.{IsCellOf, sum_of, difference_of, product_of, field_of, with_field};
 
 use crate::cell::Cell;
 
@@ -14,30 +13,32 @@ pub enum Field {
 }
 
 // Returns the cell with one of its numbers lowered by 1.
-#[tactic(auto, using(crate::proofs::Fields::fields))]
+#[tactic(auto, using(crate::proofs::Below::fields, crate::proofs::Sums::by_one))]
 #[inline]
 pub(crate) fn lowered<K: Cell>(size: u32, field: Field, cell: K) -> K
     requires { IsCellOf size (K.held cell) }
     ensures value { K.held result ≡ with_field field (difference_of size (field_of field (K.held cell)) 1) (K.held cell) }
     ensures below { IsBelow size (K.held result) }
 {
-    cell.with_number(field, difference(size, cell.number(field), 1))
+    let number = cell.number(field);
+    cell.with_number(field, if number == 0 { size - 1 } else { number - 1 })
 }
 
 // Returns the cell with one of its numbers raised by 1.
-#[tactic(auto, using(crate::proofs::Fields::fields))]
+#[tactic(auto, using(crate::proofs::Below::fields, crate::proofs::Sums::by_one))]
 #[inline]
 pub(crate) fn raised<K: Cell>(size: u32, field: Field, cell: K) -> K
     requires { IsCellOf size (K.held cell) }
     ensures value { K.held result ≡ with_field field (sum_of size (field_of field (K.held cell)) 1) (K.held cell) }
     ensures below { IsBelow size (K.held result) }
 {
-    cell.with_number(field, sum(size, cell.number(field), 1))
+    let next = cell.number(field) + 1;
+    cell.with_number(field, if next == size { 0 } else { next })
 }
 
 // Adds modulo `size`. Both terms are below it, so one subtraction replaces the division. Tests the
 // sign of the difference, which compiles to a conditional move, while `z < size` makes a branch.
-#[tactic(auto, unfolding(crate::specs::Numbers::sum_of))]
+#[tactic(auto, unfolding(crate::specs::Core::sum_of))]
 #[inline]
 pub(crate) fn sum(size: u32, x: u32, y: u32) -> u32
     requires size { size ≤ 65535 }
@@ -52,7 +53,7 @@ pub(crate) fn sum(size: u32, x: u32, y: u32) -> u32
 }
 
 // Subtracts modulo `size`, without a division and without a branch.
-#[tactic(auto, unfolding(crate::specs::Numbers::difference_of))]
+#[tactic(auto, unfolding(crate::specs::Core::difference_of))]
 #[inline]
 pub(crate) fn difference(size: u32, x: u32, y: u32) -> u32
     requires size { size ≤ 65535 }
@@ -70,7 +71,7 @@ pub(crate) fn difference(size: u32, x: u32, y: u32) -> u32
 }
 
 // Multiplies modulo `size`. This is the only operation that divides by the core size.
-#[tactic(auto, unfolding(crate::specs::Numbers::product_of))]
+#[tactic(auto, unfolding(crate::specs::Core::product_of))]
 #[inline]
 pub(crate) fn product(size: u32, x: u32, y: u32) -> u32
     requires size { size ≤ 65535 }

@@ -1,10 +1,8 @@
 //! Operands: where they point, and what their modes change.
 ghost use Rattle.std.specs.Prelude.{◌≡◌, ◌<◌, ◌≤◌, ◌+◌};
 ghost use Rattle.rc_instr.specs.Warrior.{IsBelow};
-ghost use Rattle.mars_core.specs.Core.{cell_at, changed_at, IsCore};
-ghost use Rattle.mars_core.specs.Numbers.{sum_of, difference_of, field_of};
-ghost use Rattle.mars_core.specs.Seen.{seen_operand};
-ghost use Rattle.mars_core.specs.Executed.{IsEvaluated};
+ghost use Rattle.mars_core.specs.Core.{cell_at, changed_at, IsCore, sum_of, difference_of, field_of};
+ghost use Rattle.mars_core.specs.Executed.{seen_operand, IsEvaluated};
 
 use crate::cell::Cell;
 use crate::cells::{Store, read, write};
@@ -17,9 +15,6 @@ pub(crate) struct Located<K> {
     pub(crate) address: u32,
     pub(crate) copy: K,
 }
-
-// Both operands of an instruction.
-pub(crate) type Operands<K> = (Located<K>, Located<K>);
 
 // Evaluates an operand of the task at `pc`. A predecrement mode lowers the number on the way to the
 // operand and then uses it; a postincrement mode raises it after the copy is taken.

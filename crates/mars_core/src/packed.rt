@@ -1,10 +1,8 @@
 //! An instruction in one word.
 ghost use Rattle.std.specs.Prelude.{◌≡◌, ◌<◌, ◌%◌};
-ghost use Rattle.rc_instr.specs.Instruction.{modifier_number};
 ghost use Rattle.rc_instr.specs.declared.instruction.Instruction.{Instruction};
 ghost use Rattle.mars_core.specs.Classes.{key_of, canonical};
-ghost use Rattle.mars_core.specs.Codes.{modifier_of};
-ghost use Rattle.mars_core.specs.Packed.{IsClassed, packed, unpacked, is_marked, marked, empty_word, same_parts};
+ghost use Rattle.mars_core.specs.Packed.{IsClassed, packed, unpacked, is_marked, marked, empty_word};
 
 use crate::cell::Cell;
 use crate::classes::{CLASS_COUNT, class_of_key};
@@ -151,23 +149,22 @@ impl Cell for PackedCell {
         (self.word / B_NUMBER) as u32
     }
 
+    // Adds the difference: a mask of the other bits would take a register from the loop.
     #[inline]
     fn with_number(self, field: Field, number: u32) -> PackedCell {
-        let number = u64::from(number);
-        match field {
-            Field::ANumber => PackedCell {
-                word: self.word % A_NUMBER + A_NUMBER * number + CLASS * (self.word / CLASS),
-            },
-            Field::BNumber => PackedCell {
-                word: self.word % B_NUMBER + B_NUMBER * number,
-            },
+        let change = u64::from(number).wrapping_sub(u64::from(self.number(field)));
+        let unit = match field {
+            Field::ANumber => A_NUMBER,
+            Field::BNumber => B_NUMBER,
+        };
+        PackedCell {
+            word: self.word.wrapping_add(unit.wrapping_mul(change)),
         }
     }
 
-    #[tactic(auto, using(crate::proofs::Packing::same_packed))]
     #[inline]
     fn is_same(self, other: PackedCell) -> bool {
-        are_same(self.word, other.word)
+        Instruction::is_same(&self.instruction(), &other.instruction())
     }
 
     // Compares the marks and the classes too: one word with another.
@@ -175,28 +172,4 @@ impl Cell for PackedCell {
     fn is_identical(self, other: PackedCell) -> bool {
         self.word == other.word
     }
-}
-
-// Checks whether two words hold the same instruction, part by part.
-#[tactic(auto, unfolding(crate::specs::Packed::same_parts))]
-#[inline]
-fn are_same(x: u64, y: u64) -> bool
-    ensures { result ≡ same_parts x y }
-{
-    x / 8 % 16 == y / 8 % 16
-        && modifier_code_in(x) == modifier_code_in(y)
-        && x / 256 % 8 == y / 256 % 8
-        && x / A_NUMBER % 65536 == y / A_NUMBER % 65536
-        && x / 2048 % 8 == y / 2048 % 8
-        && x / B_NUMBER == y / B_NUMBER
-}
-
-// Returns the number of the modifier in a word. 7, which `pack` never makes, is `I` too.
-#[tactic(auto, using(crate::proofs::Packing::modifier_capped))]
-#[inline]
-fn modifier_code_in(word: u64) -> u64
-    ensures { result ≡ modifier_number (modifier_of (word % 8)) }
-{
-    let number = word % 8;
-    if number == 7 { 6 } else { number }
 }

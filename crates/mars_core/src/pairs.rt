@@ -2,9 +2,8 @@
 //! skips.
 ghost use Rattle.std.specs.Prelude.{◌≡◌, ◌<◌, ◌≤◌, IfSome};
 ghost use Rattle.rc_instr.specs.Warrior.{IsBelow};
-ghost use Rattle.mars_core.specs.Core.{IsCellOf};
-ghost use Rattle.mars_core.specs.Numbers.{field_of};
-ghost use Rattle.mars_core.specs.Pairs.{written_value, put, computed_in_pairs, counted_down, has_zero_divisor, all_are, are_equal, are_less};
+ghost use Rattle.mars_core.specs.Core.{IsCellOf, field_of};
+ghost use Rattle.mars_core.specs.Pairs.{pairs_of, written_value, put, written, counted_down, has_zero_divisor, all_are, are_equal, are_less};
 
 use crate::cell::Cell;
 use crate::number::Field::{self, ANumber, BNumber};
@@ -34,7 +33,7 @@ fn written_value(opcode: Opcode, size: u32, a: u32, b: u32) -> Option<u32>
 }
 
 // Returns the target after the value of one pair is written to the number that the pair leads to.
-#[tactic(auto, using(crate::proofs::Fields::fields))]
+#[tactic(auto, using(crate::proofs::Below::fields))]
 #[inline]
 fn write_pair<K: Cell>(
     opcode: Opcode,
@@ -72,7 +71,7 @@ pub(crate) fn write_pairs<K: Cell>(
     requires a { IsBelow size (K.held a) }
     requires b { IsBelow size (K.held b) }
     requires target { IsBelow size (K.held target) }
-    ensures value { K.held result ≡ computed_in_pairs opcode modifier size (K.held a) (K.held b) (K.held target) }
+    ensures value { K.held result ≡ written (written_value opcode size) (pairs_of modifier) (K.held a) (K.held b) (K.held target) }
     ensures below { IsBelow size (K.held result) }
 {
     match modifier {

@@ -1,7 +1,7 @@
 //! A state of a fight that is kept, to see whether it comes back.
 ghost use Rattle.std.specs.Prelude.{◌≡◌, ◌<◌, ◌≤◌, ◌⊎◌, length, IfOk, IfSome};
 ghost use Rattle.rc_instr.specs.Limits.{MOST_CYCLES};
-ghost use Rattle.mars_core.specs.Snapshot.{snapshot_view, IsBack};
+ghost use Rattle.mars_core.specs.Arena.{snapshot_view, IsBack};
 
 use crate::cell::Cell;
 use crate::cells::Cells;
@@ -30,7 +30,7 @@ pub(crate) struct Snapshot<C: Cells> {
 }
 
 impl<C: Cells> Model for Snapshot<C> {
-    ghost use Rattle.mars_core.specs.Snapshot.{SnapshotView, snapshot_view, HasRoom};
+    ghost use Rattle.mars_core.specs.Arena.{SnapshotView, snapshot_view, HasRoom};
 
     ghost Value = { SnapshotView };
 

@@ -4,8 +4,7 @@ ghost use Rattle.mars_core.specs.Queue.{queue_with, queue_after, without_first};
 ghost use Rattle.mars_core.specs.Classes.{first_of_further, first_of_modes, IsClassOf};
 ghost use Rattle.mars_core.specs.Core.{IsCore, AreTasks};
 ghost use Rattle.mars_core.specs.State.{core_after};
-ghost use Rattle.mars_core.specs.Seen.{addresses};
-ghost use Rattle.mars_core.specs.Executed.{IsFetched, IsExecuted};
+ghost use Rattle.mars_core.specs.Executed.{addresses, IsFetched, IsExecuted};
 
 use crate::arm::arm;
 use crate::cell::Cell;
