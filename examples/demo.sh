@@ -56,7 +56,7 @@ checked() {
     expect_line "$1" "$3" "$4" check tuning/stone.red "$schedule" "$2" $opponents
 }
 
-# Checks what was tuned by the schedule, and what certify.py makes in its own way: both REPORT
+# Checks what was tuned by $schedule and what certify.py makes, and sets `accepted`: both REPORT
 both() {
     python3 tuning/certify.py "$program" tuning/stone.red "$schedule" $opponents \
         >"$work/own.cert" || wrong=1

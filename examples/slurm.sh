@@ -8,7 +8,7 @@
 # together, and with `--check-only` the shares. CWTUNE names the program, if it is not on the PATH
 # of the nodes, and CWTUNE_PARTS is K if the word is left out. Options of `tune` or `check` may
 # follow the opponents. Each part has the total of START as its floor, unless there is an option
-# other than the rules (as --core=N) and --cache=N.
+# other than the rules (as --core=N), --hill=HILL and --cache=N.
 # What is wrong with a part is in CERT.I.fault, with a share in CERT.I.check.fault, and with a job
 # that has neither in slurm-ARRAY.out, where sbatch was called.
 #SBATCH --output=slurm-%A.out --open-mode=append
@@ -25,7 +25,9 @@ tune_start() {
     shift 2
     for word; do
         case $word in
-            --core=* | --cycles=* | --tasks=* | --length=* | --distance=*) rules="$rules $word" ;;
+            --core=* | --cycles=* | --tasks=* | --length=* | --distance=* | --hill=*)
+                rules="$rules $word"
+                ;;
             --cache=*) ;;
             --*) return ;;
         esac
@@ -48,7 +50,7 @@ run() {
     return "$status"
 }
 
-# Checks a share between two digests of the certificate: check_share CERT WORD..
+# Checks a share between two digests of the certificate: check_share WORD.., with $cert
 check_share() {
     sha256sum <"$cert"
     "$program" check --share "$part" "$@"

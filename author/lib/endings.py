@@ -56,6 +56,7 @@ def encoded(error):
 
 
 codecs.register_error("names", encoded)
+# At import: what is opened next must not get the number of a closed stream.
 open_streams()
 
 
@@ -94,7 +95,10 @@ def run_tool(main):
             signal.signal(signal_number, signal.default_int_handler)
     sys.unraisablehook = interrupt_again
     try:
-        status = main()
+        try:
+            status = main()
+        except SystemExit as end:
+            status = end.code
         sys.stdout.flush()
     except Fault as fault:
         status = say(STATUS_WORDS[fault.status], str(fault), fault.status)
@@ -106,6 +110,10 @@ def run_tool(main):
         if os.environ.get("CWTUNE_TRACEBACK") == "1":
             raise
         status = say("failed", words_of(error), 3)
+    try:
+        sys.stdout.flush()
+    except OSError:  # Python would write it once more at its end, and end with the status 120
+        os.dup2(os.open(os.devnull, os.O_WRONLY), 1)
     sys.exit(status)
 
 
@@ -120,8 +128,8 @@ def words_of(error):
         # A copy names two files; the second is the one that is written.
         name = error.filename2 or error.filename or "standard output"
         return f"{os.fsdecode(name) if isinstance(name, bytes) else name}: {error.strerror}"
-    place = traceback.extract_tb(error.__traceback__)[-1]
-    return (f"{type(error).__name__} in {pathlib.Path(place.filename).name}, line {place.lineno}: "
+    frame = traceback.extract_tb(error.__traceback__)[-1]
+    return (f"{type(error).__name__} in {pathlib.Path(frame.filename).name}, line {frame.lineno}: "
             f"{' '.join(str(error).split())[:200]} (a fault of this command: with "
             "CWTUNE_TRACEBACK=1 it says more)")
 

@@ -2,6 +2,8 @@
 import math
 from typing import NamedTuple
 
+GAIN, LOSS = "a gain", "a loss"
+
 
 def error_of_mean(numbers):
     """Returns the standard error of the mean of some numbers; 0 if there is only one."""
@@ -62,7 +64,7 @@ def gain_numbers(difference):
     """Returns a gain in percentage points, its error, and in words, by two standard errors."""
     percent, error = difference.mean(), difference.error()
     words = ("no difference that these fights show" if abs(percent) <= 2 * error
-             else "a gain" if percent > 0 else "a loss")
+             else GAIN if percent > 0 else LOSS)
     return {"percent": percent, "error": error, "words": words}
 
 

@@ -9,6 +9,7 @@ BLANKS = b" \t\r"
 KEPT, SLOT = ";@text ", re.compile(rf"\[({NAME})(?::([^\]\n]*))?\]")
 # A line of a template whose text `cwtune-adapt` wrote.
 ADAPTED = ";@adapted"
+MOST_VALUE = 65535
 
 
 class Grid:
@@ -84,7 +85,7 @@ def read_range(path, number, line):
             and all(re.fullmatch(rb"-?[0-9]{1,5}", word) for word in words[1:])):
         low, high, step, start = map(int, words[1:])
         values = range(low, high + 1, step) if step > 0 else ()
-        if start in values:
+        if start in values and max(map(abs, (low, high, step))) <= MOST_VALUE:
             return words[0].decode("latin-1"), values, start
     raise Fault(f"{path}: line {number} is not a range line: ;@tune NAME LOW HIGH STEP START, with "
                 "START one of the values")

@@ -159,7 +159,7 @@ def make_parser():
 
 def main():
     parser = make_parser()
-    args = parser.parse_mixed()
+    args = parser.parse_args()
     cert, template, why_unused = cert_inputs.read_tuning(args)
     if not args.opponents:
         reason = why_unused or "the opponents of the tuning are not there"

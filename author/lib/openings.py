@@ -3,14 +3,14 @@ import argparse, re
 from typing import NamedTuple
 
 from .endings import Fault
-from .places import FIELDS, MODIFIERS, OPCODES, PLACE
+from .grid import MOST_VALUE
+from .places import FIELDS, OPEN_MODIFIERS, OPEN_OPCODES, PLACE
 from .pmars.tokens import MODES, NAME
 from .slots import STRATEGY
 
 NUMBERS = re.compile(r"(-?[0-9]{1,5}):(-?[0-9]{1,5})(?::([0-9]{1,5}))?")
 FIELD = re.compile(rf"(?:{NAME}|[0-9]+)\.([A-Za-z_-][^.]*)(?:\.[0-9]*)?")
 LIST = re.compile(r"-?[0-9]{1,5}(?:,-?[0-9]{1,5})+")
-MOST_VALUE = 65535
 # Opcodes with two spellings.
 SAME = {"cmp": "seq"}
 
@@ -50,8 +50,8 @@ def opening_from(word):
         raise malformed(word)
     if match[2] in (None, "a", "b"):
         return Opening(word, place, numbers_from(word, values))
-    kind, known = {"mode": ("a mode", list(MODES)), "modifier": ("a modifier", MODIFIERS),
-                   "opcode": ("an opcode", OPCODES)}[match[2].rpartition("-")[2]]
+    kind, known = {"mode": ("a mode", list(MODES)), "modifier": ("a modifier", OPEN_MODIFIERS),
+                   "opcode": ("an opcode", OPEN_OPCODES)}[match[2].rpartition("-")[2]]
     texts = values.lower().split(",")
     if strange := [text for text in texts if text not in known]:
         raise argparse.ArgumentTypeError(f"{word}: {strange[0] or 'nothing'} is not {kind}; there "

@@ -57,7 +57,7 @@ class Room:
             if state.st_uid != os.geteuid():
                 raise untouched(f"{self.shown}/{name}", "of another user")
 
-    def place(self, name):
+    def arguments_of(self, name):
         """Returns the arguments by which the functions of `regular` open a file."""
         return {"path": name, "flags": os.O_NOFOLLOW, "folder": self.descriptor,
                 "shown": f"{self.shown}/{name}"}
@@ -144,7 +144,7 @@ class OwnFolder:
     def load(self, name, schema):
         """Returns what a file of JSON says by a schema. Raises Malformed or FileNotFoundError."""
         with self.room_of(name) as (room, file_name):
-            return from_json(schema, read_regular(MOST_JSON_BYTES, **room.place(file_name)))
+            return from_json(schema, read_regular(MOST_JSON_BYTES, **room.arguments_of(file_name)))
 
     def write_mark(self, mark):
         with self.whole_file(self.MARK) as file:
@@ -175,12 +175,12 @@ class OwnFolder:
         """Returns the size and the digest of a file, or None if it is not there."""
         try:
             with self.room_of(name) as (room, file_name):
-                return digest_of(**room.place(file_name))
+                return digest_of(**room.arguments_of(file_name))
         except FileNotFoundError:
             return None
 
     def sha256(self, name):
-        return sha256_of(**self.top.place(name))
+        return sha256_of(**self.top.arguments_of(name))
 
     def refuse_strange(self):
         """Refuses what the folder has in place of a file or a room of the command."""

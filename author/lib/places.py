@@ -17,17 +17,17 @@ from .pmars.tokens import MODES, NAME, code_of
 from .traced import Origin
 from .words import counted
 
-OPCODES = [word.lower() for word in tokens.OPCODES
-           if word not in tokens.P_SPACE_OPCODES + tokens.PSEUDO_OPCODES]
-MODIFIERS = [word.lower() for word in tokens.MODIFIERS]
+OPEN_OPCODES = [word.lower() for word in tokens.OPCODES
+                if word not in tokens.P_SPACE_OPCODES + tokens.PSEUDO_OPCODES]
+OPEN_MODIFIERS = [word.lower() for word in tokens.MODIFIERS]
 FIELDS = ["a", "b", "a-mode", "b-mode", "modifier", "opcode"]
 PLACE = (rf"({NAME}|[1-9][0-9]{{0,4}})(?:\.({'|'.join(sorted(FIELDS, reverse=True))}))?"
          r"(?:\.([1-9][0-9]{0,3}))?")
 # Labels, and the opcode or the directive.
 HEAD = re.compile(rf"\s*((?:{NAME}(?:\s*&\s*{NAME})*(?:\s*:\s*|\s+))*?)"
-                  rf"({'|'.join(OPCODES)}|org|end|equ|for|rof)(?![A-Za-z0-9_&])", re.I)
+                  rf"({'|'.join(OPEN_OPCODES)}|org|end|equ|for|rof)(?![A-Za-z0-9_&])", re.I)
 LONE_LABELS = re.compile(rf"\s*((?:{NAME}(?:\s*:\s*|\s+))+)")
-MODIFIER = re.compile(rf"\s*\.\s*({'|'.join(MODIFIERS)})(?![A-Za-z0-9_])", re.I)
+MODIFIER = re.compile(rf"\s*\.\s*({'|'.join(OPEN_MODIFIERS)})(?![A-Za-z0-9_])", re.I)
 OPERAND = re.compile(rf"\s*([{re.escape(MODES)}]?)\s*(.*?)\s*", re.S)
 PLAIN = re.compile(r"\+?(-?[0-9]+)|\(\s*\+?(-?[0-9]+)\s*\)")
 # A number in an expression. That in `step-(-2)` is negative.
@@ -157,10 +157,10 @@ def lines_of(text, adapted=None):
         if word != "equ":  # the last name before FOR is the block's counter
             waiting = waiting + (names[:-1] if word == "for" else names)
         if word:
-            labels = waiting if word in OPCODES else names if word == "equ" else []
+            labels = waiting if word in OPEN_OPCODES else names if word == "equ" else []
             lines.append(Line(number_of(adapted, row, head.start(2)), row, line, labels, word,
                               fields_of(code, head, word), {}, depth, adapted, numbers))
-        waiting = [] if word in OPCODES else waiting
+        waiting = [] if word in OPEN_OPCODES else waiting
         depth += word == "for"
     # In place: each line has this set.
     numbers.update(line.number for line in lines)
@@ -214,7 +214,7 @@ def fields_of(code, head, word):
     rest = head.end()
     if word == "rof" or word == "equ" and not names_in(head[1]):
         return {}
-    if word not in OPCODES:
+    if word not in OPEN_OPCODES:
         end = len(code.rstrip())
         start = len(code) - len(code[rest:].lstrip())
         return {"equ" if word == "equ" else "a": Span(start, max(start, end))}
@@ -293,7 +293,7 @@ def line_of(path, lines, name, field):
             raise Fault(f"{path}, line {name}: nothing there can be opened")
         return next((line for line in found if (field or "equ") in line.fields), found[0])
     equs = [line for line in lines if line.word == "equ" and not line.depth]
-    instructions = [line for line in lines if line.word in OPCODES]
+    instructions = [line for line in lines if line.word in OPEN_OPCODES]
     named = [line for line in equs + instructions if name in line.labels]
     if not named and (used := line_written_out(lines, name)):
         spots = [spot.name for side in ("a", "b") if side in used.fields and field in (None, side)

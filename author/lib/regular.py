@@ -35,20 +35,20 @@ def open_regular(path, flags=0, folder=None, shown=None):
     return open(descriptor, "rb")
 
 
-def read_regular(most, *place, **more):
+def read_regular(most, *path, **more):
     """Returns what a regular file has. Raises a Malformed if that is more than `most` bytes."""
-    with open_regular(*place, **more) as file:
+    with open_regular(*path, **more) as file:
         if os.fstat(file.fileno()).st_size > most or len(text := file.read(most + 1)) > most:
             raise Malformed(f"more than {most} bytes")
         return text
 
 
-def digest_of(*place, **more):
+def digest_of(*path, **more):
     """Returns the size and the digest of a file as CERT.inputs has them."""
-    with open_regular(*place, **more) as file:
+    with open_regular(*path, **more) as file:
         size = os.fstat(file.fileno()).st_size
         return f"{size} {hashlib.file_digest(file, 'sha256').hexdigest()}"
 
 
-def sha256_of(*place, **more):
-    return digest_of(*place, **more).split()[1]
+def sha256_of(*path, **more):
+    return digest_of(*path, **more).split()[1]

@@ -80,7 +80,7 @@ class Warriors:
         def load_file(setting):
             return assemble(args.program, *rules, f"--setting={setting}", "--", args.template)[0]
 
-        with concurrent.futures.ThreadPoolExecutor(os.cpu_count()) as pool:
+        with concurrent.futures.ThreadPoolExecutor(len(os.sched_getaffinity(0))) as pool:
             self.load_files = dict(zip(settings, pool.map(load_file, settings)))
 
     def are_one(self, settings):
@@ -178,7 +178,7 @@ def make_parser():
 
 def main():
     parser = make_parser()
-    args = parser.parse_mixed()
+    args = parser.parse_args()
     cert, template, why_unused = cert_inputs.read_tuning(args)
     if args.schedule is None:
         parser.error(f"give SCHEDULE: {why_unused or 'the schedule of the tuning is not there'}")

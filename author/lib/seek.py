@@ -20,7 +20,7 @@ from .adapt import adapted_for, adapted_opponents, read_text
 from .endings import Fault, note, tell
 from .gain import gain_numbers, gain_of, gain_text
 from .grid import Grid
-from .program import run_program
+from .program import assemble_bytes, load_file_of, rules_of
 from .race import Race
 from .race.fights import Arena
 from .race.words import add_budget, budget_of
@@ -118,8 +118,8 @@ def main():
     if not grid.names:
         raise Fault(f"{args.template}: no range line, which begins `;@tune` at the left margin "
                     "(cwtune-vary makes a template of a text with EQU lines)")
-    # Refuses a program that cannot be run, before anything is raced.
-    run_program(args.program, "--version")
+    # Refuses a program that cannot be run, and rules of no fight, before anything is raced.
+    load_file_of("DAT 0", assemble_bytes(args.program, b"DAT 0\n", *rules_of(args).words()))
     weights = weights_by_opponent(args.schedule, len(args.opponents))
     opponents = [path for path, weight in zip(args.opponents, weights) if weight]
     weights = list(filter(None, weights))

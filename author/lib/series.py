@@ -2,7 +2,7 @@
 
 Example: cwtune-series 4321 20 3 > fights.csv
 """
-import argparse
+import argparse, re
 
 from .program import Rules, rules_of
 from .tuning_files import MOST_FIGHTS, MOST_OPPONENTS, MOST_WEIGHT, Fight, schedule_text
@@ -24,7 +24,7 @@ def series_fights(seed, rounds, rules, weights):
 
 
 def weights_of(word):
-    weights = [int(part) if part.isdecimal() else 0 for part in word.split(",")]
+    weights = [int(part) if re.fullmatch("[0-9]{1,4}", part) else 0 for part in word.split(",")]
     if not all(1 <= weight <= MOST_WEIGHT for weight in weights):
         raise argparse.ArgumentTypeError(f"{word} is not a list of 1 to {MOST_WEIGHT}, as 2,1,1")
     return weights

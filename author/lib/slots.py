@@ -92,8 +92,8 @@ def author_lines(path, lines, names):
     """Returns the author's lines of a template, each with its slots, if any, and the names of the
     constants that have one. Their range lines are left out, and the line `ADAPTED`."""
     own, index = [], 0
-    slots_at = {number: slots_of(line.removeprefix(KEPT), names)
-                for number, line in enumerate(lines) if line.startswith(KEPT)}
+    slots_at = {row: slots_of(line.removeprefix(KEPT), names)
+                for row, line in enumerate(lines) if line.startswith(KEPT)}
     with_slot = {slot.name for slots in slots_at.values() for slot in slots}
     while index < len(lines):
         line, slots, index = lines[index], slots_at.get(index), index + 1

@@ -4,7 +4,7 @@ A file that is none of these is refused in a few words; what exactly is wrong wi
 says. A setting is its index here, as in the output of `cwtune`; `values_of_settings` of a template
 has the values of each.
 """
-import array, bisect, collections.abc, contextlib, csv, functools, itertools, math, os, re
+import array, bisect, collections.abc, contextlib, csv, functools, itertools, math, os, re, sys
 from typing import NamedTuple
 
 from .endings import Fault, escaped
@@ -18,6 +18,8 @@ MOST_TEMPLATE_BYTES, MOST_CONSTANTS, MOST_SETTINGS = 65536, 8, 1000000
 MOST_FIGHTS, MOST_WEIGHT, MOST_OPPONENTS, MOST_KEPT = 10000, 1000, 64, 1000
 # The points of a cap row that lists a fight.
 LISTED = re.compile(r"[0-9]{1,10}:[013](?: [0-9]{1,10}:[013])*")
+# A field may have any length.
+csv.field_size_limit(sys.maxsize)
 
 
 class TooManySettings(Fault):
@@ -127,7 +129,7 @@ class AnyCertificate:
     certificate may have a million rows, so these are kept in arrays: `twins` has for each setting
     the one whose row has its fights, itself for a cap row, and -1 if it does not assemble.
     What the cap row of a setting lists is in `listed`, the fights, and `made`, the points, from the
-    place `starts[setting]` on.
+    index `starts[setting]` on.
     """
 
     def __init__(self, path):
@@ -193,8 +195,8 @@ class AnyCertificate:
 
     def items(self, setting):
         twin = self.twin(setting)
-        place = slice(self.starts[twin], self.starts[twin + 1])
-        return zip(self.listed[place], self.made[place])
+        listed_part = slice(self.starts[twin], self.starts[twin + 1])
+        return zip(self.listed[listed_part], self.made[listed_part])
 
     def points(self, setting):
         """Returns the points of a setting, a dict by fight, or None if it does not assemble."""
@@ -220,10 +222,10 @@ class Ranked(collections.abc.Sequence):
     def __len__(self):
         return len(self.keys)
 
-    def __getitem__(self, place):
-        if isinstance(place, slice):
-            return [self[index] for index in range(*place.indices(len(self)))]
-        return -(self.keys[place] >> 32), self.keys[place] & 0xffffffff
+    def __getitem__(self, rank_index):
+        if isinstance(rank_index, slice):
+            return [self[index] for index in range(*rank_index.indices(len(self)))]
+        return -(self.keys[rank_index] >> 32), self.keys[rank_index] & 0xffffffff
 
 
 class Ranking(NamedTuple):
@@ -280,9 +282,9 @@ class Certificate(AnyCertificate):
         return Ranking(full, dropped, bisect.bisect_left(full.keys, first_dropped))
 
 
-def read_records(path):
+def read_records(path, errors="strict"):
     """Yields the records of a comma-separated text; empty lines are not records."""
-    with open(path, newline="", encoding="utf-8-sig") as file:
+    with open(path, newline="", encoding="utf-8-sig", errors=errors) as file:
         yield from filter(None, csv.reader(file))
 
 

@@ -15,11 +15,11 @@ Example: cwtune-vary my.red STEP=5:4000:10 'throw.a-mode=<,>,{' > my-template.re
 import itertools, math, re, sys
 from typing import NamedTuple
 
-from .adapt import Adapted, adapted_by
+from .adapt import Adapted, adapted_by, read_text
 from .endings import Fault, note
 from .grid import ADAPTED, KEPT, is_range_line
 from .openings import Constant, constant_of, opening_from
-from .places import FIELDS, OPCODES, Span, Spot, lines_of, spot_of, spots_in
+from .places import FIELDS, OPEN_OPCODES, Span, Spot, lines_of, spot_of, spots_in
 from .pmars.tokens import code_of
 from .program import assemble_bytes, load_file_of, refuse_other_warrior, rules_of
 from .slots import code_of_kept
@@ -110,7 +110,7 @@ def heads_of_prose(lines):
     for index, head in enumerate(lines):
         if head.word == "for" and head.spelled(head.fields["a"]) == "0":
             block = itertools.takewhile(lambda line: line.depth > head.depth, lines[index + 1:])
-            if not any(line.word in OPCODES for line in block):
+            if not any(line.word in OPEN_OPCODES for line in block):
                 heads.append(head.row)
     return heads
 
@@ -159,8 +159,7 @@ def source_of(parser, args):
         parser.error(f"{twice[0]} has two ranges")
     if len(names) > MOST_CONSTANTS:
         parser.error(f"a template has at most {MOST_CONSTANTS} constants")
-    with open(args.warrior, "rb") as file:
-        text = file.read()
+    text = read_text(args.warrior)
     if any(map(is_range_line, text.split(b"\n"))):
         raise Fault(f"{args.warrior}: it has range lines, so it is a template already")
     adapted, said = adapted_by(args, args.warrior, text)
@@ -182,7 +181,7 @@ def checked(args, source):
 
 def main():
     parser = make_parser()
-    args = parser.parse_mixed()
+    args = parser.parse_args()
     source = source_of(parser, args)
     if not args.ranges:
         load_file_of_source(args, source)

@@ -23,7 +23,7 @@ class Parser(argparse.ArgumentParser):
     # What stands before a name with a dash while argparse reads it. No word of a command has it.
     FENCE = "\0"
 
-    def parse_mixed(self):
+    def parse_args(self):
         """Returns the words of the command, with options between files."""
         words = sys.argv[1:]
         if "--" in words:
@@ -108,7 +108,7 @@ SHARED = {
     "--anew": {"action": "store_true", "help": "throw away what is done, and begin again"},
     "--as-is": {"action": "store_true",
                 "help": "do not adapt a text that pMARS reads otherwise (cwtune-adapt)"},
-    "--jobs": {"type": number_from(1), "default": os.cpu_count(), "metavar": "N",
+    "--jobs": {"type": number_from(1), "default": len(os.sched_getaffinity(0)), "metavar": "N",
                "help": "jobs that run side by side, on each host "
                "[default: the processors of this one]"},
     "--json": {"action": "store_true",

@@ -26,6 +26,7 @@ def whole_file(path, mode="w"):
             with open(path, mode) as file:
                 yield file
             return
+        # NAME.whole.N.new is what `cwtune-spread --merge` puts together.
         remove_left(target.parent, rf"{re.escape(target.name)}(\.whole)?\.(\d+)\.new")
         folder = os.open(target.parent, os.O_PATH | os.O_DIRECTORY)
         try:

@@ -11,6 +11,7 @@ from .trial import SECONDS
 
 NO_CERT = (3, "", "failed: CERT.2: No such file or directory\n")
 NO_REPORT = "failed: no result for part 2 of 3 (CERT.2.report is cut, or not there)\n"
+BELOW_ZERO = b"vectors 42\ncandidates 42\nbest -\nconstants -\ntotal below 0 of 9\nfights 0 of 9\n"
 # What a stand-in for GNU parallel does first: if it is asked which hosts answer, this one does.
 PROBED = """case "$*" in *--nonall*) printf ':\\tready\\n'; exit;; esac\n"""
 ARCHIVES = """printf damaged >1.tar
@@ -78,8 +79,9 @@ class Merging(SpreadTrial):
         status, out, _ = self.spread("--merge=3", "--check", *DECOY)
         self.same("--merge --check", (0, "accepted"), (status, out.splitlines()[-1][:8]))
         self.clear()
-        self.write("CERT.2.report", b"")
-        self.merged("without a report", (3, "", NO_REPORT))
+        for report in [b"", BELOW_ZERO]:
+            self.write("CERT.2.report", report)
+            self.merged("without a report", (3, "", NO_REPORT))
         for text, fault in [("note\nfailed: OutOfMemory\n", "failed: OutOfMemory"),
                             ("slurm.sh: cwtune: not found\n", "slurm.sh: cwtune: not found")]:
             self.write("CERT.2.fault", text)
@@ -141,13 +143,16 @@ class Merging(SpreadTrial):
         ]:
             self.write("CERT.2", text)
             self.merged(f"a certificate that is {name}", (3, "", f"failed: {fault}\n"))
+        self.write("CERT.2", cert.replace(b":0\n", b":0 9:0\n", 1))
+        fault = "error: CERT is not a certificate of the schedule schedule.csv\n"
+        self.merged("a fight too many", (2, "", fault), "--merge=3", "--keep=2", *DECOY)
         (self.folder / "CERT.2").unlink()
         self.merged("a certificate that is missing", NO_CERT)
 
     def test_merged_rankings(self):
         self.write_ranked()
         tuned = self.tuned(RANKED)
-        words = [*RANKED[len(RULES):], *RULES]
+        words = [*RANKED[len(RULES):], "--hill=nano", *RULES]
         self.run_jobs(4, *words)
         below = [path.name for path in self.folder.glob("CERT.?")
                  if b"\nnone,-,4\n" in path.read_bytes()]

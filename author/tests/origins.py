@@ -1,7 +1,7 @@
 """Gives the commands certificates with their CERT.inputs, and files and rules of another tuning."""
 import os
 
-from author.lib.program import run_program
+from author.lib.program import version_of
 from gate.lib import cert_inputs
 
 from .trial import Refusal, Trial, usage_errors
@@ -90,11 +90,10 @@ class Origins(Trial):
                 self.refused(usage_errors(words, [("", f"give {missing}: {why_unused}")]))
 
     def test_writers(self):
-        version_line = run_program(self.program, "--version").stdout.decode()
-        version = version_line.removeprefix("cwtune ").strip()
         for words in [["--all", *TUNE], TUNE]:
             status = self.call("cwtune-spread --jobs=2", *words).status
-            expected = cert_inputs.text_of(["tune", *words], self.folder, version)
+            expected = cert_inputs.text_of(["tune", *words], self.folder,
+                                           version_of(self.program))
             self.same(f"cwtune-spread {words[0]}", (0, expected),
                       (status, self.read("cert.inputs")))
         self.same("cwtune-spread leaves nothing else", sorted([*FILES, "cert", "cert.inputs"]),

@@ -14,7 +14,7 @@ from author.lib.words import add_built, add_number, module_parser
 
 from .spread_trial import DECOY, SpreadTrial
 from .study_trial import FEW, StudyTrial
-from .trial import SECONDS, came_of, command, play, removed
+from .trial import SECONDS, SEED, came_of, command, play, removed
 
 FAULTS = tuple(f"{word}: " for word in STATUS_WORDS.values())
 STUDY = ["t.red", "all"]
@@ -150,7 +150,8 @@ def in_process(module, words, folder):
             finally:
                 os._exit(99)
         status = os.waitstatus_to_exitcode(os.waitpid(pid, 0)[1])
-        out.seek(0), err.seek(0)
+        out.seek(0)
+        err.seek(0)
         return status, *(file.read().decode(errors="replace") for file in (out, err))
 
 
@@ -383,7 +384,7 @@ class OwnFolders(SpreadTrial, StudyTrial):
         self.study(*STUDY)
         kinds.append(Fuzz(self, study, "t.study", [*FEW, *STUDY]))
         for index in range(self.COUNT):
-            kinds[index % 3].play(random.Random(86 * 1000003 + index))
+            kinds[index % 3].play(random.Random(SEED + index))
 
 
 def main():

@@ -28,6 +28,8 @@ REFUSALS = [
     Refusal("cwtune-seek none s.csv dat.red", 3, "failed: none: No such file or directory"),
     Refusal("cwtune-seek plane.red two.csv dat.red imp.red", 2,
             "error: two.csv has fights against more opponents than were given"),
+    Refusal(f"cwtune-seek --distance=4001 {RACED}", 1,
+            "refused: DAT 0 does not assemble: Rules Distance"),
     *usage_errors(f"cwtune-seek {RACED}", [
         ("--fights=999", "argument --fights: 999 is not 1000 or more"),
         ("--minutes=0", "argument --minutes: 0 is not 0.01 to 100000"),

@@ -71,6 +71,7 @@ WRONG_TEMPLATES = {
     "65537-bytes.red": b";" * 65537,
     "65546-bytes.red": b"DAT #, 0\n" + b";" * 65537,
     "four-words.red": b"NOP\n;@tune K 0 5 1\n",
+    "value-65536.red": b";@tune K 65535 65536 1 65535\nMOV 0, K\n",
     "constant-twice.red": b";@tune K 0 5 1 1\n;@tune K 0 5 1 1\nMOV 0, K\n",
     "too-many-settings.red": b"".join(b";@tune %c 0 9999 1 0\n" % name for name in b"ABC"),
 }
@@ -118,8 +119,9 @@ OF_WRONG_TEMPLATES = [
     Refusal("cwtune-warrior --setting=start 65546-bytes.red", 1,
             "refused: 65546-bytes.red: more than 65536 bytes"),
     *refusals_of("cwtune-scores step.cert schedule.csv --template", 1, [
-        ("four-words.red", "refused: four-words.red: line 2 is not a range line: ;@tune NAME LOW "
-                           "HIGH STEP START, with START one of the values"),
+        *((name, f"refused: {name}: line {number} is not a range line: ;@tune NAME LOW HIGH STEP "
+                 "START, with START one of the values")
+          for name, number in [("four-words.red", 2), ("value-65536.red", 1)]),
         ("constant-twice.red", "refused: constant-twice.red: two range lines of one constant"),
         ("too-many-settings.red", "refused: too-many-settings.red: more than 1000000 settings")]),
 ]

@@ -108,6 +108,14 @@ class Commands(Trial):
             self.same(f"{name} --help: the statuses", 1, out.count("\nExit status"))
             self.same(f"{name} --help: an example", 1, out.count(f"\nExample: {name} "))
 
+    def test_full(self):
+        for words, fault in {"series 1234 25 5": "standard output: No space left on device",
+                             "files step.red none": "none: No such file or directory"}.items():
+            words = f"PYTHONSAFEPATH=1 PYTHONUNBUFFERED= {AUTHOR}/cwtune-{words} >/dev/full"
+            completed = subprocess.run(words, shell=True, cwd=TUNING, capture_output=True,
+                                       text=True, timeout=SECONDS)
+            self.same(words, (3, f"failed: {fault}\n"), (completed.returncode, completed.stderr))
+
     def test_closed(self):
         for name in COMMANDS:
             completed = subprocess.run(command(name, "--help"), stderr=subprocess.PIPE, text=True,

@@ -12,13 +12,13 @@ CHECK_ONLY = ["--check-only", *DECOY]
 OTHER_CHECK = " is cut, or of another certificate, number of shares or --keep)\n"
 
 
-def damaged(row):
-    """Returns a row that says something wrong of its setting."""
+def damaged(row, more=""):
+    """Returns a row that says something wrong of its setting, with `more` in the list of a cap."""
     kind, setting, content = row.strip().split(",")
     if kind == "same":
         return f"same,{setting},{setting}\n"
     if kind == "cap":
-        return f"cap,{setting},{content.replace(':0', ':3', 1)}\n"
+        return f"cap,{setting},{content.replace(':0', ':3', 1)}{more}\n"
     return f"{kind},1,9\n"
 
 
@@ -41,10 +41,11 @@ class Sharing(SpreadTrial):
         rows = cert.decode().splitlines(keepends=True)
         same = next(index for index, row in enumerate(rows) if row.startswith("same"))
         caps = [index for index, row in enumerate(rows) if row.startswith("cap") and ":0" in row]
-        for name, indices in [("the count", [0]), ("the best row", [1]), ("a same row", [same]),
-                              ("a cap row", [caps[-1]]), ("a same and a cap row", [same, caps[-1]]),
-                              ("two cap rows", [caps[0], caps[-1]])]:
-            self.write("CERT", "".join(damaged(row) if index in indices else row
+        for name, indices, *more in [
+                ("the count", [0]), ("the best row", [1]), ("a same row", [same]),
+                ("a cap row", [caps[-1]]), ("a same and a cap row", [same, caps[-1]]),
+                ("two long cap rows", [caps[0], caps[-1]], " 0:0" * 40000)]:
+            self.write("CERT", "".join(damaged(row, *more) if index in indices else row
                                        for index, row in enumerate(rows)))
             status, verdict = self.verdict(DECOY)
             self.same(f"rejected: {name}", (1, (1, verdict, ""), []),
@@ -61,8 +62,7 @@ class Sharing(SpreadTrial):
 
     def test_after_kills(self):
         _, line = self.tune_decoy()
-        list(self.kill_by_chance(66, range(0, 12, 2), 0.03, "--shares=16", *CHECK_ONLY,
-                                 kind="shares"))
+        list(self.kill_by_chance(range(0, 12, 2), 0.03, "--shares=16", *CHECK_ONLY, kind="shares"))
         self.same("six kills change nothing", ((0, line, ""), []),
                   (self.spread("--jobs=2", *CHECK_ONLY), self.left()))
 

@@ -5,7 +5,7 @@ from typing import NamedTuple
 from gate.lib import inputs
 from gate.lib.inputs import RULES
 
-from .trial import EXAMPLES, SECONDS, Trial, removed, wait_until
+from .trial import EXAMPLES, SECONDS, SEED, Trial, removed, wait_until
 
 OPPONENTS = ["dwarf.red", "scanner.red", "core-clear.red"]
 # The words of tunings: of the decoy of examples/tuning/, also in parts, of a template that a trial
@@ -97,10 +97,10 @@ class SpreadTrial(Trial):
         for name in ["CERT", "CERT.parts"]:
             removed(self.folder / name)
 
-    def kill_by_chance(self, seed, moments, seconds, *words, kind="parts"):
+    def kill_by_chance(self, moments, seconds, *words, kind="parts"):
         """Kills `cwtune-spread` within `seconds` after each of `moments`, counts of done pieces.
         Yields after each, and then compares what it said."""
-        dice, kills = random.Random(seed), []
+        dice, kills = random.Random(SEED), []
         for pieces in moments:
             signal_number = dice.choice([signal.SIGKILL, signal.SIGINT, signal.SIGTERM])
             jobs = f"--jobs={dice.randint(1, 4)}"

@@ -31,7 +31,7 @@ class Spreading(SpreadTrial):
         result, check_status = unbroken
         self.same("an unbroken tuning is accepted", (0, 0), (result[0], check_status))
         self.clear()
-        for _ in self.kill_by_chance(45, range(10), 0.05, *TWELVE):
+        for _ in self.kill_by_chance(range(10), 0.05, *TWELVE):
             # A kill while `tune` looks at the inputs leaves an empty CERT.
             is_whole = not self.read("CERT") or self.check(DECOY) == 0
             self.same("a kill leaves no half certificate", True, is_whole)

@@ -51,7 +51,7 @@ class Finder:
         if name == "author.lib.endings":
             signal.raise_signal(signal.SIGINT)
 sys.meta_path.insert(0, Finder())
-start.run("files")
+start.run("cwtune-files")
 """
 READ = """from author.lib import files, watching; import sys
 watching.PACE.pause = 0; sys.argv = ['f', 'big.cert']; files.main()
@@ -59,7 +59,7 @@ watching.PACE.pause = 0; sys.argv = ['f', 'big.cert']; files.main()
 # Runs a command for a user without a home.
 HOMELESS = """import os, pwd; from author.lib import start
 for name in ["HOME", "XDG_CACHE_HOME"]: os.environ.pop(name, None)
-pwd.getpwuid = {}.__getitem__; start.run("adapt")
+pwd.getpwuid = {}.__getitem__; start.run("cwtune-adapt")
 """
 # Starts a command as a Python 3.10 does.
 OLD = """import runpy, sys; sys.version_info = (3, 10, 4, 'final', 0)
@@ -95,6 +95,8 @@ class Strangers(Trial):
             "cwtune-scores -- -cert -s.csv", "cwtune-vary -- -w.red K=0:1",
             "cwtune-holdout --rounds=2 -- -t.red -cert --program=x.red",
             "cwtune-warrior -- -t.red -cert", "cwtune-files -- -t.red --program=x.red",
+            "cwtune-spread t.red s.csv c dat.red --jobs=1 dat.red",
+            "cwtune-warrior t.red --core=8000 -- -cert",
         ]:
             self.same(words, (0, False), (self.call(words).status, (self.folder / "ran").exists()))
 
@@ -159,7 +161,7 @@ class Strangers(Trial):
         os.symlink("/dev/zero", self.folder / "zero.red")
         self.refused(Refusal(words, 2, f"error: {name} is not a regular file") for words, name in [
             (f"{STUDY} t.red all", "all/a.red"), (f"{STUDY} t.red zero.red", "zero.red"),
-            (f"{STUDY} zero.red dat.red", "zero.red"),
+            (f"{STUDY} zero.red dat.red", "zero.red"), ("cwtune-vary all/a.red", "all/a.red"),
             ("cwtune-spread t.red s.csv CERT all/a.red", "all/a.red"),
             ("cwtune-spread --check-only t.red s.csv zero.red dat.red", "zero.red")])
         for name in ["C.1", "C.1.report", "C.1.fault"]:
@@ -312,7 +314,7 @@ echo $$ >> {self.folder}/pids; exec sleep 99""")
     def test_signals_in_open(self):
         os.mkfifo(self.folder / "pipe")
         for signal_number, words in itertools.product([signal.SIGINT, signal.SIGHUP], [
-                "cwtune-files pipe", "cwtune-vary pipe", "cwtune-scores pipe s.csv",
+                "cwtune-files pipe", "cwtune-scores pipe s.csv",
                 "cwtune-landscape pipe step.cert x.svg"]):
             with self.started(words, stderr=subprocess.PIPE) as job:
                 # It is waiting in the open of the pipe.

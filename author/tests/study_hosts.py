@@ -14,13 +14,13 @@ from .trial import came_of
 
 # A setting whose aim is 0 does not assemble.
 HOLED = PLANE.replace("aim -4 4 1 0", "aim -20 20 1 4").replace("#aim", "#aim/aim*aim")
-FEW = PLANE.replace("STEP 1 9 2 5", "STEP 3 5 2 5").replace("aim -4 4 1 0", "aim 3 3 1 3")
+THREE = PLANE.replace("STEP 1 9 2 5", "STEP 3 5 2 5").replace("aim -4 4 1 0", "aim 3 3 1 3")
 
 
 class RaceTrial(StudyTrial):
     """A trial of races, with a file of two hosts."""
 
-    FILES = StudyTrial.FILES | {"holed.red": HOLED, "few.red": FEW, "hosts": "good\nshared\n"}
+    FILES = StudyTrial.FILES | {"holed.red": HOLED, "few.red": THREE, "hosts": "good\nshared\n"}
 
     def arena(self, folder, program, hosts):
         """Returns an arena for holed.red."""

@@ -6,22 +6,22 @@ import fcntl, json, os, random, shutil, signal, subprocess, time
 from author.lib import grid, tuning_files
 
 from .study_trial import FEW, OPPONENTS, PLANE, TEMPLATE, WARRIOR, StudyTrial
-from .trial import AUTHOR, SECONDS, Refusal, refusals_of, usage_errors, wait_until
+from .trial import AUTHOR, SECONDS, SEED, Refusal, refusals_of, usage_errors, wait_until
+from .varying import FORM
 
 STAGES = ["inputs", "schedule", "template", "best", "fresh 1", "fresh 2", "fresh 3", "fresh 4",
           "fresh 5", "winner", "report"]
 MARK = '{"by": "cwtune-study %d", "of": %s, "stages": {}}'
 FOREIGN = "error: mine is not a folder of this cwtune-study, and is not touched{}\n"
-FORM = ("is not of the form PLACE=LOW:HIGH:STEP or PLACE=VALUE,VALUE, as STEP=5:4000:10 or "
-        "throw.b=-40,-25, without blanks")
 REFUSALS = [
     *usage_errors("cwtune-study", [
         ("t.red", "OPPONENT is missing: files, or a folder with files *.red"),
         ("STEP=1:2 K=1:2", "WARRIOR is missing: a template, or a warrior with words PLACE=VALUES"),
-        *((f"w.red all {word}", f"{word} {FORM}") for word in ["STEP=1", "s1-b=1:9"]),
+        *((f"w.red all {word}", f"{word}{FORM}") for word in ["STEP=1", "s1-b=1:9"]),
         ("w.red all s1.mode=<,>",
          "s1.mode=<,>: there is no field mode; there are a b a-mode b-mode modifier opcode"),
         ("w.red all STEP=1:9 STEP=1:9", "STEP has two ranges"),
+        (f"t.red all={'9' * 5000}", f"all={'9' * 5000}: the weight of all is not 1 to 1000"),
         (f"t.red {'all ' * 22}", "66 opponents; at most 64"),
         ("--rounds=4000 t.red all", "--rounds 4000 against 3 opponents: more than 10000 fights"),
         ("--fresh=4000 t.red all", "--fresh 4000 against 3 opponents: more than 10000 fights"),
@@ -217,7 +217,7 @@ class StudyOfPlane(StudyTrial):
 
     def test_kills_of_races(self):
         """Kills a race at random times, and compares what it makes with an unbroken one."""
-        unbroken, dice = self.report("p"), random.Random(69)
+        unbroken, dice = self.report("p"), random.Random(SEED)
         shutil.rmtree(self.folder / "p.study")
         for count in range(20):
             with self.begin(*self.STUDIED) as job:
@@ -283,7 +283,7 @@ class Studying(StudyTrial):
         self.study("p.red", "all")
         unbroken, log = self.read("p.study/report.json"), self.read("p.study/log.txt")
         shutil.rmtree(self.folder / "p.study")
-        dice = random.Random(69)
+        dice = random.Random(SEED)
         for count, name in enumerate(STAGES, 1):
             with self.begin("p.red", "all") as job:
                 wait_until(lambda: len(self.stages("p")) >= count, job)

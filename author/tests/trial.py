@@ -14,6 +14,7 @@ AUTHOR = pathlib.Path(__file__).resolve().parents[1]
 EXAMPLES = AUTHOR.parent / "examples"
 TUNING = EXAMPLES / "tuning"
 SECONDS = 120
+SEED = 69
 # The commands that take no --program.
 WITHOUT_PROGRAM = ["cwtune-files", "cwtune-landscape", "cwtune-series"]
 # Fails without matplotlib, and with a Python that is too old for the commands.

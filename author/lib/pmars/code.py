@@ -14,7 +14,7 @@ DEFAULTS = {**dict.fromkeys(["DAT", "NOP"], ("F", "F", "F")),
             **dict.fromkeys(["SLT", "LDP", "STP"], ("AB", "B", "B"))}
 ONE_OPERAND = ["SPL", "JMP", "NOP"]
 # What is read next of an instruction; a REST comes after the first token of an operand.
-State = enum.Enum("State", "MODIFIER_OR_A MODIFIER A A_REST B REST")
+Awaited = enum.Enum("Awaited", "MODIFIER_OR_A MODIFIER A A_REST B REST")
 
 
 class Operand:
@@ -39,7 +39,7 @@ class Instruction:
         self.modifier, self.head_roots, self.has_value = "", {self.root}, False
         self.a, self.b = Operand(), Operand()
         rest = Chars(code.chars.text[opcode.end:], code.chars.roots[opcode.end:])
-        self.read(rest, State.REST if self.is_pseudo else State.MODIFIER_OR_A)
+        self.read(rest, Awaited.REST if self.is_pseudo else Awaited.MODIFIER_OR_A)
 
     def fault(self, message):
         return PmarsFault(self.code.index, message)
@@ -48,7 +48,7 @@ class Instruction:
         """Reads characters from a state on. Returns the state at their end."""
         at = 0
         while True:
-            if state not in (State.A_REST, State.REST):
+            if state not in (Awaited.A_REST, Awaited.REST):
                 self.has_value = False
             token = token_at(chars.text, at)
             self.text.count_token()
@@ -59,7 +59,7 @@ class Instruction:
     @staticmethod
     def rest_of(state):
         """Returns the state after the first token of an operand."""
-        return State.REST if state in (State.B, State.REST) else State.A_REST
+        return Awaited.REST if state in (Awaited.B, Awaited.REST) else Awaited.A_REST
 
     def read_name(self, token, roots, state):
         """Reads what a name stands for. Returns the state after it."""
@@ -86,21 +86,21 @@ class Instruction:
     def step(self, token, roots, state):
         """Reads a token and the roots of its characters. Returns the next state and column."""
         root = roots[0]
-        if state == State.MODIFIER:
+        if state == Awaited.MODIFIER:
             return self.read_modifier(token, root), token.end
         if token.kind == "name":
             return self.read_name(token, roots, state), token.end
-        if state in (State.A_REST, State.REST):
+        if state in (Awaited.A_REST, Awaited.REST):
             return self.read_rest(token, roots, state), token.end
         if token.kind == "mode":
-            operand = self.b if state == State.B else self.a
+            operand = self.b if state == Awaited.B else self.a
             operand.mode, operand.mode_root = token.text, root
             return self.rest_of(state), token.end
         if token.kind in ("number", "sign"):
             return self.rest_of(state), token.start
-        if token.kind == "dot" and state == State.MODIFIER_OR_A:
+        if token.kind == "dot" and state == Awaited.MODIFIER_OR_A:
             self.head_roots.add(root)
-            return State.MODIFIER, token.end
+            return Awaited.MODIFIER, token.end
         raise self.fault(f"{token.text} is at a wrong place")
 
     def read_modifier(self, token, root):
@@ -108,12 +108,12 @@ class Instruction:
         self.head_roots.add(root)
         if self.modifier not in MODIFIERS:
             raise self.fault(f"{token.text} is not a modifier")
-        return State.A
+        return Awaited.A
 
     def read_rest(self, token, roots, state):
         """Reads a token of an expression, or the comma after the A-operand."""
-        if token.kind == "comma" and state == State.A_REST:
-            return State.B
+        if token.kind == "comma" and state == Awaited.A_REST:
+            return Awaited.B
         if token.kind not in ("number", "sign") and token.text not in OPERATORS:
             raise self.fault(f"{token.text} is at a wrong place")
         self.add(state, token.text, roots)
@@ -122,7 +122,7 @@ class Instruction:
         return state
 
     def add(self, state, text, roots):
-        chars = (self.a if state == State.A_REST else self.b).chars
+        chars = (self.a if state == Awaited.A_REST else self.b).chars
         chars.extend(text, roots)
         self.has_value = True
 

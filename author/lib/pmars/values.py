@@ -63,7 +63,7 @@ BINARY = {"+": lambda left, right: wrapped(left + right),
           "<": lambda left, right: int(left < right), ">": lambda left, right: int(left > right),
           "<=": lambda left, right: int(left <= right),
           ">=": lambda left, right: int(left >= right)}
-SIGNS = {"-": lambda value: wrapped(-value), "+": lambda value: value,
+UNARY_OPERATORS = {"-": lambda value: wrapped(-value), "+": lambda value: value,
          "!": lambda value: int(not value)}
 
 
@@ -72,7 +72,7 @@ def value_of(node, leaf_value):
     if node.kind == "group":
         return value_of(node.parts[0], leaf_value)
     if node.kind == "unary":
-        return SIGNS[node.parts[0]](value_of(node.parts[1], leaf_value))
+        return UNARY_OPERATORS[node.parts[0]](value_of(node.parts[1], leaf_value))
     if node.kind in BINARY:
         return BINARY[node.kind](*(value_of(part, leaf_value) for part in node.parts))
     return leaf_value(node)

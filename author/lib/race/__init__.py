@@ -43,6 +43,8 @@ class Contender:
     """A setting in the race: its values, and the blocks that it played. A rate is the points as a
     part of the greatest total. `guess` is what the setting was thought to make before it played."""
 
+    __slots__ = "values", "guess", "assembles", "blocks", "sum_of_rates"
+
     def __init__(self, values, guess=0.0):
         self.values, self.guess, self.assembles = values, guess, True
         self.blocks, self.sum_of_rates = 0, 0.0
@@ -79,16 +81,16 @@ class Outcome(NamedTuple):
 
 
 class Race:
-    """A race in the settings of a grid, which uses the part `share` of an arena's budget."""
+    """A race in the settings of a grid, which uses a part of an arena's budget."""
 
-    def __init__(self, grid, arena, seed, share=1):
-        self.grid, self.arena, self.dice, self.share = grid, arena, random.Random(seed), share
+    def __init__(self, grid, arena, seed, budget_part=1):
+        self.grid, self.arena, self.dice = grid, arena, random.Random(seed)
         self.start = Contender(grid.start_values)
         self.contenders = {grid.start_values: self.start}
-        self.survivors, self.model = [], None
+        self.budget_part, self.survivors, self.model = budget_part, [], None
 
     def run(self):
-        self.start.add(self.arena.rates([self.start], self.arena.trial_blocks())[0])
+        self.start.add(self.arena.rates([self.start], self.arena.timed_blocks())[0])
         self.start.guess = self.start.rate()
         self.arena.tell_estimate(f"a race of {self.grid.count()} settings")
         self.explore()
@@ -127,16 +129,16 @@ class Race:
         blocks, played = self.arena.new_blocks(min(count, BLOCKS_AT_ONCE)), []
         for first in range(0, len(contenders), SETTINGS_AT_ONCE):
             some = contenders[first:first + SETTINGS_AT_ONCE]
-            if not self.arena.has_room(len(some) * len(blocks), limit * self.share):
+            if not self.arena.has_room(len(some) * len(blocks), limit * self.budget_part):
                 break
-            self.arena.hosts.play_ahead(contenders[first:], blocks, count, limit * self.share)
+            self.arena.hosts.play_ahead(contenders[first:], blocks, count, limit * self.budget_part)
             for contender, rates in zip(some, self.arena.rates(some, blocks)):
                 contender.add(rates)
             played += some
         return [contender for contender in played if contender.assembles]
 
     def plays_until(self, limit):
-        return self.arena.plays_until(limit * self.share)
+        return self.arena.plays_until(limit * self.budget_part)
 
     def explore(self):
         count = int(self.plays_until(EXPLORED) / plays_of_exploring())
@@ -150,10 +152,10 @@ class Race:
 
     def improve(self, number):
         """Runs a round. Returns whether the budget had room for it, and a new setting was found."""
-        known = [contender for contender in self.contenders.values() if contender.blocks]
-        if not known or not self.arena.has_room(NEW_SETTINGS * FIRST_HEAT, RACED * self.share):
+        seen = [contender for contender in self.contenders.values() if contender.blocks]
+        if not seen or not self.arena.has_room(NEW_SETTINGS * FIRST_HEAT, RACED * self.budget_part):
             return False
-        self.model = Model(self.grid.ranges, known)
+        self.model = Model(self.grid.ranges, seen)
         new = self.enter(self.choices())
         self.tell(f"round {number}")
         self.race(self.play(new, FIRST_HEAT, RACED), RACED)
@@ -181,7 +183,7 @@ class Race:
 
     def choices(self):
         """Yields the values of new settings: for each the best of a few tries, by the model."""
-        part = (self.arena.used() / self.share - EXPLORED) / (RACED - EXPLORED)
+        part = (self.arena.used() / self.budget_part - EXPLORED) / (RACED - EXPLORED)
         reach = FAR * (NEAR / FAR) ** min(1, max(0, part))
         parents = [survivor.values for survivor in self.survivors]
         for index in range(NEW_SETTINGS):
@@ -221,9 +223,9 @@ class Race:
         """Plays two settings in fresh blocks, in the part `limit` of the race's budget. Returns
         for each a text per opponent, with a digit for each block."""
         pair, points = [Contender(first), Contender(second)], ([], [])
-        while self.arena.has_room(2 * BLOCKS_AT_ONCE, limit * self.share):
+        while self.arena.has_room(2 * BLOCKS_AT_ONCE, limit * self.budget_part):
             blocks = self.arena.new_blocks(BLOCKS_AT_ONCE)
-            self.arena.hosts.play_ahead(pair, blocks, math.inf, limit * self.share)
+            self.arena.hosts.play_ahead(pair, blocks, math.inf, limit * self.budget_part)
             for player_points, of_blocks in zip(points, self.arena.play(pair, blocks)):
                 player_points.extend(of_blocks)
         return tuple(["".join(column) for column in zip(*of_player)] for of_player in points)

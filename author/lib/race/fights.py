@@ -17,8 +17,8 @@ from .hosts import Hosts, points_of
 
 # The blocks of one process, so that a long heat runs on several processors.
 BLOCKS_OF_PROCESS = 8
-# The most blocks, and about the most fights, of the trial before a race.
-TRIAL_BLOCKS, TRIAL_FIGHTS = 16, 200
+# The most blocks, and about the most fights, in which START alone plays before a race.
+TIMED_BLOCKS, TIMED_FIGHTS = 16, 200
 # How much of --minutes is left for the end of the command: a part of them, and some seconds.
 END_PART, END_SECONDS = 0.01, 0.4
 # Has the kernel end a process with the thread that started it. A function that is called in the
@@ -105,8 +105,8 @@ class Processes:
 
     def templates_of(self, settings):
         """Writes a template for each setting. Yields its path."""
-        for number, values in enumerate(settings):
-            path = self.folder / f"{number}.red"
+        for index, values in enumerate(settings):
+            path = self.folder / f"{index}.red"
             path.write_bytes(self.grid.alone(values))
             yield path
 
@@ -194,10 +194,10 @@ class Arena:
         return [tuple(positions.fight(opponent, number)
                       for opponent, positions in enumerate(self.positions)) for number in numbers]
 
-    def trial_blocks(self):
+    def timed_blocks(self):
         """Returns the first blocks, in which START alone plays, to time the race. They take two
         seconds at most, but in very slow fights."""
-        return self.new_blocks(max(1, min(TRIAL_BLOCKS, TRIAL_FIGHTS // len(self.opponents))))
+        return self.new_blocks(max(1, min(TIMED_BLOCKS, TIMED_FIGHTS // len(self.opponents))))
 
     def rates(self, contenders, blocks):
         greatest = 3 * sum(self.weights)

@@ -23,7 +23,7 @@ import contextlib, os, shutil, sys
 
 from .. import cert_inputs, tuning_files
 from ..endings import Fault, end_as, tell
-from ..program import EXPLAIN, reading_output, rules_of, run_program
+from ..program import EXPLAIN, reading_output, rules_of, run_program, version_of
 from ..regular import NotRegular
 from ..words import command_parser
 from ..writing import naming, whole_file
@@ -188,8 +188,9 @@ def refuse_floors(parts):
 def refuse_ranking(args, cert):
     """Refuses parts of a cluster that do not show the first of the ranking."""
     if args.merge and args.keep > 1:
-        fights = tuning_files.read_schedule(args.schedule)
-        _, dropped, exact = tuning_files.Certificate(cert).ranked(fights)
+        found = tuning_files.Certificate(cert)
+        found.path = args.cert  # which faults name
+        _, dropped, exact = found.ranked(found.fights(args.schedule))
         if dropped and exact < args.keep:
             raise Fault(f"the parts show the first {exact} of the ranking, and not {args.keep}: "
                         f"were they tuned with --keep {args.keep}?", 2)
@@ -216,10 +217,10 @@ def finish(args, folder, progress, notes):
     verdict, checked_ranks = printed.splitlines()[:1], printed.splitlines()[1:]
     if verdict and checked_ranks != ranks:
         raise Fault("the check names another ranking than the parts", 3)
+    print_start(args, whole)
     with whole.open() as source, whole_file(args.cert) as file:
         shutil.copyfileobj(source, file)
     write_inputs(args)
-    print_start(args, whole)
     print(*report_lines(parts, folder.setting_count), *ranks, *verdict, sep="\n", flush=True)
     folder.clean_up()
     return 0
@@ -232,9 +233,8 @@ def write_inputs(args):
     name = f"{args.cert}{cert_inputs.SUFFIX}"
     files = [args.template, args.schedule, *args.opponents]
     try:
-        printed = run_program(args.program, "--version").stdout.decode()
-        version = printed.removeprefix("cwtune ").strip()
-        text = cert_inputs.text_of(version, rules_of(args), method_of(args), args.cert, files)
+        text = cert_inputs.text_of(version_of(args.program), rules_of(args), method_of(args),
+                                   args.cert, files)
         with whole_file(name, "wb") as file:
             file.write(os.fsencode(text))
     except (Fault, OSError, ValueError):
@@ -247,7 +247,7 @@ def print_start(args, whole):
     if not explain_words(args):
         return
     cert, template = tuning_files.Certificate(whole), tuning_files.Template(args.template)
-    total = cert.total_of(template.start, tuning_files.read_schedule(args.schedule))
+    total = cert.total_of(template.start, cert.fights(args.schedule))
     if total is not None:
         tell(f"  START, setting {template.start}, total {total} "
              f"{template.constants(template.start)}")

@@ -28,7 +28,7 @@ RANK = rf"rank {COUNT} setting ({COUNT}) total ({COUNT})(?: ({CONSTANTS}))?\n"
 REPORT = re.compile(
     rf"vectors {COUNT}\ncandidates {COUNT}\n"
     rf"(?:best {COUNT}\nconstants (?:-|{CONSTANTS})\ntotal {COUNT}|"
-    rf"best -\nconstants -\ntotal below {COUNT}) of {COUNT}\n"
+    rf"best -\nconstants -\ntotal below [1-9]\d{{0,19}}) of {COUNT}\n"
     rf"fights {COUNT} of {COUNT}\n(?:{RANK})*")
 
 

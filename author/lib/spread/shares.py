@@ -5,12 +5,13 @@ Share I of K of a check looks at all of the certificate's form and, of the rows,
 its own settings. A certificate is accepted exactly if all shares of one K accept it. `I.done` has
 the line that the check of share I printed.
 """
-import csv, re
+import re
 from typing import Annotated
 
 from ..endings import Fault
 from ..program import rules_of
 from ..regular import sha256_of
+from ..tuning_files import read_records
 from .folder import JOB_FILES, ClusterPieces, Copy, SpreadFolder, copies_of
 from .parts import COUNT, RANK
 
@@ -53,9 +54,8 @@ def verdict_of(texts, cert):
 
 def first_rejection(rejections, cert):
     """Returns the rejection that a check of the whole finds first. It sees `same` rows last."""
-    with open(cert, encoding="utf-8-sig", errors="replace", newline="") as file:
-        records = filter(None, csv.reader(file) if len(rejections) > 1 else ())
-        same = {index for index, record in enumerate(records) if record[0] == "same"}
+    records = read_records(cert, "replace") if len(rejections) > 1 else ()
+    same = {index for index, record in enumerate(records) if record[0] == "same"}
 
     def order(rejection):
         row, reason = rejection

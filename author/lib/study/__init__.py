@@ -22,7 +22,7 @@ Example: cwtune-study --minutes 10 my.red opponents/ STEP=5:7995:10 GATE=-3500:-
 import contextlib, json, os, pathlib, sys
 
 from ..endings import tell
-from ..gain import gain_text
+from ..gain import GAIN, gain_text
 from ..grid import Grid
 from ..program import Rules, rules_of
 from ..race import Contender
@@ -132,7 +132,7 @@ class Study:
         with (temporary_folder() as folder,
               Arena(self.args, Budget(fights), grid, paths, self.args.weights, [],
                     folder) as arena):
-            arena.play([Contender(grid.start_values)], arena.trial_blocks())
+            arena.play([Contender(grid.start_values)], arena.timed_blocks())
             arena.tell_estimate("the tuning and its check")
 
     def write_winner(self, setting, template):
@@ -184,7 +184,7 @@ def print_end(folder, report):
     print_raced(report) if report["race"] else print_tuned(report)
     if gain and report["winner"]["values"] != report["start"]["values"]:
         print(f"over START: {gain_text(gain)}")
-        if gain["words"] != "a gain":
+        if gain["words"] != GAIN:
             print("keep START: these fights show no gain of winner.red")
     else:
         print("the winner is START: nothing better was found")
@@ -229,7 +229,7 @@ def make_parser():
 
 def main():
     parser = make_parser()
-    args = parser.parse_mixed()
+    args = parser.parse_args()
     study = Study(args, read_inputs(parser, args))
     try:
         # Standard output is for the object alone.

@@ -200,8 +200,8 @@ def legend_of_line(with_start):
     yield label(RIGHT, 264, "height: tuned total", "soft end")
 
 
-def draw_effect(number, effect, y_scale, winner_value, texts):
-    """Draws the mean totals of a constant's values with errors. `number` makes its id."""
+def draw_effect(index, effect, y_scale, winner_value, texts):
+    """Draws the mean totals of a constant's values with errors. `index` makes its id."""
     name, values, means, errors = (effect[key] for key in ("name", "values", "means", "errors"))
     axis = Axis(name, values, texts)
     points = points_of(axis, y_scale, means)
@@ -210,7 +210,7 @@ def draw_effect(number, effect, y_scale, winner_value, texts):
                    for (x, _), mean, error in zip(points, means, errors) if mean is not None)
     elements = [*draw_axes(axis, y_scale), curve(points), path("".join(error_lines), "stroke"),
                 *dots(points), *marks(points, None, winner_index)]
-    return svg(f"effect{number}", f"Mean tuned totals of the values of {name}", 182, elements)
+    return svg(f"effect{index}", f"Mean tuned totals of the values of {name}", 182, elements)
 
 
 def draw_effects(effects, winner_values, lists):
@@ -218,6 +218,6 @@ def draw_effects(effects, winner_values, lists):
     means = [pair for effect in effects for pair in zip(effect["means"], effect["errors"])]
     ends = [mean + sign * error for mean, error in means if mean is not None for sign in (-1, 1)]
     y_scale = y_scale_of(ends, 140)
-    return [draw_effect(number, effect, y_scale, winner_values[effect["name"]],
+    return [draw_effect(index, effect, y_scale, winner_values[effect["name"]],
                         lists.get(effect["name"]))
-            for number, effect in enumerate(effects)]
+            for index, effect in enumerate(effects)]

@@ -1,5 +1,5 @@
 """Reads the words and files of `cwtune-study`, and refuses those that make no study."""
-import argparse, hashlib, itertools, json, math, os, pathlib
+import argparse, hashlib, itertools, json, math, os, pathlib, re
 from typing import NamedTuple
 
 from .. import vary
@@ -75,7 +75,7 @@ def opponents_named(parser, word):
     path, _, weight = word.rpartition("=")
     if os.path.exists(word) or not os.path.exists(path):
         path, weight = word, "1"
-    if not (weight.isdecimal() and 1 <= int(weight) <= MOST_WEIGHT):
+    if not (re.fullmatch("[0-9]{1,4}", weight) and 1 <= int(weight) <= MOST_WEIGHT):
         parser.error(f"{word}: the weight of {path} is not 1 to {MOST_WEIGHT}")
     return paths_of(path), int(weight)
 

@@ -8,7 +8,7 @@ only if further fights, which picked nothing, show that it is better. What was p
 import contextlib, math, time
 
 from ..endings import tell
-from ..gain import gain_of
+from ..gain import GAIN, gain_numbers, gain_of
 from ..race import Race
 from ..race.fights import Arena
 from ..race.journal import Journal
@@ -63,9 +63,9 @@ class RaceOfStudy:
 
     def race(self):
         """Races. Returns a dict: the outcome, the final, and what the race used of the budget."""
-        share = RACE_ENDS if self.rounds(budget_of(self.args).fights) else 1
+        budget_part = RACE_ENDS if self.rounds(budget_of(self.args).fights) else 1
         with self.arena("race.jsonl") as arena:
-            race = Race(self.grid, arena, self.args.seed, share)
+            race = Race(self.grid, arena, self.args.seed, budget_part)
             outcome = race.run()
             settings, opponents = len(race.contenders), len(arena.opponents)
             self.folder.log_note(f"a race of {settings} settings, {arena.fights} fights",
@@ -96,7 +96,7 @@ class RaceOfStudy:
         return min(self.args.rounds, rounds) if rounds >= LEAST_ROUNDS else 0
 
     def tune_box(self, race):
-        """Tunes the box in new fights. Returns its size, its share of the budget, and the check."""
+        """Tunes the box in new fights. Returns its size, its part of the budget, and the check."""
         folder, began_at, winner = self.folder, time.monotonic(), race["winner"]
         ranges, rounds = self.grid.box(winner, self.reach()), self.rounds(race["fights"])
         settings = math.prod(map(len, ranges))
@@ -122,12 +122,12 @@ class RaceOfStudy:
         first = [box_of.values_of_settings[setting] for setting in self.study.first_settings()]
         others = [values for values in first if values != winner]
         with self.arena("challenge.jsonl", race, box) as arena:
-            match = Race(self.grid, arena, self.args.seed)
+            contest = Race(self.grid, arena, self.args.seed)
             arena.news = "the first of the box against the winner"
-            ranked = match.knock_out([*others, winner], CHALLENGERS, winner, CHALLENGED)
+            ranked = contest.knock_out([*others, winner], CHALLENGERS, winner, CHALLENGED)
             best = next((one.values for one in ranked if one.values != winner), winner)
-            compared = match.measure(best, winner, COMPARED)
-            points = (match.measure(best, self.grid.start_values, 1)
+            compared = contest.measure(best, winner, COMPARED)
+            points = (contest.measure(best, self.grid.start_values, 1)
                       if gains(compared, self.args.weights) else None)
             self.folder.log_note("the first of the box against the race's winner", arena.seconds)
         return {"best": best, "compared": compared, "points": points}
@@ -140,4 +140,4 @@ class RaceOfStudy:
 def gains(points, weights):
     """Returns whether one setting is better than another by the points of both, if they played."""
     gain = points and gain_of(points, weights)
-    return bool(gain) and gain.mean() > 2 * gain.error()
+    return bool(gain) and gain_numbers(gain)["words"] == GAIN

@@ -5,6 +5,7 @@ computed from it: an opponent's standard error comes from its wins, ties and los
 """
 import math
 
+from ..gain import GAIN, LOSS
 from . import charts, maps
 from .page import (DASH, decimal, escaped, folded, fresh_percent, integer, page, source, table,
                    with_error)
@@ -55,7 +56,7 @@ def opening(report):
         f"{decimal(winner['fresh']['percent'])}% of the points and START "
         f"{decimal(start['fresh']['percent'])}%: <strong class=\"winner\">"
         f"{with_error(abs(gain['percent']), gain['error'])}</strong> percentage points {more}, "
-        f"{escaped(gain['words'])}." + " Keep START." * (gain["words"] != "a gain"))
+        f"{escaped(gain['words'])}." + " Keep START." * (gain["words"] != GAIN))
     notes = ["These fights picked nothing: they were played once the winner was known.", ERROR_NOTE]
     if start["values"] == winner["values"]:
         notes.insert(0, "The winner is START itself.")
@@ -130,7 +131,7 @@ def comparison(report):
 
 
 def opponent_row(gain, sides):
-    lost = " (lost)" if gain["words"] == "a loss" else ""
+    lost = " (lost)" if gain["words"] == LOSS else ""
     signed = ("+" if gain["percent"] >= 0 else "") + with_error(gain["percent"], gain["error"])
     percents = (f"{decimal(side['percent'])}%" for side in sides)
     return [escaped(gain["name"]), signed + lost, *percents,
@@ -149,7 +150,7 @@ def opponents(report):
     return section(
         "Opponent by opponent", f"<figure>{bars}</figure>",
         table("Fresh fights against each opponent", heads, rows,
-              marked=[index for index, (gain, _) in enumerate(lines) if gain["words"] == "a loss"],
+              marked=[index for index, (gain, _) in enumerate(lines) if gain["words"] == LOSS],
               groups=[("", 1), ("percent", 3), (START, 3), (WINNER, 3)]),
         paragraph("Marked: the winner lost against this opponent, by more than two standard "
                   "errors.", "soft"))
@@ -247,15 +248,15 @@ def finalists(report):
     names, found = list(report["winner"]["values"]), report["race"]["finalists"]
     marked = [index for index, one in enumerate(found)
               if one["values"] == report["winner"]["values"]]
-    rows = [[str(place) + (f" {WINNER}" if place - 1 in marked else "")
+    rows = [[str(rank) + (f" {WINNER}" if rank - 1 in marked else "")
              + (f" {START}" if one["values"] == report["start"]["values"] else ""),
              *value_cells(report, one["values"]),
              f"{decimal(one['percent'])}%", integer(one["fights"])]
-            for place, one in enumerate(found, 1)]
+            for rank, one in enumerate(found, 1)]
     return section("The final of the race", paragraph(
         "Fresh fights picked the winner among these. The better ones played more, so the percents "
         "of the first are too high by some luck, and are no gain.", "soft"),
-        table("The final of the race", ["place", *map(escaped, names), "percent", "fights"], rows,
+        table("The final of the race", ["rank", *map(escaped, names), "percent", "fights"], rows,
               marked=marked))
 
 
