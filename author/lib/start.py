@@ -3,7 +3,7 @@ import os, signal, sys
 
 
 def run(path):
-    """Runs the command of a link. Until `run_tool` does, Ctrl-C ends it without a word."""
+    """Runs the command of this name. Until `run_tool` does, Ctrl-C ends it without a word."""
     name = os.path.basename(path)
     if signal.getsignal(signal.SIGINT) == signal.default_int_handler:
         signal.signal(signal.SIGINT, signal.SIG_DFL)

@@ -16,7 +16,7 @@ Nothing here has to be trusted: `cwtune check` says whether what it writes is ri
 It is one file on purpose: it shares no code with the commands of `author/`, and runs wherever
 Python does. So `RULES` is a copy of what `author/lib/` has.
 """
-import argparse, collections, csv, io, itertools, pathlib, re, subprocess, sys, tempfile
+import argparse, collections, csv, io, itertools, math, pathlib, re, subprocess, sys, tempfile
 
 Fight = collections.namedtuple("Fight", "opponent position first weight")
 HEADER = ["opponent", "position", "first"]
@@ -25,7 +25,7 @@ RULES = {"core": (8000, "the core size"), "cycles": (80000, "the most cycles of 
          "tasks": (8000, "the most tasks of a warrior"),
          "length": (100, "the most instructions of a warrior"),
          "distance": (100, "the least distance of two warriors")}
-MOST_FIGHTS, MOST_WEIGHT, MOST_NUMBER = 10000, 1000, 2**32 - 1
+MOST_FIGHTS, MOST_WEIGHT, MOST_SETTINGS, MOST_NUMBER = 10000, 1000, 10**6, 2**32 - 1
 # A field may have any length.
 csv.field_size_limit(sys.maxsize)
 
@@ -196,9 +196,10 @@ class Tuning:
 
     def read_template(self, source):
         """Keeps the settings; the first constant changes slowest."""
-        lines = [line for line in source.split(b"\n") if re.match(rb";@tune([ \t\r]|$)", line)]
-        ranges = [line.split()[1:] for line in lines]
+        ranges = [line.split()[1:] for line in re.findall(rb"(?m)^;@tune(?:[ \t\r].*)?$", source)]
         spans = [range(int(low), int(high) + 1, int(step)) for _, low, high, step, _ in ranges]
+        if math.prod(map(len, spans)) > MOST_SETTINGS:
+            sys.exit(f"refused: Template: more than {MOST_SETTINGS} settings")
         self.names = [words[0] for words in ranges]
         self.settings = list(itertools.product(*spans))
         self.start = self.settings.index(tuple(int(words[4]) for words in ranges))
