@@ -3,14 +3,14 @@
 Packs, unpacks, installs and removes it in a temporary folder, and runs the program and the commands
 of each without this checkout: nothing of it is on the PATH. What was proved is not asked for again.
 The manual pages and completions have to name each command and option. Without `dpkg-deb` on the
-PATH the Debian package is not judged. Prints what failed, and as its last line `N passed, N
-failed`; the exit status is 1 if a trial failed.
+PATH the Debian package is left out. Prints what failed, and as its last line `N passed, N failed`;
+the exit status is 1 if a trial failed.
 """
 import contextlib, importlib, pathlib, re, shutil, subprocess, tarfile, tempfile
 
 from author.lib.endings import Fault, run_tool
 from author.lib.words import program_word
-from gate.lib.tally import compare, tally
+from gate.lib.tally import LeftOut, compare, tally
 
 from . import dist, manual
 
@@ -84,6 +84,7 @@ def trial_of_tar(work, build):
     tar, checksum = dist.pack(work, build)
     if checksum.read_text() != f"{dist.sha256(tar)}  {tar.name}\n":
         yield "its checksum is another one"
+    (work / "again").mkdir()
     again, _ = dist.pack(work / "again", build)
     if again.read_bytes() != tar.read_bytes():
         yield "packed twice it has other bytes"
@@ -212,12 +213,10 @@ def trials(build):
     if shutil.which("dpkg-deb"):
         tried.append(trial_of_package)
     else:
-        print("not judged: the Debian package, for there is no dpkg-deb on the PATH")
+        yield "trial of package", LeftOut("no dpkg-deb")
     for trial in tried:
         with tempfile.TemporaryDirectory() as folder:
-            work = pathlib.Path(folder)
-            (work / "again").mkdir()
-            yield trial.__name__.replace("_", " "), list(trial(work, build))
+            yield trial.__name__.replace("_", " "), list(trial(pathlib.Path(folder), build))
 
 
 def main():
