@@ -66,8 +66,10 @@ def variants(case, key):
 
 def valued(case):
     """Returns the case, or one for each row of its `values`: a text, or one for each name."""
-    cases = []
-    for names, rows in case.get("values", {}).items():
+    cases, values = [], case.get("values", {})
+    if len(values) > 1:
+        raise Fault(f"{case['name']}: `values` has more than one key")
+    for names, rows in values.items():
         for number, row in enumerate(rows, 1):
             texts = row if isinstance(row, list) else [row]
             name = f"{case['name']} ({number}: {' '.join(texts)[:60]!r})"

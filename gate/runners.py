@@ -41,6 +41,7 @@ CASES = {'words = "asm $smal dat.red"': "no words for `$smal`\n",
          'words = "asm dat.red"\nreport = ["1"]': "`report` has six values, in place of `out`\n",
          'words = "asm dat.red"\nvalues."a b" = [["0"]]':
              "a (1: '0'): not a text for each of `a b`\n",
+         'words = "asm dat.red"\nvalues = { a = [], b = [] }': "`values` has more than one key\n",
          '[files]\n"dat.red" = "DAT 1"': "gate/inputs.toml has `dat.red`, too\n"}
 
 
