@@ -46,5 +46,6 @@ def print_short(players, runs, folder):
     """Prints a line for each fight cut short, with its load and its reset."""
     print_rates("short fight", "fights/s", players, (
         (fight.name, 2 * SHORT_CYCLES,
-         [1 / it for it in least([it.short_play(fight, folder) for it in players], runs)])
+         [1 / seconds for seconds in least([player.short_play(fight, folder) for player in players],
+                                           runs)])
         for fight in fight_texts()), ".0f")

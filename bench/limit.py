@@ -7,16 +7,18 @@ instructions, by their canonical modifiers, that were executed most in the first
 pairs: the share of the turns, and whether the hot loop has an arm for it (docs/HOT_LOOP.md). Needs
 clang++.
 """
-import collections, itertools, math, pathlib, shutil, subprocess, tempfile
+import collections, itertools, math, pathlib, shutil, tempfile
 
 from author.lib.endings import Fault, run_tool
 from author.lib.program import program_of
+from release import dist
 
 from .pairs import FOLDERS, HERE, Pair, loads_of, pairs_parser, play_in_turn
 from .plain_machine import LINE, classes
 from .runs import mean_and_least, run
 
 FLAGS = ["-std=c++17", "-O2", "-march=x86-64-v2", "-fno-pie", "-static", "-fno-strict-aliasing"]
+# These are in the order of limit.cc.
 OPCODES = "DAT MOV ADD SUB MUL DIV MOD JMP JMZ JMN DJN SEQ SNE SLT SPL NOP".split()
 MODIFIERS = "A B AB BA F X I".split()
 MODES = "#$*@{<}>"
@@ -38,10 +40,7 @@ def built(loads, folder):
         raise Fault("no clang++ on the PATH (Debian: apt-get install clang)", 2)
     keys = {key_of(line) for load in loads for line in load.splitlines()[1:]}
     (folder / "KEYS.inc").write_text("".join(f"{key},\n" for key in sorted(keys)))
-    done = subprocess.run([clang, *FLAGS, f"-I{folder}", "-o", program, HERE / "limit.cc"],
-                          capture_output=True, text=True)
-    if done.returncode:
-        raise Fault(f"clang++: {done.stderr.strip()}", 3)
+    dist.run(clang, *FLAGS, f"-I{folder}", "-o", program, HERE / "limit.cc")
     return program
 
 
@@ -69,13 +68,18 @@ class LimitPair(Pair):
         return self.pmars_seconds / self.limit_seconds
 
 
-def print_instructions(pairs):
-    """Prints the instructions that were executed most, each pair counting alike."""
-    known, shares = classes(), collections.Counter()
+def shares_of(pairs):
+    """Returns the part of the turns that each instruction has, each pair counting alike."""
+    shares = collections.Counter()
     for pair in pairs:
-        turns = sum(pair.executed.values())
-        for words, count in pair.executed.items():
-            shares[words] += count / turns / len(pairs)
+        turns = len(pairs) * sum(pair.executed.values())
+        shares.update({words: count / turns for words, count in pair.executed.items()})
+    return shares
+
+
+def print_instructions(pairs):
+    """Prints the instructions that were executed most."""
+    known, shares = classes(), shares_of(pairs)
     for words, share in shares.most_common(SHOWN):
         opcode, modifier, a_mode, b_mode = words
         shown = f"{opcode}.{modifier} {a_mode}, {b_mode}"
@@ -88,21 +92,20 @@ def main():
     parser = pairs_parser("bench.limit", __doc__, 3)
     parser.add_argument("--folder", choices=FOLDERS, default="unseen",
                         help="the warriors [default: unseen]")
-    asked = parser.parse_args()
-    program = program_of(asked.program)
-    pmars = program_of(asked.pmars, "make pmars")
+    args = parser.parse_args()
+    program = program_of(args.program)
+    pmars = program_of(args.pmars, "make pmars")
     with tempfile.TemporaryDirectory() as name:
-        warriors = loads_of(program, FOLDERS[asked.folder])
+        warriors = loads_of(program, FOLDERS[args.folder])
         limit = built([load for _, load in warriors], pathlib.Path(name))
         pairs = play_in_turn((LimitPair(*both, (program, pmars, limit), name)
-                              for both in itertools.combinations(warriors, 2)), asked.runs)
-    print(f"{asked.folder:<32}{'cwtune':>8}{'limit':>8}")
+                              for both in itertools.combinations(warriors, 2)), args.runs)
+    print(f"{args.folder:<32}{'cwtune':>8}{'limit':>8}")
     for pair in pairs:
         print(f"{pair.name:<32}{pair.ratio():>8.2f}{pair.limit_ratio():>8.2f}")
     print(f"cwtune: {mean_and_least([pair.ratio() for pair in pairs])}")
     print(f"limit: {mean_and_least([pair.limit_ratio() for pair in pairs])}")
     print_instructions(pairs)
-    return 0
 
 
 if __name__ == "__main__":

@@ -6,13 +6,13 @@ the runs added up, relative to the quickest place. On some processors a jump is 
 multiple of 32 bytes; the contracts, the points and the gate do not depend on it. Takes the object
 file PROGRAM.o, which `make build` leaves beside the program, and the kit that made it.
 """
-import itertools, pathlib, subprocess, tempfile
+import itertools, pathlib, tempfile
 
 from author.lib.endings import Fault, run_tool
 from author.lib.program import Rules, program_of
-from author.lib.words import add_program, module_parser, number_from
+from author.lib.words import add_number, add_program, module_parser
 from pmars.games import Game, fights_of
-from release.dist import kit_folder
+from release import dist
 
 from .pairs import FOLDERS, SEED, loads_of
 from .runs import least, run
@@ -31,9 +31,7 @@ def linked(program, kit, shift, folder):
     for words in (["as", "-o", f"{begin}.o", f"{begin}.s"],
                   [kit / "bin/rattle-link", "--target", "x86_64-unknown-linux-gnu", "--toolchain",
                    kit / "toolchain", "-o", made, f"{begin}.o", *objects]):
-        done = subprocess.run(words, capture_output=True, text=True)
-        if done.returncode:
-            raise Fault(f"{words[0]}: {done.stderr.strip()}", 3)
+        dist.run(*words)
     return made
 
 
@@ -41,11 +39,12 @@ def times_of(programs, runs):
     """Plays the series of all pairs by each program in turn. Returns the seconds of each program:
     of each pair the least time, added up."""
     with tempfile.TemporaryDirectory() as folder:
-        warriors = [it for it in loads_of(programs[0], FOLDERS["unseen"]) if it[0] in WARRIORS]
-        games = [Game(Rules(), one[1], other[1], tempfile.mkdtemp(dir=folder))
-                 for one, other in itertools.combinations(warriors, 2)]
-        words = [game.tune_words(str(it), fights_of(game.rules, SEED, FIGHTS))
-                 for game in games for it in programs]
+        loads = [load for name, load in loads_of(programs[0], FOLDERS["unseen"])
+                 if name in WARRIORS]
+        games = [Game(Rules(), *pair, tempfile.mkdtemp(dir=folder))
+                 for pair in itertools.combinations(loads, 2)]
+        words = [game.tune_words(str(program), fights_of(game.rules, SEED, FIGHTS))
+                 for game in games for program in programs]
         times = least([lambda one=one: run(one).processor for one in words], runs)
     return [sum(times[place::len(programs)]) for place in range(len(programs))]
 
@@ -53,18 +52,16 @@ def times_of(programs, runs):
 def main():
     parser = module_parser("bench.loop_place", __doc__)
     add_program(parser)
-    parser.add_argument("--runs", type=number_from(1), default=5, metavar="N",
-                        help="runs of each series [default: %(default)s]")
-    asked = parser.parse_args()
-    program, kit = program_of(asked.program), kit_folder()
+    add_number(parser, "--runs", "N", 5, "runs of each series")
+    args = parser.parse_args()
+    program, kit = program_of(args.program), dist.kit_folder()
     if not pathlib.Path(f"{program}.o").is_file():
         raise Fault(f"no object file {program}.o (`make build` makes it)", 2)
     with tempfile.TemporaryDirectory() as name:
-        programs = [linked(program, kit, it, pathlib.Path(name)) for it in PLACES]
-        times = times_of(programs, asked.runs)
+        programs = [linked(program, kit, shift, pathlib.Path(name)) for shift in PLACES]
+        times = times_of(programs, args.runs)
     for shift, seconds in zip(PLACES, times):
         print(f"{shift:>2} bytes further on: {seconds / min(times):.3f}")
-    return 0
 
 
 if __name__ == "__main__":

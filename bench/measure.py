@@ -8,7 +8,7 @@ import os, tempfile
 
 from author.lib.endings import run_tool
 from author.lib.program import program_of
-from author.lib.words import add_program, module_parser, number_from
+from author.lib.words import add_number, add_program, module_parser
 
 from .fights import print_fights, print_short
 from .pairs import print_folders
@@ -27,25 +27,24 @@ def make_parser():
     add_program(parser)
     parser.add_argument("--pmars", metavar="PATH", help="a pMARS server build to compare with")
     for name, least, number, what in COUNTS:
-        parser.add_argument(f"--{name}", type=number_from(least), default=number, metavar="N",
-                            help=f"runs of each {what} [default: {number}]")
+        add_number(parser, f"--{name}", "N", number, f"runs of each {what}", least)
     return parser
 
 
 def main():
-    asked = make_parser().parse_args()
-    pmars = asked.pmars and program_of(asked.pmars, "make pmars")
-    program = program_of(asked.program)
+    args = make_parser().parse_args()
+    pmars = args.pmars and program_of(args.pmars, "make pmars")
+    program = program_of(args.program)
     # The processors of a shared machine differ by a third and more, and the two programs would not
     # be given the same ones.
     os.sched_setaffinity(0, {min(os.sched_getaffinity(0))})
     with tempfile.TemporaryDirectory() as folder:
         players = [Cwtune(program)] + ([Pmars(pmars, folder)] if pmars else [])
-        parts = [(pmars and asked.series, lambda: print_folders(program, pmars, asked.series)),
-                 (asked.runs, lambda: print_fights(players, asked.runs)),
-                 (asked.short, lambda: print_short(players, asked.short, folder)),
-                 (asked.texts, lambda: print_texts(program, asked.texts)),
-                 (asked.tunings, lambda: print_tunings(program, asked.tunings))]
+        parts = [(pmars and args.series, lambda: print_folders(program, pmars, args.series)),
+                 (args.runs, lambda: print_fights(players, args.runs)),
+                 (args.short, lambda: print_short(players, args.short, folder)),
+                 (args.texts, lambda: print_texts(program, args.texts)),
+                 (args.tunings, lambda: print_tunings(program, args.tunings))]
         for index, print_part in enumerate(part for is_asked, part in parts if is_asked):
             if index > 0:
                 print()

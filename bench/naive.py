@@ -13,12 +13,12 @@ from typing import NamedTuple
 
 from author.lib.endings import end_as, run_tool
 from author.lib.grid import Grid
-from author.lib.program import NO_CANDIDATE, program_of, reading_output, run_program
+from author.lib.program import NO_CANDIDATE, Rules, program_of, reading_output, run_program
 from author.lib.tuning_files import Fight, schedule_text
 from author.lib.words import add_files, add_program, module_parser, number_from
 
 # The least and the greatest position of an opponent.
-POSITIONS = 100, 7900
+POSITIONS = Rules().distance, Rules().core - Rules().distance
 # By how many steps a constant moves if it is not drawn anew.
 MOVES = [-3, -2, -1, 1, 2, 3]
 
@@ -57,10 +57,10 @@ def leaders(players, count):
 class Naive:
     """The search, its fights and its dice. `played` counts settings, each time they play."""
 
-    def __init__(self, asked, folder):
-        self.program, self.opponents, self.grid = asked.program, sorted(asked.opponents), asked.grid
-        self.seconds, self.folder, self.played = asked.seconds, pathlib.Path(folder), 0
-        self.dice, places = random.Random(asked.seed), random.Random(asked.seed + 1000)
+    def __init__(self, args, folder):
+        self.program, self.opponents, self.grid = args.program, sorted(args.opponents), args.grid
+        self.seconds, self.folder, self.played = args.seconds, pathlib.Path(folder), 0
+        self.dice, places = random.Random(args.seed), random.Random(args.seed + 1000)
         for rounds in (5, 20, 40):
             schedule = schedule_of(places, rounds, len(self.opponents))
             self.schedule(rounds).write_text(schedule)
@@ -140,14 +140,14 @@ def make_parser():
 
 
 def main():
-    asked = make_parser().parse_args()
-    asked.program, asked.grid = program_of(asked.program), Grid(asked.template)
+    args = make_parser().parse_args()
+    args.program, args.grid = program_of(args.program), Grid(args.template)
     with tempfile.TemporaryDirectory() as folder:
-        naive = Naive(asked, folder)
+        naive = Naive(args, folder)
         found, start = naive.find()
     print(f"total over START's: {100 * (found.share - start.share):+.1f}%, {naive.played} plays, "
           f"{processor_seconds():.1f} s", file=sys.stderr)
-    sys.stdout.buffer.write(asked.grid.text(asked.grid.ranges, found.values))
+    sys.stdout.buffer.write(args.grid.text(args.grid.ranges, found.values))
 
 
 if __name__ == "__main__":

@@ -6,7 +6,7 @@ import itertools, math, pathlib, tempfile
 
 from author.lib.endings import Fault
 from author.lib.program import Rules
-from author.lib.words import add_program, module_parser, number_from
+from author.lib.words import add_number, add_program, module_parser
 from pmars.games import Game, fights_of
 
 from . import plain_machine
@@ -105,9 +105,10 @@ def print_pairs(title, pairs):
     """Prints a line for each pair."""
     print(f"{title:<32}{'fights':>8}{'points':>8}{'ties':>7}{'unclassed':>10}{'ms':>10}"
           f"{'pMARS ms':>10}{'ratio':>8}")
-    for it in pairs:
-        print(f"{it.name:<32}{it.fights:>8}{it.points:>8}{it.ties:>7}{it.unclassed:>10.0%}"
-              f"{it.cwtune_seconds * 1e3:>10.1f}{it.pmars_seconds * 1e3:>10.1f}{it.ratio():>8.2f}")
+    for pair in pairs:
+        print(f"{pair.name:<32}{pair.fights:>8}{pair.points:>8}{pair.ties:>7}"
+              f"{pair.unclassed:>10.0%}{pair.cwtune_seconds * 1e3:>10.1f}"
+              f"{pair.pmars_seconds * 1e3:>10.1f}{pair.ratio():>8.2f}")
 
 
 def print_folders(cwtune, pmars, runs):
@@ -126,6 +127,5 @@ def pairs_parser(module, docstring, runs):
     parser = module_parser(module, docstring)
     add_program(parser)
     parser.add_argument("--pmars", required=True, metavar="PATH", help="a pMARS server build")
-    parser.add_argument("--runs", type=number_from(1), default=runs, metavar="N",
-                        help=f"runs of each series [default: {runs}]")
+    add_number(parser, "--runs", "N", runs, "runs of each series")
     return parser

@@ -16,8 +16,8 @@ PAIRS = {"A": [(A, A)], "B": [(B, B)], "AB": [(A, B)], "BA": [(B, A)],
 # The number that an indirect mode goes by, and how it changes: before, and after.
 MODES = {"*": (A, 0, 0), "@": (B, 0, 0), "{": (A, -1, 0), "<": (B, -1, 0), "}": (A, 0, 1),
          ">": (B, 0, 1)}
-COMPUTED = {"ADD": operator.add, "SUB": lambda b, a: b - a, "MUL": operator.mul,
-            "DIV": lambda b, a: b // a, "MOD": lambda b, a: b % a}
+COMPUTED = {"MOV": lambda _, a: a, "ADD": operator.add, "SUB": lambda b, a: b - a,
+            "MUL": operator.mul, "DIV": lambda b, a: b // a, "MOD": lambda b, a: b % a}
 
 
 def classes():
@@ -52,17 +52,19 @@ class Fight:
 
     def play(self):
         """Plays until a side has no task, or the cycles are over."""
-        for _ in range(self.cycles):
-            for queue in self.queues:
-                pc = queue.popleft()
-                cell = self.core[pc]
-                self.executed[cell[0], canonical_modifier(*cell[:2]), cell[2], cell[4]] += 1
-                self.turns += 1
-                for address in self.step(pc, cell):
-                    if len(queue) < self.tasks:
-                        queue.append(address % self.size)
-                if not queue:
-                    return
+        for queue in self.queues * self.cycles:
+            self.turn(queue)
+            if not queue:
+                return
+
+    def turn(self, queue):
+        """Executes the first task of a side, and counts its instruction."""
+        pc = queue.popleft()
+        cell = self.core[pc]
+        self.executed[cell[0], canonical_modifier(*cell[:2]), cell[2], cell[4]] += 1
+        self.turns += 1
+        addresses = [address % self.size for address in self.step(pc, cell)]
+        queue.extend(addresses[:self.tasks - len(queue)])
 
     def operand(self, pc, mode, number):
         """Returns the address that an operand points to, and a copy of the cell there."""
@@ -87,15 +89,8 @@ class Fight:
         pairs, target = PAIRS[modifier], self.core[b_address]
         if op == "MOV" and modifier == "I":
             self.core[b_address] = a
-        elif op == "MOV":
-            for source, goal in pairs:
-                target[goal] = a[source]
         elif op in COMPUTED:
-            for source, goal in pairs:
-                if op not in ("DIV", "MOD") or a[source] != 0:
-                    target[goal] = COMPUTED[op](b[goal], a[source]) % self.size
-            if op in ("DIV", "MOD") and any(a[source] == 0 for source, _ in pairs):
-                return []
+            return [pc + 1] if self.computes(op, pairs, target, a, b) else []
         elif op == "DAT":
             return []
         elif op == "SPL":
@@ -105,6 +100,13 @@ class Fight:
         elif op != "NOP":
             return [pc + 2 if skips(op, modifier, pairs, a, b) else pc + 1]
         return [pc + 1]
+
+    def computes(self, op, pairs, target, a, b):
+        """Puts what an opcode computes into the target. Returns whether nothing is divided by 0."""
+        possible = [pair for pair in pairs if op not in ("DIV", "MOD") or a[pair[0]] != 0]
+        for source, goal in possible:
+            target[goal] = COMPUTED[op](b[goal], a[source]) % self.size
+        return possible == pairs
 
     def jumps(self, op, pairs, target, b):
         """Lowers the numbers of the target, if the opcode is DJN. Returns whether it jumps."""

@@ -13,7 +13,7 @@ from author.lib.program import Rules, program_of
 from author.lib.series import series
 from author.lib.tuning_files import Fight, schedule_text
 from author.lib.warrior import equ_line
-from author.lib.words import add_program, module_parser, number_from
+from author.lib.words import add_number, add_program, module_parser, number_from
 from author.lib.writing import naming
 from pmars.games import run
 
@@ -46,9 +46,9 @@ class Command(NamedTuple):
     stop: float = math.inf
 
 
-def command_of(asked, race, folder):
+def command_of(args, race, folder):
     """Returns the command of a run. Writes the schedule that it reads."""
-    template, program = TEMPLATES[race.template], f"--program={asked.program}"
+    template, program = TEMPLATES[race.template], f"--program={args.program}"
     schedule = folder / "schedule.csv"
     if race.search == "naive":
         return Command(["-m", "bench.naive", program, race.seconds, race.seed, template,
@@ -56,7 +56,7 @@ def command_of(asked, race, folder):
     if race.search == "climb":
         rounds = FEW if race.seconds < LONG else MANY
         schedule.write_text(schedule_text(series_of(FIRST_POSITION + race.seed, rounds)))
-        return Command([asked.climb / "cwtune-seek", program, template, schedule, *OPPONENTS],
+        return Command([args.climb / "cwtune-seek", program, template, schedule, *OPPONENTS],
                        CLIMB_PART * race.seconds)
     schedule.write_text(schedule_text(series_of(FIRST_POSITION, 1)))
     return Command([HERE.parent / "author/cwtune-seek", f"--minutes={race.seconds / 60:g}",
@@ -102,13 +102,13 @@ def wait(process, stop):
         time.sleep(0.1)
 
 
-def searched(asked, race, folder):
+def searched(args, race, folder):
     """Runs a search, which has to succeed. Returns its processor seconds and its errors; what it
     printed is the file `found.red` of the folder.
 
     It is in a session of its own, so that Ctrl-C does not end it with a result that is too early.
     """
-    command, faults = command_of(asked, race, folder), folder / "faults"
+    command, faults = command_of(args, race, folder), folder / "faults"
     with (folder / "found.red").open("wb") as found, faults.open("wb") as stderr:
         process = subprocess.Popen(
             [sys.executable, *map(str, command.words)], cwd=HERE.parent, stdin=subprocess.DEVNULL,
@@ -154,48 +154,48 @@ def judge(pmars, grid, values, folder):
     return [tuple(map(int, counts.groups())) for counts in printed]
 
 
-def play(asked, race):
+def play(args, race):
     """Returns the run of a race, searched and judged."""
     grid, used, said = Grid(TEMPLATES[race.template]), 0.0, None
     values = grid.start_values
     with tempfile.TemporaryDirectory() as name:
         folder = pathlib.Path(name)
         if race.search != START:
-            used, text = searched(asked, race, folder)
+            used, text = searched(args, race, folder)
             values = values_found(race, grid, folder / "found.red")
         if race.search == "search" and values != grid.start_values:
             said = gain_said(race, text)
-        return Run(race, used, said, values, judge(asked.pmars, grid, values, folder))
+        return Run(race, used, said, values, judge(args.pmars, grid, values, folder))
 
 
-def play_once(asked, race):
+def play_once(args, race):
     """Plays a race, unless it is in the results by now. Returns what is said of it."""
-    results = Results(asked.results)
+    results = Results(args.results)
     if race in results.runs:
         return f"{race}: played before"
-    new = play(asked, race)
+    new = play(args, race)
     # One write of a line, so that several instances may append to one file.
-    with naming(asked.results), open(asked.results, "a", encoding="utf-8") as file:
+    with naming(args.results), open(args.results, "a", encoding="utf-8") as file:
         file.write(new.line())
     if race.search == START:
         return f"{race}: {new.judged().value:.2f}%"
     return f"{race}: {results.gain(new)}, {new.used:.1f} s"
 
 
-def races_of(asked):
+def races_of(args):
     """Returns the races that are asked for, in the order of playing."""
-    return [Race(template, search, seconds, seed) for seconds in asked.seconds
-            for search in asked.searches for seed in range(1, asked.seeds + 1)
-            for template in asked.templates]
+    return [Race(template, search, seconds, seed) for seconds in args.seconds
+            for search in args.searches for seed in range(1, args.seeds + 1)
+            for template in args.templates]
 
 
-def play_all(asked):
+def play_all(args):
     """Plays START of each template, and then the races side by side. After a fault those under way
     are played to their ends."""
-    for template in asked.templates:
-        print(play_once(asked, Race(template, START, 0, 0)), flush=True)
-    pool = concurrent.futures.ThreadPoolExecutor(asked.jobs)
-    playing = [pool.submit(play_once, asked, race) for race in races_of(asked)]
+    for template in args.templates:
+        print(play_once(args, Race(template, START, 0, 0)), flush=True)
+    pool = concurrent.futures.ThreadPoolExecutor(args.jobs)
+    playing = [pool.submit(play_once, args, race) for race in races_of(args)]
     try:
         for one in concurrent.futures.as_completed(playing):
             print(one.result(), flush=True)
@@ -224,10 +224,8 @@ def make_parser():
                         metavar="NAME,..", help="some of bench/races/templates [default: each]")
     parser.add_argument("--seconds", type=budgets, default=[60, 240], metavar="N,..",
                         help="budgets of processor time [default: 60,240]")
-    parser.add_argument("--seeds", type=number_from(1), default=5, metavar="N",
-                        help="runs of each, with the seeds 1 to N [default: 5]")
-    parser.add_argument("--jobs", type=number_from(1), default=1, metavar="N",
-                        help="runs side by side [default: 1]")
+    add_number(parser, "--seeds", "N", 5, "runs of each, with the seeds 1 to N")
+    add_number(parser, "--jobs", "N", 1, "runs side by side")
     parser.add_argument("--results", required=True, metavar="FILE",
                         help="what is appended to, a line of JSON for each run that was judged")
     parser.add_argument("--table", action="store_true",
@@ -235,28 +233,28 @@ def make_parser():
     return parser
 
 
-def settle(parser, asked):
+def settle(parser, args):
     """Finds the programs of the races, or refuses them."""
-    asked.searches = asked.searches or SEARCHES[:3 if asked.climb else 2]
-    if "climb" in asked.searches and not asked.climb:
+    args.searches = args.searches or SEARCHES[:3 if args.climb else 2]
+    if "climb" in args.searches and not args.climb:
         parser.error("the climb needs --climb FOLDER")
-    if asked.climb and not (asked.climb / "cwtune-seek").is_file():
-        raise Fault(f"{asked.climb}: no cwtune-seek in it", 2)
-    asked.climb = asked.climb and asked.climb.resolve()
-    asked.pmars = asked.pmars and program_of(asked.pmars, "make pmars")
-    asked.program = program_of(asked.program)
-    if not asked.pmars:
-        asked.pmars = runs.run(["sh", HERE.parent / "pmars/pmars.sh"]).output.strip()
+    if args.climb and not (args.climb / "cwtune-seek").is_file():
+        raise Fault(f"{args.climb}: no cwtune-seek in it", 2)
+    args.climb = args.climb and args.climb.resolve()
+    args.pmars = args.pmars and program_of(args.pmars, "make pmars")
+    args.program = program_of(args.program)
+    if not args.pmars:
+        args.pmars = runs.run(["sh", HERE.parent / "pmars/pmars.sh"]).output.strip()
 
 
 def main():
     parser = make_parser()
-    asked = parser.parse_args()
-    if asked.table:
-        print("\n".join(table_of(Results(asked.results))))
+    args = parser.parse_args()
+    if args.table:
+        print("\n".join(table_of(Results(args.results))))
     else:
-        settle(parser, asked)
-        play_all(asked)
+        settle(parser, args)
+        play_all(args)
 
 
 if __name__ == "__main__":

@@ -10,7 +10,7 @@ import random, tempfile
 
 from author.lib.endings import run_tool
 from author.lib.program import Rules, program_of
-from author.lib.words import number_from
+from author.lib.words import add_number
 from pmars.games import Game
 from pmars.random_warriors import random_load
 
@@ -27,10 +27,10 @@ def lasts(loads, program, folder):
     return int(run(game.fight_words(program, SEED, "c")).output.split()[-1]) >= SHORTEST
 
 
-def lasting_pairs(asked, programs, folder):
+def lasting_pairs(args, programs, folder):
     """Yields pairs of random warriors whose first fights last."""
-    dice, found = random.Random(asked.seed), 0
-    while found < asked.pairs:
+    dice, found = random.Random(args.seed), 0
+    while found < args.pairs:
         loads = [random_load(dice, Rules()) for _ in range(2)]
         if lasts(loads, programs[0], tempfile.mkdtemp(dir=folder)):
             found += 1
@@ -47,19 +47,17 @@ def print_ratios(title, pairs):
 
 def make_parser():
     parser = pairs_parser("bench.random_pairs", __doc__, 1)
-    parser.add_argument("--pairs", type=number_from(1), default=100, metavar="N",
-                        help="pairs [default: 100]")
-    parser.add_argument("--seed", type=number_from(0), default=1, metavar="S",
-                        help="another number gives other warriors [default: 1]")
+    add_number(parser, "--pairs", "N", 100, "pairs")
+    add_number(parser, "--seed", "S", 1, "another number gives other warriors", 0)
     return parser
 
 
 def main():
-    asked = make_parser().parse_args()
-    pmars = program_of(asked.pmars, "make pmars")
-    programs = program_of(asked.program), pmars
+    args = make_parser().parse_args()
+    pmars = program_of(args.pmars, "make pmars")
+    programs = program_of(args.program), pmars
     with tempfile.TemporaryDirectory() as folder:
-        pairs = play_in_turn(lasting_pairs(asked, programs, folder), asked.runs)
+        pairs = play_in_turn(lasting_pairs(args, programs, folder), args.runs)
     print_pairs("pair", pairs)
     print_ratios("all", pairs)
     print_ratios("without a tie", [pair for pair in pairs if pair.ties == 0])

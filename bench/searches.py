@@ -9,7 +9,7 @@ import argparse, pathlib, subprocess, sys, tempfile, time
 
 from author.lib.endings import Fault, run_tool
 from author.lib.program import program_of
-from author.lib.words import add_program, module_parser, number_from
+from author.lib.words import add_number, add_program, module_parser
 
 ROOT = pathlib.Path(__file__).resolve().parent.parent
 AUTHOR, WARRIORS = ROOT / "author", sorted((ROOT / "examples/warriors").glob("*.red"))
@@ -18,15 +18,15 @@ SEED = "4321"
 KINDS = ["best", "keep", "all", "spread"]
 
 
-def search_of(kind, asked):
+def search_of(kind, args):
     """Returns the name of a kind of search, and the words that begin it."""
-    tune = [asked.program, "tune"]
-    spread = [sys.executable, AUTHOR / "cwtune-spread", "--program", asked.program]
+    tune = [args.program, "tune"]
+    spread = [sys.executable, AUTHOR / "cwtune-spread", "--program", args.program]
     return {"best": ("tune", tune),
-            "keep": (f"tune --keep {asked.keep}", [*tune, f"--keep={asked.keep}"]),
+            "keep": (f"tune --keep {args.keep}", [*tune, f"--keep={args.keep}"]),
             "all": ("tune --all", [*tune, "--all"]),
-            "spread": (f"cwtune-spread --jobs {asked.jobs}",
-                       [*spread, f"--jobs={asked.jobs}"])}[kind]
+            "spread": (f"cwtune-spread --jobs {args.jobs}",
+                       [*spread, f"--jobs={args.jobs}"])}[kind]
 
 
 def some_of(names):
@@ -61,11 +61,11 @@ def search(words, template, folder):
     return int(report["fights"].split()[0]), seconds, (report["best"], report["total"])
 
 
-def print_searches(asked, template, folder):
+def print_searches(args, template, folder):
     """Prints a line for each kind of search. All have to find the same setting."""
     first, found = None, set()
-    for kind in asked.kinds:
-        name, words = search_of(kind, asked)
+    for kind in args.kinds:
+        name, words = search_of(kind, args)
         fights, seconds, best = search(words, template, folder)
         first = first or (fights, seconds)
         found.add(best)
@@ -78,24 +78,21 @@ def print_searches(asked, template, folder):
 def main():
     parser = module_parser("bench.searches", __doc__)
     add_program(parser)
-    parser.add_argument("--rounds", type=number_from(1), default=20, metavar="R",
-                        help="fights against each warrior [default: 20]")
-    parser.add_argument("--keep", type=number_from(2, 1000), default=10, metavar="K",
-                        help="the first K of the ranking [default: 10]")
-    parser.add_argument("--jobs", type=number_from(1), default=4, metavar="N",
-                        help="processors of cwtune-spread [default: 4]")
+    add_number(parser, "--rounds", "R", 20, "fights against each warrior")
+    add_number(parser, "--keep", "K", 10, "the first K of the ranking", 2, 1000)
+    add_number(parser, "--jobs", "N", 4, "processors of cwtune-spread")
     parser.add_argument("--kinds", type=some_of(KINDS), default=KINDS, metavar="KIND,..",
                         help=f"some of {', '.join(KINDS)} [default: each of them]")
     parser.add_argument("templates", nargs="+", type=pathlib.Path, metavar="TEMPLATE")
-    asked = parser.parse_args()
-    asked.program = program_of(asked.program)
+    args = parser.parse_args()
+    args.program = program_of(args.program)
     with tempfile.TemporaryDirectory() as name:
         folder = pathlib.Path(name)
-        series = [sys.executable, AUTHOR / "cwtune-series", SEED, str(asked.rounds),
+        series = [sys.executable, AUTHOR / "cwtune-series", SEED, str(args.rounds),
                   str(len(WARRIORS))]
         (folder / "schedule.csv").write_text(run("cwtune-series", series))
-        for template in asked.templates:
-            print_searches(asked, template.resolve(), folder)
+        for template in args.templates:
+            print_searches(args, template.resolve(), folder)
 
 
 if __name__ == "__main__":

@@ -47,15 +47,15 @@ def main():
     args = parser.parse_args()
     if not shutil.which("rt"):
         raise Fault("no `rt` on the PATH", 2)
-    for name in args.crates:
-        crate = ROOT / "crates" / name
-        if not (crate / "proofs").is_dir():
-            raise Fault(f"no crate is called {name}, or it has no proofs", 2)
+    crates = [ROOT / "crates" / name for name in args.crates]
+    # All names are looked at before anything is deleted.
+    if unknown := [crate.name for crate in crates if not (crate / "proofs").is_dir()]:
+        raise Fault(f"no crate is called {unknown[0]}, or it has no proofs", 2)
+    for crate in crates:
         for file in without_answers(crate):
             print(file.relative_to(ROOT))
             if args.delete:
                 file.unlink()
-    return 0
 
 
 if __name__ == "__main__":

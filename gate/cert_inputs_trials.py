@@ -31,7 +31,7 @@ KIND = "error: CERT.inputs is a text of another kind, and is not overwritten: CE
 NAMED = "error: CERT.inputs is also a file of this command, and is not overwritten: CERT.inputs\n"
 
 
-class Trial(Place):
+class TuningPlace(Place):
     """A folder with the files of the trials."""
 
     def __init__(self, program, folder, version):
@@ -159,7 +159,7 @@ def main():
     program = program_word("gate.cert_inputs_trials", __doc__)
     version = run_program(program, "--version").stdout.decode().removeprefix("cwtune ").strip()
     with tempfile.TemporaryDirectory() as folder:
-        place = Trial(program, pathlib.Path(folder), version)
+        place = TuningPlace(program, pathlib.Path(folder), version)
         return tally([*texts(place), *replaced(place), *kept(place), *unwritable(place),
                       *checks(place), *rejections(place)])
 

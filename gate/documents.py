@@ -100,13 +100,13 @@ def file_of_row(row, command, saved):
     return name, before + lines_in(row["With"]) + after
 
 
-def run_of_row(row, command, saved, number):
+def run_of_row(row, command, saved, index):
     """Returns the run of a row. Its file has a name of its own."""
     files, name = {}, f"{command}: {' | '.join(row.values())}"
     if row.keys() & {"Text", "With"}:
-        file, files[f"row-{number}"] = file_of_row(row, command, saved)
+        file, files[f"row-{index}"] = file_of_row(row, command, saved)
         before, after = command.split(file)
-        command = f"{before}row-{number}{after}"
+        command = f"{before}row-{index}{after}"
     for head in filter(str.isupper, row):
         command = re.sub(rf"\b{head}\b", lambda _, cell=row[head]: lines_in(cell).strip(), command)
     return Run(name, command, lines_in(row["Prints"]), files)
@@ -114,9 +114,9 @@ def run_of_row(row, command, saved, number):
 
 def runs_in_tables(text, saved):
     """Yields the runs that the tables of a document show, or what a row lacks."""
-    for number, (commands, head, row) in enumerate(rows_of(text)):
+    for index, (commands, head, row) in enumerate(rows_of(text)):
         try:
-            yield run_of_row(dict(zip(head, row, strict=True)), commands[-1], saved, number)
+            yield run_of_row(dict(zip(head, row, strict=True)), commands[-1], saved, index)
         except (IndexError, KeyError, ValueError):
             yield f"the row {row} has no command, not its cells, or no file of the command"
 
@@ -143,38 +143,44 @@ def typed(program, runs, folder):
     return list(zip(parts[::2], parts[1::2]))
 
 
-def played(program, document, folder):
-    """Plays what a document shows. Yields each run with what was wrong."""
-    text = document.read_text("utf-8")
-    saved = saved_files(text)
-    found = [f"no block to save as {name}" for name in saved if saved[name] is None]
-    saved = {name: saved[name] for name in saved if saved[name] is not None}
-    found += [*runs_in_blocks(text), *runs_in_tables(text, saved)]
+def shown_in(text):
+    """Returns the files of a document, the texts by the names, its runs, and what it lacks."""
+    files = saved_files(text)
+    saved = {name: block for name, block in files.items() if block is not None}
+    found = [*runs_in_blocks(text), *runs_in_tables(text, saved),
+             *(f"no block to save as {name}" for name in files if name not in saved)]
     runs = [run for run in found if isinstance(run, Run)]
-    yield from ((document.name, [lack]) for lack in found if isinstance(lack, str))
-    for files in [saved, *(run.files for run in runs)]:
-        for name, file_text in files.items():
-            (folder / name).write_text(file_text)
+    return saved, runs, [lack for lack in found if isinstance(lack, str)]
+
+
+def faults_of(run, out, status):
+    """Returns what is wrong with the output and the status of a run, in a list."""
+    right = is_printed(run.printed, out) and int(status) == status_of(run.printed)
+    return [] if right else [f"got {out!r}, status {status}"]
+
+
+def played(program, document, folder):
+    """Plays what a document shows. Returns each run with what was wrong."""
+    saved, runs, lacks = shown_in(document.read_text("utf-8"))
+    for name, text in [*saved.items(), *(file for run in runs for file in run.files.items())]:
+        (folder / name).write_text(text)
     results = typed(program, runs, folder)
-    for run, (out, status) in zip(runs, results):
-        right = is_printed(run.printed, out) and int(status) == status_of(run.printed)
-        yield f"{document.name}: {run.name}", [] if right else [f"got {out!r}, status {status}"]
-    if len(results) < len(runs):
-        yield f"{document.name}: {runs[len(results)].name}", ["ended the shell, or did not end"]
+    wrong = [(run.name, faults_of(run, *result)) for run, result in zip(runs, results)]
+    wrong += [(run.name, ["ended the shell, or did not end"]) for run in runs[len(results):][:1]]
+    return [(document.name, [lack]) for lack in lacks] + [
+        (f"{document.name}: {name}", faults) for name, faults in wrong]
 
 
 def trials(program):
-    for document in DOCUMENTS:
-        yield f"{document.name}: no unsettled merge", UNSETTLED.findall(document.read_text("utf-8"))
+    yield from ((f"{document.name}: no unsettled merge",
+                 UNSETTLED.findall(document.read_text("utf-8"))) for document in DOCUMENTS)
     with tempfile.TemporaryDirectory() as name:
         folder = pathlib.Path(name)
         shutil.copytree(ROOT / "examples", folder / "examples")
-        count = 0
-        for document in DOCUMENTS:
-            for trial in played(program, document, folder / FOLDERS.get(document.name, ".")):
-                count += 1
-                yield trial
-        yield "runs in documents", [] if count else ["none was found"]
+        runs = [trial for document in DOCUMENTS for trial in played(
+            program, document, folder / FOLDERS.get(document.name, "."))]
+    yield from runs
+    yield "runs in documents", [] if runs else ["none was found"]
 
 
 def main():

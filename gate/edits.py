@@ -8,10 +8,8 @@ is refused if a goal of the function that it changes stays open, or if one of th
 files fails, and not only because the edit took a name away. If only a premise of a call that the
 edit adds stays open, the round's line says so.
 
-A goal that stays open shows what the clause refuses. A proof file that fails shows only that this
-proof is not one of the wrong body: another one might be. So such an edit needs a line
-`breaks: CASE`, with a case in which the wrong body breaks the contract. Each round says how many of
-its edits a proof file refused, and --names says which.
+An edit that only a proof file refuses needs a line `breaks: CASE` (docs/PROVING.md). Each round
+says how many of its edits a proof file refused, and --names says which.
 
 An edit is a file in the format of `rt must-fail`, with a line `function: PATH`, as a check prints
 the function. Each `old:` text occurs once in its file, in the name's line or in the body of that
@@ -23,8 +21,8 @@ The libraries under the crates must be built, but for those that an `rt ci` buil
 was judged as it should be is kept in ~/.cache by a checksum of all that the verdict depends on, and
 not tried again without --anew.
 """
-import collections, hashlib, importlib.util, itertools, os, pathlib, re, shutil, subprocess, sys
-import tempfile
+import collections, contextlib, hashlib, importlib.util, itertools, os, pathlib, re, shutil
+import subprocess, sys, tempfile
 
 from author.lib.endings import Fault, run_tool
 from author.lib.words import module_parser, number_from
@@ -85,11 +83,11 @@ class Edit:
 
 
 class Crate:
-    """A crate, its functions by their paths, and its edits."""
+    """A crate, its functions by their paths, and its edits. `kit_crate` is what rtlib makes."""
 
-    def __init__(self, kit, made):
-        self.kit, self.made, self.name = kit, made, made.name
-        self.folder = pathlib.Path(made.folder)
+    def __init__(self, kit, kit_crate):
+        self.kit, self.kit_crate, self.name = kit, kit_crate, kit_crate.name
+        self.folder = pathlib.Path(kit_crate.folder)
         self.functions = functions_of(self.folder, self.name)
         self.edits = [Edit(file, self) for file in sorted(self.folder.glob("must-fail/*.edit"))]
         harmless = ROOT / "gate" / "harmless" / f"{self.name}.edit"
@@ -106,8 +104,8 @@ class Crate:
 
     def command(self, edits):
         """Returns the command that checks the functions of these edits, past holes."""
-        with open(os.devnull, "w") as self.made.out:
-            words = self.made.words(["--jobs", "1"], keeps=False)
+        with open(os.devnull, "w") as self.kit_crate.out:
+            words = self.kit_crate.words(["--jobs", "1"], keeps=False)
         only = [word for edit in edits for word in ("--only", path_below(edit.function))]
         return [self.kit.RATTLE, "check", *words, "--allow-holes", *only]
 
@@ -233,8 +231,8 @@ def sum_of(crate, edits):
     digest = hashlib.sha256(f"{rattle.st_size} {rattle.st_mtime_ns} ".encode())
     files = [ROOT / "gate" / name for name in ("edits.py", "functions.py")]
     files += [edit.source for edit in [*edits, crate.harmless]]
-    for made, part in itertools.product([crate.made, *crate.made.below()], PARTS):
-        files += sorted(pathlib.Path(made.folder, part).rglob("*.*"))
+    for kit_crate, part in itertools.product([crate.kit_crate, *crate.kit_crate.below()], PARTS):
+        files += sorted(pathlib.Path(kit_crate.folder, part).rglob("*.*"))
     for file in files:
         text = file.read_bytes()
         digest.update(f"{file.relative_to(ROOT)} {len(text)} ".encode() + text)
@@ -249,21 +247,19 @@ def kept_at(key):
 def keep(key, by_proofs):
     """Notes that a round was judged as it should be, and which of its edits a proof file refused.
     What cannot be noted is tried again."""
-    try:
+    with contextlib.suppress(OSError):
         kept_at(key).parent.mkdir(parents=True, exist_ok=True)
         kept_at(key).write_text(" ".join(by_proofs))
-    except OSError:
-        pass
 
 
-def judge(crate, number, edits, options):
+def judge(crate, number, edits, args):
     """Tries a round. Returns how many edits it has, what is wrong, and its name."""
     label, key = f"{crate.name}, round {number}: {len(edits)} edits", sum_of(crate, edits)
-    if kept_at(key).exists() and not options.anew and not options.control:
-        by_proofs = refused_by_proofs(kept_at(key).read_text().split(), options)
+    if kept_at(key).exists() and not args.anew and not args.control:
+        by_proofs = refused_by_proofs(kept_at(key).read_text().split(), args)
         return len(edits) + 1, [], f"{label}, judged before{by_proofs}"
-    faults = faults_without_edits(edits, check(crate, edits, [])) if options.control else []
-    log = options.logs and pathlib.Path(options.logs, f"{crate.name}-{number}.log")
+    faults = faults_without_edits(edits, check(crate, edits, [])) if args.control else []
+    log = args.logs and pathlib.Path(args.logs, f"{crate.name}-{number}.log")
     every = [*edits, crate.harmless]
     text = check(crate, every, every, log)
     faults += faults_of(crate, edits, text)
@@ -277,12 +273,12 @@ def judge(crate, number, edits, options):
         keep(key, by_proofs)
     by_premises = "".join(f", {edit.name} only for a premise of a call that it adds: {goals}"
                           for edit in edits if (goals := " ".join(open_premises(edit, said))))
-    return len(edits) + 1, faults, label + refused_by_proofs(by_proofs, options) + by_premises
+    return len(edits) + 1, faults, label + refused_by_proofs(by_proofs, args) + by_premises
 
 
-def refused_by_proofs(names, options):
+def refused_by_proofs(names, args):
     """Returns how many edits a proof file refused, and with --names which."""
-    shown = f": {' '.join(names)}" if options.names and names else ""
+    shown = f": {' '.join(names)}" if args.names and names else ""
     return f", {len(names)} refused by a proof file{shown}"
 
 
@@ -302,14 +298,14 @@ def load_kit():
 def crates_of(kit, names):
     """Returns the crates with edits, those above first, since their checks take longest."""
     every = kit.crates_below(str(ROOT))
-    unknown = set(names) - {made.name for made in every}
+    unknown = set(names) - {kit_crate.name for kit_crate in every}
     if unknown:
         raise Fault(f"no crate is called {min(unknown)}", 2)
-    crates = [Crate(kit, made) for made in every if not names or made.name in names]
+    crates = [Crate(kit, kit_crate) for kit_crate in every if not names or kit_crate.name in names]
     return [crate for crate in crates if crate.edits][::-1]
 
 
-def words():
+def make_parser():
     parser = module_parser("gate.edits", __doc__)
     parser.add_argument("crates", nargs="*", metavar="CRATE",
                         help="whose edits are tried [default: every crate]")
@@ -323,22 +319,22 @@ def words():
     parser.add_argument("--logs", metavar="FOLDER", help="write what each check says there")
     parser.add_argument("--names", action="store_true",
                         help="name the edits that only a proof file refused")
-    return parser.parse_args()
+    return parser
 
 
 def main():
-    options = words()
+    args = make_parser().parse_args()
     os.chdir(ROOT)
-    crates = crates_of(load_kit(), options.crates)
-    if options.logs:
-        os.makedirs(options.logs, exist_ok=True)
-    rounds = [(crate, number, edits, options) for crate in crates
+    crates = crates_of(load_kit(), args.crates)
+    if args.logs:
+        os.makedirs(args.logs, exist_ok=True)
+    rounds = [(crate, number, edits, args) for crate in crates
               for number, edits in enumerate(crate.rounds(), 1)]
-    if options.beside:
+    if args.beside:
         os.nice(19)
     passed = failed = 0
-    proofs = Proofs(sys.stdin.readline if options.beside else None)
-    for count, faults, label in in_lanes(rounds, judge, options.jobs, proofs):
+    proofs = Proofs(sys.stdin.readline if args.beside else None)
+    for count, faults, label in in_lanes(rounds, judge, args.jobs, proofs):
         print("\n".join([label, *(f"  {fault}" for fault in faults)]), flush=True)
         passed, failed = passed + max(count - len(faults), 0), failed + len(faults)
     print(f"{passed} passed, {failed} failed")

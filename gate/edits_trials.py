@@ -2,7 +2,7 @@
 how edits are judged, and when their rounds begin beside `rt ci`."""
 import os, pathlib, queue, shutil, subprocess, sys, tempfile, time, types
 
-from author.lib.endings import run_tool
+from author.lib.endings import Fault, run_tool
 from author.lib.words import module_parser
 
 from .lib import lanes
@@ -60,7 +60,10 @@ class Room:
             self.write(path, text)
         # No round waits for memory here.
         file = self.folder / "tree/gate/lib/lanes.py"
-        file.write_text(file.read_text().replace("SETTLED = 4_000_000,", "SETTLED = 1,"))
+        before, found, after = file.read_text().partition("SETTLED = 4_000_000,")
+        if not found:
+            raise Fault(f"{file} sets ROOM otherwise", 3)
+        file.write_text(f"{before}SETTLED = 1,{after}")
 
     def write(self, path, text):
         file = self.folder / path
@@ -131,17 +134,17 @@ def beside():
     proofs, below = lanes.Proofs(lambda: said.get(timeout=20)), []
     crates = []
     for name in ("low", "middle", "high"):
-        made = types.SimpleNamespace(name=name, rlib="none", below=[*below].copy)
-        below.append(made)
-        crates.insert(0, types.SimpleNamespace(made=made))
+        kit_crate = types.SimpleNamespace(name=name, rlib="none", below=[*below].copy)
+        below.append(kit_crate)
+        crates.insert(0, types.SimpleNamespace(kit_crate=kit_crate))
 
     def judge(crate):
-        begun.append(crate.made.name)
-        is_middle = crate.made.name == "middle"
+        begun.append(crate.kit_crate.name)
+        is_middle = crate.kit_crate.name == "middle"
         said.put("rt: middle is kept: an earlier run proved it\n" if is_middle else "")
         while is_middle and "middle" not in proofs.names:
             time.sleep(0.01)
-        return crate.made.name
+        return crate.kit_crate.name
 
     said.put("rt: low: its tests are proved\n")
     said.put("rt: low proved\n")

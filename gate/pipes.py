@@ -32,7 +32,7 @@ TUNE = ["tune", *RULES, "one.red", "both.csv", "CERT", *WARRIORS]
 MANY = ["tune", *RULES, "many.red", "both.csv", "CERT", *WARRIORS]
 TYPO = ["tune", *RULES, "one.red", "typo.csv", "CERT", *WARRIORS]
 CHECK = ["check", *RULES, "one.red", "both.csv", "one.cert", *WARRIORS]
-SLOW = ["tune", "slow.red", "far.csv", "CERT", "imp.red"]
+SLOW = ["tune", "--progress", "slow.red", "far.csv", "CERT", "imp.red"]
 NOBODY = 65534
 NO_WRITE = end(3, err="failed: Write\n")
 NO_CERT = end(3, err="failed: Write\nfound: best 0 total 4\n")
@@ -198,10 +198,10 @@ def interrupted(place):
                 place.write("CERT", old)
             before = place.texts()
             process = place.start(SLOW, preexec_fn=take_interrupts)
-            time.sleep(1)
+            has_begun = process.stderr.readline().startswith(b"0% ")
             process.send_signal(sign)
-            actual = (*ended(process), place.texts())
-            yield f"a tuning ended by {sign.name}", (-sign, b"", b"", before), actual
+            actual = (has_begun, *ended(process), place.texts())
+            yield f"a tuning ended by {sign.name}", (True, -sign, b"", b"", before), actual
             (place.folder / "CERT").unlink(missing_ok=True)
 
 

@@ -1,5 +1,5 @@
-"""Asks the modules for help, runs them with a program that does not exist or always fails, and
-looks whether `classes.py` has something to write.
+"""Asks the modules for help, and runs them with a program that does not exist or always fails. Has
+cases refused, and an option of pmars.sh, and looks whether `classes.py` has something to write.
 
 Each module of `gate` that can be run has to be in the lists of gate.gate and of gate/__init__.py,
 but for those that are run by hand.

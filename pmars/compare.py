@@ -10,13 +10,14 @@ status is 1 if something else differs, or if a known difference no longer shows.
 
 PMARS is a server build of pMARS 0.9.2; `make pmars` builds one, and prints its path.
 """
-import itertools, pathlib, random, sys, tempfile, time
+import itertools, pathlib, random, tempfile, time
 
 from author.lib.adapt import Unwritable, adapt
 from author.lib.endings import Fault, run_tool
 from author.lib.pmars.program import refuse_other
 from author.lib.program import Rules, program_of, run_program
-from author.lib.words import add_program, module_parser, number_from
+from author.lib.watching import AT_TERMINAL, rewrite
+from author.lib.words import add_number, add_program, module_parser, number_from
 
 from .games import LONGEST, Game, fights_of, run
 from .known import FIGHTS, RULES, TEXTS, WAITS
@@ -69,23 +70,18 @@ class Progress:
         self.end, self.fights, self.texts = end, 0, 0
 
     def show(self):
-        if sys.stderr.isatty():
-            print(f"\r{self.fights} of {self.end} fights, {self.texts} texts\x1b[K", end="",
-                  file=sys.stderr, flush=True)
-
-    def clear(self):
-        if sys.stderr.isatty():
-            print("\r\x1b[K", end="", file=sys.stderr, flush=True)
+        if AT_TERMINAL:
+            rewrite(f"{self.fights} of {self.end} fights, {self.texts} texts")
 
 
 def shorter(load):
     """Yields the load files that lack one instruction of this one, the last first."""
-    start, *lines = load.splitlines()
-    index = int(start.split()[1])
-    for k in range(len(lines) - 1, -1, -1):
-        if k != index and len(lines) > 1:
-            rest = lines[:k] + lines[k + 1:]
-            yield "\n".join([f"ORG {index - (k < index)}", *rest, ""])
+    first, *lines = load.splitlines()
+    start = int(first.split()[1])
+    for left_out in reversed(range(len(lines))):
+        if left_out != start and len(lines) > 1:
+            rest = lines[:left_out] + lines[left_out + 1:]
+            yield "\n".join([f"ORG {start - (left_out < start)}", *rest, ""])
 
 
 def shorter_pairs(warriors):
@@ -219,25 +215,24 @@ def main():
     parser = module_parser("pmars.compare", __doc__)
     parser.add_argument("--seed", type=number_from(0), default=int(time.time()), metavar="S",
                         help="the beginning of the random numbers [default: the time]")
-    parser.add_argument("--fights", type=number_from(1), default=1000, metavar="N",
-                        help="how many fights at least [default: 1000]")
-    parser.add_argument("--texts", type=number_from(0), default=100, metavar="N",
-                        help="random texts [default: 100]")
+    add_number(parser, "--fights", "N", 1000, "how many fights at least")
+    add_number(parser, "--texts", "N", 100, "random texts", 0)
     add_program(parser)
     parser.add_argument("pmars", metavar="PMARS", help="a server build of pMARS 0.9.2, whose path "
                         "`make pmars` prints")
-    asked = parser.parse_args()
-    pmars = program_of(asked.pmars, "make pmars")
-    dice, progress = random.Random(asked.seed), Progress(asked.fights)
+    args = parser.parse_args()
+    pmars = program_of(args.pmars, "make pmars")
+    dice, progress = random.Random(args.seed), Progress(args.fights)
     with tempfile.TemporaryDirectory() as folder:
-        programs = Programs(program_of(asked.program), pmars, folder)
+        programs = Programs(program_of(args.program), pmars, folder)
         try:
-            wrong = compare_fights(programs, dice, asked.fights, progress)
-            wrong += compare_texts(programs, dice, asked.texts, progress)
+            wrong = compare_fights(programs, dice, args.fights, progress)
+            wrong += compare_texts(programs, dice, args.texts, progress)
         finally:
-            progress.clear()
+            if AT_TERMINAL:
+                rewrite()
         wrong += show_fights(programs) + show_texts(programs) + compare_adapted(programs)
-    print(f"seed {asked.seed}: {progress.fights} fights, {progress.texts} texts, "
+    print(f"seed {args.seed}: {progress.fights} fights, {progress.texts} texts, "
           f"{len(FIGHTS) + len(TEXTS)} known differences: {wrong} unexpected")
     return 1 if wrong else 0
 

@@ -3,9 +3,11 @@
 So the differences that docs/PMARS.md names are left out.
 """
 
+from author.lib.pmars.tokens import MODIFIERS
+
 OPCODES = ("MOV MOV MOV MOV ADD ADD SUB MUL DIV MOD JMP JMP JMZ JMN DJN DJN "
            "SEQ SNE SLT SPL SPL NOP DAT").split()
-MODIFIERS = ["A", "B", "AB", "BA", "F", "X", "I"]
+# In this order, by which a seed gives the same warriors as ever.
 MODES = "#$*@{}<>"
 # Modes of an A-operand that may change the instruction itself, before an immediate B-operand is
 # read.

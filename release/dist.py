@@ -24,8 +24,7 @@ INSTALLED = SHARE / "installed.txt"
 PLACES = ["share/man/man1/{}.1", "share/bash-completion/completions/{}", "share/zsh/{zsh}/_{}",
           "share/fish/vendor_completions.d/{}.fish"]
 ZSH, DEBIAN_ZSH = "site-functions", "vendor-completions"
-# The folders that are shipped. Their tests and look.sh need the sources.
-SHIPPED = ["author", "examples"]
+# The tests and look.sh need the sources.
 LEFT_OUT = shutil.ignore_patterns("tests", "look.sh", "__pycache__")
 TAR_README = """cwtune tunes Core War warriors. Begin with share/doc/cwtune/README.md.
 
@@ -47,8 +46,8 @@ Description: tunes Core War warriors, with a certificate of the answer
 """
 # Python leaves these beside the commands' modules. dpkg does not know of them, so a package removes
 # them itself.
-CACHES = [SHARE / "author/lib" / folder / "__pycache__"
-          for folder in ["", "adapt", "pmars", "race", "spread", "study"]]
+CACHES = [SHARE / path.relative_to(ROOT).with_name("__pycache__")
+          for path in sorted((ROOT / "author/lib").rglob("__init__.py"))]
 DEBIAN_PRERM = f"#!/bin/sh\nrm -rf {' '.join(f'/usr/{cache}' for cache in CACHES)}\n"
 
 
@@ -63,7 +62,7 @@ def run(*words):
     """Runs a command, which has to succeed. Returns what it prints."""
     done = subprocess.run(words, stdin=subprocess.DEVNULL, capture_output=True, text=True)
     if done.returncode != 0:
-        raise Fault(f"{' '.join(words)} ended with status {done.returncode}: "
+        raise Fault(f"{' '.join(map(str, words))} ended with status {done.returncode}: "
                     f"{done.stderr.strip()}", 3)
     return done.stdout
 
@@ -136,26 +135,40 @@ def manual_files(zsh):
             yield name, place.format(command, zsh=zsh)
 
 
-def stage(tree, build, zsh=ZSH):
-    """Lays out the release in a folder, as below /usr or /usr/local. Returns its version."""
-    version = manual.version_of(str(build.path))
-    for folder in ["bin", DOC, SHARE]:
-        (tree / folder).mkdir(parents=True)
-    shutil.copy(build.path, tree / "bin/cwtune")
+def stage_manual(tree, program, zsh):
+    """Lays out the manual pages and the completions."""
     with tempfile.TemporaryDirectory() as made:
-        manual.write(str(build.path), pathlib.Path(made))
+        manual.write(program, pathlib.Path(made))
         for name, place in manual_files(zsh):
             (tree / place).parent.mkdir(parents=True, exist_ok=True)
             shutil.copy(pathlib.Path(made, name), tree / place)
-    for folder in SHIPPED:
-        shutil.copytree(ROOT / folder, tree / SHARE / folder, ignore=LEFT_OUT)
+
+
+def stage_commands(tree, program):
+    """Lays out the program, the commands for authors and the examples."""
+    (tree / "bin").mkdir(parents=True)
+    shutil.copy(program, tree / "bin/cwtune")
+    shutil.copytree(ROOT / "author", tree / SHARE / "author", ignore=LEFT_OUT)
+    shutil.copytree(ROOT / "examples", tree / SHARE / "examples", ignore=LEFT_OUT)
     for name in manual.COMMANDS:
         (tree / "bin" / name).symlink_to(pathlib.Path("..", SHARE, "author", name))
+
+
+def stage_documents(tree, proof):
+    """Lays out the documents, the licences and PROVED."""
     shutil.copytree(ROOT / "docs", tree / DOC / "docs")
     for name in ["README.md", "CHANGELOG.md", "LICENSE"]:
-        shutil.copy(ROOT / name, tree / DOC / name)
-    (tree / DOC / "LICENSES-of-libraries").write_text(licences(kit_folder() / "rattle"))
-    (tree / DOC / "PROVED").write_text(build.proof)
+        shutil.copy(ROOT / name, tree / DOC)
+    (tree / DOC / "LICENSES-of-libraries").write_text(licences(kit_folder() / "rattle"), "utf-8")
+    (tree / DOC / "PROVED").write_text(proof, "utf-8")
+
+
+def stage(tree, build, zsh=ZSH):
+    """Lays out the release in a folder, as below /usr or /usr/local. Returns its version."""
+    version = manual.version_of(str(build.path))
+    stage_commands(tree, build.path)
+    stage_manual(tree, str(build.path), zsh)
+    stage_documents(tree, build.proof)
     return version
 
 
@@ -201,7 +214,7 @@ def debian(folder, build):
     with tempfile.TemporaryDirectory() as work:
         tree = pathlib.Path(work, "tree")
         version = stage(tree / "usr", build, DEBIAN_ZSH)
-        (tree / "usr" / DOC / "copyright").write_text((ROOT / "LICENSE").read_text())
+        shutil.copy(ROOT / "LICENSE", tree / "usr" / DOC / "copyright")
         # Debian's Python runs the commands, whatever else is on the PATH.
         for name in manual.COMMANDS:
             command = tree / "usr" / SHARE / "author" / name
@@ -209,7 +222,7 @@ def debian(folder, build):
                                                            "/usr/bin/python3", 1))
         (tree / "DEBIAN").mkdir()
         (tree / "DEBIAN/control").write_text(DEBIAN_CONTROL.format(
-            version=version, proof=build.proof.partition("\n")[0]))
+            version=version, proof=build.proof.partition("\n")[0]), "utf-8")
         (tree / "DEBIAN/prerm").write_text(DEBIAN_PRERM)
         (tree / "DEBIAN/prerm").chmod(0o755)
         package = folder / f"cwtune_{version}_amd64.deb"
@@ -229,7 +242,7 @@ def install(prefix, build):
         if (prefix / INSTALLED).is_file():
             uninstall(prefix)
         placed = [INSTALLED, *(path.relative_to(tree) for path in files_of(tree))]
-        (tree / INSTALLED).write_text("".join(f"{path}\n" for path in placed))
+        (tree / INSTALLED).write_text("".join(f"{path}\n" for path in placed), "utf-8")
         for path in placed:
             (prefix / path).parent.mkdir(parents=True, exist_ok=True)
             (prefix / path).unlink(missing_ok=True)
@@ -241,16 +254,21 @@ def uninstall(prefix):
     """Removes what `install` put below the folder, the list of the files last, and then the folders
     that are empty."""
     try:
-        placed = (prefix / INSTALLED).read_text().splitlines()
+        placed = (prefix / INSTALLED).read_text("utf-8").splitlines()
     except FileNotFoundError:
         raise Fault(f"cwtune is not installed below {prefix}") from None
     for cache in CACHES:
         shutil.rmtree(prefix / cache, ignore_errors=True)
     for path in reversed(placed):
         (prefix / path).unlink(missing_ok=True)
+    remove_empty(prefix, placed)
+
+
+def remove_empty(prefix, placed):
+    """Removes the folders of these files that are empty and of the release alone."""
     folders = {folder for path in placed for folder in pathlib.Path(path).parents
                if folder.is_relative_to(DOC) or folder.is_relative_to(SHARE)}
-    for folder in sorted(folders, key=lambda it: -len(it.parts)):
+    for folder in sorted(folders, key=lambda folder: -len(folder.parts)):
         if (prefix / folder).is_dir() and not any((prefix / folder).iterdir()):
             (prefix / folder).rmdir()
 
@@ -270,15 +288,15 @@ def main():
     parser.add_argument("--digest", metavar="SHA256", help="the SHA-256 digest that it has")
     parser.add_argument("--proved", type=pathlib.Path, metavar="FILE",
                         help="the file PROVED of a release with this program")
-    asked = parser.parse_args()
-    if bool(asked.built) != bool(asked.digest) or asked.proved and not asked.built:
+    args = parser.parse_args()
+    if bool(args.built) != bool(args.digest) or args.proved and not args.built:
         parser.error("give --built and --digest, and --proved with both")
-    if asked.what == "uninstall":
-        uninstall(asked.folder)
+    if args.what == "uninstall":
+        uninstall(args.folder)
         return
-    build = build_of(asked.built, asked.digest, asked.proved)
-    asked.folder.mkdir(parents=True, exist_ok=True)
-    for path in ACTIONS[asked.what](asked.folder, build):
+    build = build_of(args.built, args.digest, args.proved)
+    args.folder.mkdir(parents=True, exist_ok=True)
+    for path in ACTIONS[args.what](args.folder, build):
         print(path)
 
 

@@ -2,7 +2,8 @@
 
 Those of `cwtune` are made from what `cwtune --help` and `cwtune COMMAND --help` print, and those of
 the commands for authors from their parsers, so they have the commands and options that there are:
-for each name NAME.1, NAME.bash, _NAME (zsh) and NAME.fish.
+for each name NAME.1, NAME.bash, _NAME (zsh) and NAME.fish. The completions are written by hand: the
+kit has no `clap_complete`, and argparse makes none.
 """
 import importlib, pathlib, re
 from typing import NamedTuple
@@ -60,8 +61,6 @@ FAULTS = ("A refusal is a line `refused: ..` on standard error with the names of
           "the line or the record at fault. At a terminal, or with --explain, more lines say what "
           "is wrong and what to write. If the certificate cannot be written, `found: ..` names the "
           "best setting.")
-
-
 EXAMPLES = [
     ("Find the best setting of a template, and write its certificate:",
      "cwtune tune bomber.red fights.csv bomber.cert dwarf.red scanner.red"),
@@ -215,14 +214,14 @@ def words_of(options):
     return " ".join(f"--{item.option()}" for item in options)
 
 
-def quoted(text):
+def without_quotes(text):
     """Returns a text without quotes, to stand in single quotes."""
     return text.replace("'", "").replace("`", "")
 
 
 def quoted_for_zsh(text):
     """Returns such a text with brackets and colons escaped, as `_arguments` wants them."""
-    return re.sub(r"[\[\]:]", lambda it: "\\" + it.group(), quoted(text))
+    return re.sub(r"[\[\]:]", lambda it: "\\" + it.group(), without_quotes(text))
 
 
 def zsh_options(options, margin):
@@ -252,10 +251,11 @@ def fish_completion(name, parts):
     for part, (about, options) in parts.items():
         start = f"complete -c {name}"
         if part:
-            lines.append(f"{start} -n __fish_use_subcommand -f -a {part} -d '{quoted(about)}'")
+            words = f"-f -a {part} -d '{without_quotes(about)}'"
+            lines.append(f"{start} -n __fish_use_subcommand {words}")
             start += f" -n '__fish_seen_subcommand_from {part}'"
         lines += [f"{start} -l {item.option()}{' -x' if item.takes_value() else ''} "
-                  f"-d '{quoted(item.text)}'" for item in options]
+                  f"-d '{without_quotes(item.text)}'" for item in options]
     return lines
 
 
@@ -296,10 +296,10 @@ def main():
     parser = module_parser("release.manual", __doc__)
     parser.add_argument("folder", type=pathlib.Path, metavar="FOLDER", help="where they go")
     add_built(parser)
-    asked = parser.parse_args()
-    path = program_of(asked.program)
-    asked.folder.mkdir(parents=True, exist_ok=True)
-    write(path, asked.folder)
+    args = parser.parse_args()
+    path = program_of(args.program)
+    args.folder.mkdir(parents=True, exist_ok=True)
+    write(path, args.folder)
 
 
 if __name__ == "__main__":

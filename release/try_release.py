@@ -3,8 +3,7 @@
 Packs, unpacks, installs and removes it in a temporary folder, and runs the program and the commands
 of each without this checkout: nothing of it is on the PATH. What was proved is not asked for again.
 The manual pages and completions have to name each command and option. Without `dpkg-deb` on the
-PATH the Debian package is left out. Prints what failed, and as its last line `N passed, N failed`;
-the exit status is 1 if a trial failed.
+PATH the Debian package is left out.
 """
 import contextlib, importlib, pathlib, re, shutil, subprocess, tarfile, tempfile
 
@@ -39,11 +38,10 @@ AUTHOR_RUNS = [
 # Begun words of a command line, and how bash completes the last.
 COMPLETIONS = [("cwtune che", "check"), ("cwtune tune --ca", "--cache"),
                ("cwtune asm --se", "--setting"), ("cwtune check --pa", "--part"),
-               ("cwtune check --sh", "--share"),
-               ("cwtune fight --fi", "--first"), ("cwtune-scores --te", "--template"),
-               ("cwtune-spread --me", "--merge"), ("cwtune-spread --check-o", "--check-only"),
-               ("cwtune-adapt --pm", "--pmars"), ("cwtune-seek --mi", "--minutes"),
-               ("cwtune-study --fr", "--fresh")]
+               ("cwtune check --sh", "--share"), ("cwtune fight --fi", "--first"),
+               ("cwtune-scores --te", "--template"), ("cwtune-spread --me", "--merge"),
+               ("cwtune-spread --check-o", "--check-only"), ("cwtune-adapt --pm", "--pmars"),
+               ("cwtune-seek --mi", "--minutes"), ("cwtune-study --fr", "--fresh")]
 
 
 def run(words, folder, path):
@@ -91,10 +89,9 @@ def trial_of_tar(work, build):
     with tarfile.open(tar) as file:
         file.extractall(work, filter="data")
     tree = work / tar.name.removesuffix(".tar.gz")
-    summed = subprocess.run(["sha256sum", "--check", "--quiet", "SHA256SUMS"], cwd=tree,
-                            capture_output=True, text=True)
-    if summed.returncode:
-        yield summed.stdout + summed.stderr
+    status, text = run(["sha256sum", "--check", "--quiet", "SHA256SUMS"], tree, tree)
+    if status:
+        yield text
     yield from faults_of_use(tree)
 
 
@@ -201,9 +198,8 @@ def trials_of_pages(program):
             function = "_" + re.sub("-", "_", words[0])
             script = (f"source ./{words[0]}.bash; COMP_WORDS=({line}); COMP_CWORD="
                       f"{len(words) - 1}; {function}; echo ${{COMPREPLY[@]}}")
-            done = subprocess.run(["bash", "-c", script], cwd=folder, capture_output=True,
-                                  text=True)
-            yield compare(f"completing {line}", f"{expected}\n", done.stdout)
+            yield compare(f"completing {line}", (0, f"{expected}\n"),
+                          run(["bash", "-c", script], folder, folder))
 
 
 def trials(build):

@@ -1,4 +1,4 @@
-"""What the file CERT.inputs beside a certificate has to say, as docs/FORMATS.md describes it."""
+"""What CERT.inputs has to say (docs/FORMATS.md). Shares no code with author.lib.cert_inputs."""
 import hashlib, os, pathlib
 
 from author.lib.program import HILLS

@@ -37,11 +37,11 @@ class Proofs:
     def allow(self, crate):
         """Returns whether the crate's rounds may begin. None begins before `rt ci` has proved its
         first crate, since `rt ci` plans by the memory that is free when it starts."""
-        below = crate.made.below()
-        unbuilt = [made.name for made in below if not os.path.isdir(made.rlib)]
+        below = crate.kit_crate.below()
+        unbuilt = [crate.name for crate in below if not os.path.isdir(crate.rlib)]
         if self.are_over and unbuilt:
             raise Fault(f"{unbuilt[0]} is not built (`make build` builds it)", 2)
-        return self.are_over or self.names and self.names.issuperset(made.name for made in below)
+        return self.are_over or self.names and self.names >= {crate.name for crate in below}
 
 
 def has_room(begun):

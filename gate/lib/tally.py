@@ -9,8 +9,7 @@ class LeftOut(Exception):
 def difference(expected, actual):
     """Returns what is wrong with an actual value, in a list: of two tuples of one length a line for
     each item that differs."""
-    if all(isinstance(value, tuple) for value in (expected, actual)) and (
-            len(expected) == len(actual)):
+    if isinstance(expected, tuple) and isinstance(actual, tuple) and len(expected) == len(actual):
         return [f"item {index}: {line}" for index, items in enumerate(zip(expected, actual))
                 for line in difference(*items)]
     return [] if actual == expected else [f"expected {expected!r}, got {actual!r}"[:2000]]

@@ -13,7 +13,7 @@ import itertools, signal, tempfile
 from author.lib.endings import run_tool
 from author.lib.words import program_word
 
-from ..lib.play import Place, end
+from ..lib.play import end, in_folder
 from ..lib.running import side_by_side
 from ..lib.tally import tally
 from .runs import FILES, TUNINGS, all_runs, library_of, run, with_rules
@@ -30,8 +30,7 @@ def steps_of(cert):
 
 def length_of_inputs(program, words, text):
     """Returns how long CERT.inputs is, or 0 if a run makes none."""
-    with tempfile.TemporaryDirectory() as folder:
-        place = Place(program, folder, FILES)
+    with in_folder(program, FILES) as place:
         place.run(words, text, keep=True)
         return len(place.read("CERT.inputs") or b"")
 
