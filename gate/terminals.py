@@ -147,8 +147,9 @@ def agrees(line):
     if not found:
         return b" left" not in line
     percent, done, fights, rate, left = map(int, found.groups())
-    expected = fights / max(rate, 1) * (40 - done) / done
-    return percent == 100 * done // 40 and abs(left - expected) <= 1 + expected / 10
+    # The rate is rounded down.
+    least, most = (fights / pace * (40 - done) / done for pace in (rate + 1, max(rate, 1)))
+    return percent == 100 * done // 40 and 0.9 * least - 1 <= left <= 1.1 * most + 1
 
 
 def invitations(place):
