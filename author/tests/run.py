@@ -9,7 +9,7 @@ that -k takes:
 
     python3 -m author.tests.run -k spreading.floors
 """
-import os, pathlib, re, shutil, signal, subprocess, sys, unittest
+import os, pathlib, re, shutil, signal, subprocess, sys, tempfile, unittest
 
 from author.lib.endings import run_tool
 from author.lib.words import add_built, module_parser
@@ -115,6 +115,13 @@ class Commands(Trial):
             completed = subprocess.run(words, shell=True, cwd=TUNING, capture_output=True,
                                        text=True, timeout=SECONDS)
             self.same(words, (3, f"failed: {fault}\n"), (completed.returncode, completed.stderr))
+
+    def test_link(self):
+        with tempfile.TemporaryDirectory() as folder:
+            link = pathlib.Path(folder, "series")
+            link.symlink_to(AUTHOR / "cwtune-series")
+            completed = subprocess.run([link, "1234", "25", "5"], capture_output=True)
+        self.same("a link of another name", (0, b""), (completed.returncode, completed.stderr))
 
     def test_closed(self):
         for name in COMMANDS:
