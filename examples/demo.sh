@@ -51,19 +51,22 @@ tuned() {
     echo
 }
 
-# Checks a certificate of the stone: checked NAME CERT STATUS LINE
+# Checks a certificate of the stone: checked NAME SCHEDULE CERT STATUS LINE
 checked() {
-    expect_line "$1" "$3" "$4" check tuning/stone.red "$schedule" "$2" $opponents
+    expect_line "$1" "$4" "$5" check tuning/stone.red "tuning/$2" "$3" $opponents
 }
 
-# Checks what was tuned by $schedule and what certify.py makes, and sets `accepted`: both REPORT
+# Checks what was tuned and what certify.py makes: both SCHEDULE LINE
 both() {
-    python3 tuning/certify.py "$program" tuning/stone.red "$schedule" $opponents \
+    python3 tuning/certify.py "$program" tuning/stone.red "tuning/$1" $opponents \
         >"$work/own.cert" || wrong=1
-    accepted=$(sed -n -e 's/^best \(.*\)/accepted best \1/p' -e 's/^total \(.*\) of .*/total \1/p' \
-        "$1" | paste -s -d ' ' -)
-    checked "the tuner's certificate" "$work/tuned.cert" 0 "$accepted"
-    checked "another certificate" "$work/own.cert" 0 "$accepted"
+    checked "the tuner's certificate" "$1" "$work/tuned.cert" 0 "$2"
+    checked "another certificate" "$1" "$work/own.cert" 0 "$2"
+}
+
+# Prints the line of a check that accepts what a report says: accepted REPORT
+accepted() {
+    awk '/^best /{best = $2} /^total /{print "accepted best", best, "total", $2}' "tuning/$1"
 }
 
 while read -r name expected; do
@@ -84,20 +87,18 @@ tuned decoy.red schedule.csv decoy-report.txt
 
 # The stored certificate lists all fights; its third line is the row of setting 0, which loses a
 # fight. In the changed one it ties it.
-schedule=tuning/schedule.csv
 tuned stone.red schedule.csv report.txt
-both tuning/report.txt
-checked "the stored certificate" tuning/all-fights.cert 0 "$accepted"
+both schedule.csv "$(accepted report.txt)"
+checked "the stored certificate" schedule.csv tuning/all-fights.cert 0 "$(accepted report.txt)"
 sed '3s/:0/:1/' tuning/all-fights.cert >"$work/changed.cert"
-checked "one byte changed" "$work/changed.cert" 1 "rejected row 2 WrongPoints"
-"$program" tune --all tuning/stone.red "$schedule" "$work/all.cert" $opponents >"$work/output"
+checked "one byte changed" schedule.csv "$work/changed.cert" 1 "rejected row 2 WrongPoints"
+"$program" tune --all tuning/stone.red tuning/schedule.csv "$work/all.cert" $opponents >/dev/null
 cmp "$work/all.cert" tuning/all-fights.cert || wrong=1
 echo
 
-schedule=tuning/weighted.csv
 tuned stone.red weighted.csv weighted-report.txt
-both tuning/weighted-report.txt
+both weighted.csv "$(accepted weighted-report.txt)"
 sed '1s/,2,/,1,/' "$work/tuned.cert" >"$work/changed.cert"
-checked "version 1, with weights" "$work/changed.cert" 1 "rejected row 0 Version"
+checked "version 1, with weights" weighted.csv "$work/changed.cert" 1 "rejected row 0 Version"
 
 exit "$wrong"

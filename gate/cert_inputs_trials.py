@@ -6,7 +6,7 @@ depend on it.
 import os, pathlib, tempfile
 
 from author.lib.endings import run_tool
-from author.lib.program import run_program
+from author.lib.program import version_of
 from author.lib.words import program_word
 
 from .lib import cert_inputs, inputs
@@ -157,9 +157,8 @@ def rejections(place):
 
 def main():
     program = program_word("gate.cert_inputs_trials", __doc__)
-    version = run_program(program, "--version").stdout.decode().removeprefix("cwtune ").strip()
     with tempfile.TemporaryDirectory() as folder:
-        place = TuningPlace(program, pathlib.Path(folder), version)
+        place = TuningPlace(program, pathlib.Path(folder), version_of(program))
         return tally([*texts(place), *replaced(place), *kept(place), *unwritable(place),
                       *checks(place), *rejections(place)])
 

@@ -34,9 +34,9 @@ CHECKED = {
     # longer than Python's `csv` takes by default
     ("same,3,2", f"same,3,{'2' * 140000}"): "rejected row 5 Malformed",
 }
-# Range lines with too few words, a word that is not a number, the step 0, and a START between
-# two values.
-RANGES = ["K 0 5 1", "K 0 x 1 0", "K 0 5 0 0", "K 0 4 2 1"]
+# Range lines with too few words, a word that is not a number, the step 0, a START between two
+# values, and more values than Python counts.
+RANGES = ["K 0 5 1", "K 0 x 1 0", "K 0 5 0 0", "K 0 4 2 1", "K 0 99999999999999999999 1 0"]
 REFUSED = (1, "", "refused: Template: a range line is malformed\n")
 
 
@@ -44,11 +44,16 @@ def programs(program):
     """Gives the script of `make demo` a program, one that does not exist, and a wrong one."""
     status, out, err = ran([*DEMO, program])
     yield "demo.sh PROGRAM", [] if status == 0 else [f"got {out}{err}"]
-    yield compare("demo.sh none", (1, "", "demo.sh: no program none\n"),
-                  ran([*DEMO, "none"]))
-    status, out, _ = ran([*DEMO, "/bin/true"])
+    yield compare("demo.sh none", (1, "", "demo.sh: no program none\n"), ran([*DEMO, "none"]))
+    status, out, err = ran([*DEMO, "/bin/true"])
     wrong = len(re.findall("(?m)^cwtune .*: not as expected", out))
-    yield compare("demo.sh /bin/true: what differs", (1, True), (status, wrong > 30))
+    said = re.findall("(?m)^Traceback|^certify.py: .*true(: .*)", err)
+    yield compare("demo.sh /bin/true: what differs", (1, True, [": not the output of cwtune"] * 2),
+                  (status, wrong > 30, said))
+    for kind, options in [("cwtune", []), ("a pMARS server build", ["--pmars"])]:
+        words = [*CERTIFY, *options, "/bin/true", *[EXAMPLES / "warriors/dwarf.red"] * 3]
+        yield compare(f"certify.py: /bin/true is not {kind}",
+                      (1, "", f"certify.py: /bin/true: not the output of {kind}\n"), ran(words))
 
 
 def ranges(program):
@@ -91,12 +96,10 @@ def checks(program):
     for (old, new), line in CHECKED.items():
         with in_folder(program, {**FILES, "CERT": CERT.replace(old, new, 1)}) as place:
             expected = int(line.startswith("rejected")), f"{line}\n", ""
-            words = [*RULES, "imps.red", "both.csv"]
             yield compare(f"check: {line}", expected,
-                          ran([program, "check", *words, "CERT", *OPPONENTS], place.folder))
-            yield compare(f"certify.py --check: {line}", expected,
-                          ran([*CERTIFY, "--check=CERT", program, *words, *OPPONENTS],
-                              place.folder))
+                          ran([program, "check", *RULES, *WORDS], place.folder))
+            words = [*CERTIFY, "--check=CERT", *RULES, program, *WORDS[:2], *OPPONENTS]
+            yield compare(f"certify.py --check: {line}", expected, ran(words, place.folder))
 
 
 def shares(program):

@@ -6,7 +6,7 @@ By default the program is the one that is built here, each crate of which has to
 takes one that was built before, if it has the digest; then nothing is proved, and the release says
 so, unless --proved gives the file PROVED of a release with this program.
 """
-import gzip, hashlib, pathlib, re, shutil, subprocess, tarfile, tempfile
+import contextlib, gzip, hashlib, pathlib, re, shutil, subprocess, tarfile, tempfile
 from typing import NamedTuple
 
 from author.lib.endings import Fault, run_tool
@@ -70,10 +70,7 @@ def run(*words):
 def proved():
     """Returns what was proved: the kit, and a line for each crate from its check."""
     lines = [f"Proved with {run('rt', 'version').strip()}", f"program: SHA-256 {sha256(BUILT)}", ""]
-    for line in (ROOT / "crates.txt").read_text().splitlines():
-        crate = line.partition(":")[0]
-        if line[0] == "#" or crate.endswith("_tests"):
-            continue
+    for crate in re.findall(r"(?m)^(\w+)(?<!_tests):", (ROOT / "crates.txt").read_text()):
         done = subprocess.run(["rt", "check"], cwd=ROOT / "crates" / crate, capture_output=True,
                               text=True)
         found = re.findall(r"(?m)^logic=.*$", done.stdout + done.stderr)
@@ -260,7 +257,8 @@ def uninstall(prefix):
     for cache in CACHES:
         shutil.rmtree(prefix / cache, ignore_errors=True)
     for path in reversed(placed):
-        (prefix / path).unlink(missing_ok=True)
+        with contextlib.suppress(FileNotFoundError, NotADirectoryError):
+            (prefix / path).unlink()
     remove_empty(prefix, placed)
 
 

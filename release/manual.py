@@ -221,7 +221,7 @@ def without_quotes(text):
 
 def quoted_for_zsh(text):
     """Returns such a text with brackets and colons escaped, as `_arguments` wants them."""
-    return re.sub(r"[\[\]:]", lambda it: "\\" + it.group(), without_quotes(text))
+    return re.sub(r"[\[\]:]", lambda match: "\\" + match.group(), without_quotes(text))
 
 
 def zsh_options(options, margin):
@@ -283,7 +283,7 @@ def write_files(folder, name, page, parts):
 
 def write(path, folder):
     """Writes the manual pages and the completions into a folder."""
-    program, version = Help(path), version_of(path)
+    version, program = version_of(path), Help(path)
     write_files(folder, NAME, man_page(program, version),
                 {name: (page.about, page.options()) for name, page in program.commands.items()})
     for name, module in COMMANDS.items():

@@ -128,9 +128,8 @@ def trial_of_broken_install(work, build):
     with contextlib.suppress(OSError):
         dist.install(work, build)
         yield "a file in place of a folder is no fault"
-    (work / "share/bash-completion").unlink()
     dist.uninstall(work)
-    yield from faults_of_removal(work, [])
+    yield from faults_of_removal(work, ["share/bash-completion"])
 
 
 def trial_of_faults(work, _):
@@ -167,24 +166,20 @@ def trial_of_package(work, build):
 
 
 def faults_of_pages(program, folder):
-    """Returns which commands and options a manual page or a completion lacks."""
-    options = {name: [name, *(item.option() for item in page.options() if item.option() != "help")]
-               for name, page in manual.Help(program).commands.items()}
-    wanted = {manual.NAME: [word for words in options.values() for word in words]}
-    for name, module in manual.COMMANDS.items():
-        wanted[name] = options_of(module)
-    wrong = []
-    for name, words in wanted.items():
-        for file in manual.file_names(name):
-            text = (folder / file).read_text("utf-8").replace("\\-", "-")
-            wrong += [f"{file} lacks {word}" for word in words if word not in text]
-    return wrong
+    """Yields which commands and options a manual page or a completion lacks."""
+    wanted = {name: options_of(module) for name, module in manual.COMMANDS.items()}
+    wanted[manual.NAME] = [word for name, page in manual.Help(program).commands.items()
+                           for word in [name, *map(manual.Item.option, page.options())]
+                           if word != "help"]
+    for name, file in [(name, file) for name in wanted for file in manual.file_names(name)]:
+        text = (folder / file).read_text("utf-8").replace("\\-", "-")
+        yield from (f"{file} lacks {word}" for word in wanted[name] if word not in text)
 
 
 def options_of(module):
     """Returns the long options of a command for authors, by its parser."""
     actions = importlib.import_module(f"author.lib.{module}").make_parser()._actions
-    return [word[2:] for it in actions for word in it.option_strings if word.startswith("--")]
+    return [word[2:] for action in actions for word in action.option_strings if word[:2] == "--"]
 
 
 def trials_of_pages(program):
@@ -192,7 +187,7 @@ def trials_of_pages(program):
     with tempfile.TemporaryDirectory() as name:
         folder = pathlib.Path(name)
         manual.write(program, folder)
-        yield "each command and option of the help", faults_of_pages(program, folder)
+        yield "each command and option of the help", list(faults_of_pages(program, folder))
         for line, expected in COMPLETIONS:
             words = line.split()
             function = "_" + re.sub("-", "_", words[0])
