@@ -7,13 +7,12 @@ instructions, by their canonical modifiers, that were executed most in the first
 pairs: the share of the turns, and whether the hot loop has an arm for it (docs/HOT_LOOP.md). Needs
 clang++.
 """
-import collections, itertools, math, pathlib, shutil, tempfile
+import collections, dataclasses, itertools, math, pathlib, shutil, tempfile
 
 from author.lib.endings import Fault, run_tool
-from author.lib.program import program_of
-from release import dist
+from author.lib.program import output_of, program_of
 
-from .pairs import FOLDERS, HERE, Pair, loads_of, pairs_parser, play_in_turn
+from .pairs import FOLDERS, HERE, Pair, loads_of, pair_of, pairs_parser, play_in_turn
 from .plain_machine import LINE, classes
 from .runs import mean_and_least, run
 
@@ -40,23 +39,16 @@ def built(loads, folder):
         raise Fault("no clang++ on the PATH (Debian: apt-get install clang)", 2)
     keys = {key_of(line) for load in loads for line in load.splitlines()[1:]}
     (folder / "KEYS.inc").write_text("".join(f"{key},\n" for key in sorted(keys)))
-    dist.run(clang, *FLAGS, f"-I{folder}", "-o", program, HERE / "limit.cc")
+    output_of([clang, *FLAGS, f"-I{folder}", "-o", program, HERE / "limit.cc"])
     return program
 
 
+@dataclasses.dataclass
 class LimitPair(Pair):
     """A pair that the simulator plays too: `limit_seconds` are the least that it took."""
 
-    def __init__(self, candidate, opponent, programs, folder):
-        *programs, limit = programs
-        super().__init__(candidate, opponent, programs, folder)
-        self.limit_seconds = math.inf
-        self.limit_words = [str(limit)]
-        for name, load in (candidate, opponent):
-            path = pathlib.Path(tempfile.mkdtemp(dir=folder), f"{name}.load")
-            path.write_text(load, "ascii")
-            self.limit_words.append(str(path))
-        self.limit_words.append(str(self.folder / "s.csv"))
+    limit_words: list = ()
+    limit_seconds: float = math.inf
 
     def play(self):
         super().play()
@@ -66,6 +58,15 @@ class LimitPair(Pair):
     def limit_ratio(self):
         """Returns how many times as fast as pMARS the simulator is."""
         return self.pmars_seconds / self.limit_seconds
+
+
+def limit_pair_of(candidate, opponent, programs, limit, folder):
+    """Returns two warriors as a pair that the simulator plays too."""
+    pair = pair_of(candidate, opponent, programs, folder)
+    loads = [pair.folder / f"{name}.load" for name, _ in (candidate, opponent)]
+    for path, (_, load) in zip(loads, (candidate, opponent)):
+        path.write_text(load, "ascii")
+    return LimitPair(**vars(pair), limit_words=[limit, *loads, pair.folder / "s.csv"])
 
 
 def shares_of(pairs):
@@ -93,12 +94,11 @@ def main():
     parser.add_argument("--folder", choices=FOLDERS, default="unseen",
                         help="the warriors [default: unseen]")
     args = parser.parse_args()
-    program = program_of(args.program)
-    pmars = program_of(args.pmars, "make pmars")
+    programs = program_of(args.program), program_of(args.pmars, "make pmars")
     with tempfile.TemporaryDirectory() as name:
-        warriors = loads_of(program, FOLDERS[args.folder])
+        warriors = loads_of(programs[0], FOLDERS[args.folder])
         limit = built([load for _, load in warriors], pathlib.Path(name))
-        pairs = play_in_turn((LimitPair(*both, (program, pmars, limit), name)
+        pairs = play_in_turn((limit_pair_of(*both, programs, limit, name)
                               for both in itertools.combinations(warriors, 2)), args.runs)
     print(f"{args.folder:<32}{'cwtune':>8}{'limit':>8}")
     for pair in pairs:

@@ -9,10 +9,10 @@ file PROGRAM.o, which `make build` leaves beside the program, and the kit that m
 import itertools, pathlib, tempfile
 
 from author.lib.endings import Fault, run_tool
-from author.lib.program import Rules, program_of
+from author.lib.program import Rules, output_of, program_of
 from author.lib.words import add_number, add_program, module_parser
 from pmars.games import Game, fights_of
-from release import dist
+from release.dist import kit_folder
 
 from .pairs import FOLDERS, SEED, loads_of
 from .runs import least, run
@@ -31,7 +31,7 @@ def linked(program, kit, shift, folder):
     for words in (["as", "-o", f"{begin}.o", f"{begin}.s"],
                   [kit / "bin/rattle-link", "--target", "x86_64-unknown-linux-gnu", "--toolchain",
                    kit / "toolchain", "-o", made, f"{begin}.o", *objects]):
-        dist.run(*words)
+        output_of(words)
     return made
 
 
@@ -54,7 +54,7 @@ def main():
     add_program(parser)
     add_number(parser, "--runs", "N", 5, "runs of each series")
     args = parser.parse_args()
-    program, kit = program_of(args.program), dist.kit_folder()
+    program, kit = program_of(args.program), kit_folder()
     if not pathlib.Path(f"{program}.o").is_file():
         raise Fault(f"no object file {program}.o (`make build` makes it)", 2)
     with tempfile.TemporaryDirectory() as name:

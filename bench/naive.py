@@ -19,8 +19,13 @@ from author.lib.words import add_files, add_program, module_parser, number_from
 
 # The least and the greatest position of an opponent.
 POSITIONS = Rules().distance, Rules().core - Rules().distance
-# By how many steps a constant moves if it is not drawn anew.
-MOVES = [-3, -2, -1, 1, 2, 3]
+# How often a constant is drawn anew, and by how many steps it moves if it is not.
+REDRAWN, MOVES = 0.5, [-3, -2, -1, 1, 2, 3]
+# While exploring, while improving and in the end: the fights against each opponent, the part of the
+# time that is over then, and how many are kept. Changes are made of the best PARENTS.
+ROUNDS = FEW, MORE, MANY = 5, 20, 40
+EXPLORED, IMPROVED = 0.5, 0.85
+EXPLORERS, IMPROVERS, PARENTS = 10, 5, 3
 
 
 class Player(NamedTuple):
@@ -36,15 +41,15 @@ def processor_seconds():
                for who in (resource.RUSAGE_SELF, resource.RUSAGE_CHILDREN))
 
 
-def schedule_of(places, rounds, opponents):
+def schedule_of(position_dice, rounds, opponents):
     """Returns a schedule of random fights. Of each two rounds an opponent begins one."""
     blocks = []
     for index in range(rounds):
         if index % 2 == 0:
-            firsts = [places.choice("co") for _ in range(opponents)]
+            firsts = [position_dice.choice("co") for _ in range(opponents)]
         else:
             firsts = ["o" if first == "c" else "c" for first in firsts]
-        blocks.append([(places.randint(*POSITIONS), first) for first in firsts])
+        blocks.append([(position_dice.randint(*POSITIONS), first) for first in firsts])
     return schedule_text(Fight(opponent, *block[opponent])
                          for opponent in range(opponents) for block in blocks)
 
@@ -60,9 +65,9 @@ class Naive:
     def __init__(self, args, folder):
         self.program, self.opponents, self.grid = args.program, sorted(args.opponents), args.grid
         self.seconds, self.folder, self.played = args.seconds, pathlib.Path(folder), 0
-        self.dice, places = random.Random(args.seed), random.Random(args.seed + 1000)
-        for rounds in (5, 20, 40):
-            schedule = schedule_of(places, rounds, len(self.opponents))
+        self.dice, position_dice = random.Random(args.seed), random.Random(args.seed + 1000)
+        for rounds in ROUNDS:
+            schedule = schedule_of(position_dice, rounds, len(self.opponents))
             self.schedule(rounds).write_text(schedule)
 
     def schedule(self, rounds):
@@ -93,16 +98,17 @@ class Naive:
             return -1 if report["best"] == "-" else int(report["total"].split()[0])
 
     def explore(self):
-        """Plays settings from everywhere. Returns the best ten."""
-        top = [self.play(self.grid.start_values, 5)]
-        while not self.time_is_over(0.5):
+        """Plays settings from everywhere. Returns the best."""
+        top = [self.play(self.grid.start_values, FEW)]
+        while not self.time_is_over(EXPLORED):
             values = tuple(self.dice.choice(values) for values in self.grid.ranges)
-            top = leaders([*top, self.play(values, 5, top[-1].share if len(top) == 10 else 0)], 10)
+            least = top[-1].share if len(top) == EXPLORERS else 0
+            top = leaders([*top, self.play(values, FEW, least)], EXPLORERS)
         return top
 
     def moved(self, value, values):
         """Returns another value of a constant, or the same one if it cannot move further."""
-        if self.dice.random() < 0.5:
+        if self.dice.random() < REDRAWN:
             return self.dice.choice(values)
         return min(max(value + self.dice.choice(MOVES) * values.step, values[0]), values[-1])
 
@@ -115,18 +121,18 @@ class Naive:
         return tuple(new)
 
     def improve(self, top):
-        """Plays changes of the best three. Returns the best five."""
-        while not self.time_is_over(0.85):
-            values = self.changed(self.dice.choice(top[:3]).values)
+        """Plays changes of the best. Returns the best."""
+        while not self.time_is_over(IMPROVED):
+            values = self.changed(self.dice.choice(top[:PARENTS]).values)
             if values not in [player.values for player in top]:
-                top = leaders([*top, self.play(values, 20, top[-1].share)], 5)
+                top = leaders([*top, self.play(values, MORE, top[-1].share)], IMPROVERS)
         return top
 
     def find(self):
         """Searches. Returns what was found, and START in the same fights."""
-        top = leaders([self.play(player.values, 20) for player in self.explore()], 5)
-        last = [self.play(player.values, 40) for player in self.improve(top)]
-        return leaders(last, 1)[0], self.play(self.grid.start_values, 40)
+        top = leaders([self.play(player.values, MORE) for player in self.explore()], IMPROVERS)
+        last = [self.play(player.values, MANY) for player in self.improve(top)]
+        return leaders(last, 1)[0], self.play(self.grid.start_values, MANY)
 
 
 def make_parser():

@@ -1,13 +1,11 @@
 """Series of fights as a tuning plays them, by `cwtune tune` with one setting and by pMARS.
-
-README.md says what is measured.
-"""
-import itertools, math, pathlib, tempfile
+README.md says what is measured."""
+import dataclasses, itertools, math, pathlib, tempfile
 
 from author.lib.endings import Fault
-from author.lib.program import Rules
+from author.lib.program import Rules, output_of
 from author.lib.words import add_number, add_program, module_parser
-from pmars.games import Game, fights_of
+from pmars.games import Game, counts_of, fights_of
 
 from . import plain_machine
 from .runs import mean_and_least, run
@@ -23,30 +21,24 @@ SECONDS, FEWEST, MOST = 1.0, 60, 10_000
 SEED = 3000
 
 
+@dataclasses.dataclass
 class Pair:
-    """Two warriors, each a name and a load file, and what is measured of their series.
+    """Two warriors, and what is measured of their series: the least seconds that each program took,
+    the candidate's points, and how many of the fights are ties. `executed` is how often the first
+    fight executed each instruction, by its canonical modifier, `unclassed` the share of its turns
+    whose instruction has no class of its own. `folder` has the schedule as `s.csv`."""
 
-    `cwtune_seconds` and `pmars_seconds` are the least that each program took, `points` the
-    candidate's points, `ties` how many fights are ties, `executed` how often each instruction, by
-    its canonical modifier, was executed in the first fight, and `unclassed` the share of its turns
-    whose instruction has no class of its own. `folder` has the schedule as `s.csv`.
-    """
-
-    def __init__(self, candidate, opponent, programs, folder):
-        (my_name, my_load), (their_name, their_load) = candidate, opponent
-        self.name = f"{my_name}:{their_name}"
-        self.cwtune_seconds, self.pmars_seconds = math.inf, math.inf
-        self.points, self.ties = None, None
-        cwtune, pmars = map(str, programs)
-        game = Game(Rules(), my_load, their_load, tempfile.mkdtemp(dir=folder))
-        self.folder = game.folder
-        self.fights = series_length(game, pmars)
-        self.tune_words = game.tune_words(cwtune, fights_of(game.rules, SEED, self.fights))
-        self.pmars_words = game.series_words(pmars, SEED, self.fights)
-        fight = plain_machine.Fight(game.rules, (my_load, their_load), SEED)
-        fight.play()
-        self.unclassed, self.executed = fight.unclassed(), fight.executed
-        run(game.fight_words(cwtune, SEED, "c"), "", fight.result())
+    name: str
+    folder: pathlib.Path
+    fights: int
+    tune_words: list
+    pmars_words: list
+    executed: dict
+    unclassed: float
+    cwtune_seconds: float = math.inf
+    pmars_seconds: float = math.inf
+    points: int | None = None
+    ties: int | None = None
 
     def play_tune(self):
         """Returns the seconds of the series by `cwtune tune`, and the candidate's points."""
@@ -59,8 +51,7 @@ class Pair:
     def play_pmars(self):
         """Returns the seconds of the series by pMARS, and the candidate's points."""
         ran = run(self.pmars_words)
-        # The first line has the rounds that the candidate survived alone, and those that both did.
-        wins, self.ties = map(int, ran.output.split()[:2])
+        wins, self.ties, _ = counts_of(self.pmars_words[0], ran.output)
         return ran.processor, 3 * wins + self.ties
 
     def play(self):
@@ -83,17 +74,29 @@ def series_length(game, pmars):
     return min(MOST, max(FEWEST, int(FEWEST * SECONDS / max(seconds, 1e-3))))
 
 
+def pair_of(candidate, opponent, programs, folder):
+    """Returns the pair of two warriors, each a name and a load file. The plain machine plays the
+    first fight, which has to end as by `cwtune`."""
+    names, loads = zip(candidate, opponent)
+    cwtune, pmars = programs
+    game = Game(Rules(), *loads, tempfile.mkdtemp(dir=folder))
+    fights, first = series_length(game, pmars), plain_machine.Fight(game.rules, loads, SEED)
+    first.play()
+    run(game.fight_words(cwtune, SEED, "c"), "", first.result())
+    return Pair(":".join(names), game.folder, fights,
+                game.tune_words(cwtune, fights_of(game.rules, SEED, fights)),
+                game.series_words(pmars, SEED, fights), first.executed, first.unclassed())
+
+
 def loads_of(cwtune, folder):
     """Returns the names and the load files of the warriors of a folder."""
     paths = sorted(folder.glob("*.red"))
-    return [(path.stem, run([str(cwtune), "asm", str(path)]).output) for path in paths]
+    return [(path.stem, output_of([cwtune, "asm", path])) for path in paths]
 
 
 def play_in_turn(pairs, runs):
-    """Plays all pairs in turn, `runs` times, so that a slow minute spoils one run of each.
-
-    Returns the pairs in a list.
-    """
+    """Plays all pairs in turn, `runs` times, so that a slow minute spoils one run of each. Returns
+    them in a list."""
     pairs = list(pairs)
     for _ in range(runs):
         for pair in pairs:
@@ -115,7 +118,7 @@ def print_folders(cwtune, pmars, runs):
     """Prints the pairs of warriors of each folder, the geometric mean and the least ratio."""
     for name, path in FOLDERS.items():
         with tempfile.TemporaryDirectory() as folder:
-            pairs = play_in_turn((Pair(*both, (cwtune, pmars), folder) for both in
+            pairs = play_in_turn((pair_of(*both, (cwtune, pmars), folder) for both in
                                   itertools.combinations(loads_of(cwtune, path), 2)), runs)
         print_pairs(name, pairs)
         print(f"the same points in {len(pairs)} series")

@@ -9,15 +9,14 @@ from typing import NamedTuple
 
 from author.lib.endings import Fault, end_with_parent, run_tool
 from author.lib.grid import Grid
-from author.lib.program import Rules, program_of
+from author.lib.program import Rules, output_of, program_of
 from author.lib.series import series
 from author.lib.tuning_files import Fight, schedule_text
 from author.lib.warrior import equ_line
 from author.lib.words import add_number, add_program, module_parser, number_from
 from author.lib.writing import naming
-from pmars.games import run
+from pmars.games import READING
 
-from . import runs
 from .races_table import SEARCHES, START, Measured, Race, Results, Run, table_of
 from .searches import some_of
 
@@ -147,7 +146,7 @@ def judge(pmars, grid, values, folder):
     for index, name, value in zip(grid.line_indices, grid.names, values):
         lines[index] = equ_line(name, value).encode("latin-1")
     path.write_bytes(b"\n".join(lines))
-    printed = [COUNTS.search(run([pmars, *JUDGE, str(path), str(opponent)]))
+    printed = [COUNTS.search(output_of([pmars, *JUDGE, path, opponent], **READING))
                for opponent in OPPONENTS]
     if None in printed:
         raise Fault(f"{pmars}: not a pMARS server build", 3)
@@ -241,10 +240,9 @@ def settle(parser, args):
     if args.climb and not (args.climb / "cwtune-seek").is_file():
         raise Fault(f"{args.climb}: no cwtune-seek in it", 2)
     args.climb = args.climb and args.climb.resolve()
-    args.pmars = args.pmars and program_of(args.pmars, "make pmars")
     args.program = program_of(args.program)
-    if not args.pmars:
-        args.pmars = runs.run(["sh", HERE.parent / "pmars/pmars.sh"]).output.strip()
+    args.pmars = (program_of(args.pmars, "make pmars") if args.pmars
+                  else output_of(["sh", HERE.parent / "pmars/pmars.sh"]).strip())
 
 
 def main():

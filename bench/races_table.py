@@ -19,6 +19,9 @@ class Measured(NamedTuple):
     def __str__(self):
         return f"{self.value:+.2f} +- {self.error:.2f}"
 
+    def __sub__(self, other):
+        return Measured(self.value - other.value, math.hypot(self.error, other.error))
+
     def errors(self):
         """Returns the number in units of its error."""
         return self.value / self.error if self.error else math.copysign(math.inf, self.value)
@@ -47,7 +50,7 @@ class Run(NamedTuple):
 
     race: Race
     used: float
-    said: Measured
+    said: Measured | None
     values: tuple
     counts: list
 
@@ -99,8 +102,7 @@ class Results:
 
     def gain(self, run):
         """Returns by how much a run exceeds START."""
-        start, found = self.start(run.race.template).judged(), run.judged()
-        return Measured(found.value - start.value, math.hypot(found.error, start.error))
+        return run.judged() - self.start(run.race.template).judged()
 
     def of_searches(self):
         """Returns the runs of searches, in the order of their races."""
@@ -176,11 +178,7 @@ def start_line(results, runs):
 
 def honesty_line(results, runs):
     """Returns how far the printed gains are from those of pMARS, in errors."""
-    errors = []
-    for run in runs:
-        if run.said:
-            gain = results.gain(run)
-            errors.append((run.said.value - gain.value) / math.hypot(run.said.error, gain.error))
+    errors = [(run.said - results.gain(run)).errors() for run in runs if run.said]
     if not errors:
         return "- printed gain less pMARS's: no run printed one"
     greatest = max(errors, key=abs)

@@ -9,13 +9,13 @@ of all pairs and of those without a tie: the program cuts ties short, and pMARS 
 import random, tempfile
 
 from author.lib.endings import run_tool
-from author.lib.program import Rules, program_of
+from author.lib.program import Rules, output_of, program_of
 from author.lib.words import add_number
 from pmars.games import Game
 from pmars.random_warriors import random_load
 
-from .pairs import SEED, Pair, pairs_parser, play_in_turn, print_pairs
-from .runs import mean_and_least, run
+from .pairs import SEED, pair_of, pairs_parser, play_in_turn, print_pairs
+from .runs import mean_and_least
 
 # The least turns of a pair's first fight.
 SHORTEST = 2000
@@ -24,7 +24,7 @@ SHORTEST = 2000
 def lasts(loads, program, folder):
     """Returns whether the first fight of two warriors lasts long enough."""
     game = Game(Rules(), *loads, folder)
-    return int(run(game.fight_words(program, SEED, "c")).output.split()[-1]) >= SHORTEST
+    return int(output_of(game.fight_words(program, SEED, "c")).split()[-1]) >= SHORTEST
 
 
 def lasting_pairs(args, programs, folder):
@@ -34,8 +34,7 @@ def lasting_pairs(args, programs, folder):
         loads = [random_load(dice, Rules()) for _ in range(2)]
         if lasts(loads, programs[0], tempfile.mkdtemp(dir=folder)):
             found += 1
-            names = f"r{found}", "other"
-            yield Pair(*zip(names, loads), programs, folder)
+            yield pair_of((f"r{found}", loads[0]), ("other", loads[1]), programs, folder)
 
 
 def print_ratios(title, pairs):
@@ -54,8 +53,7 @@ def make_parser():
 
 def main():
     args = make_parser().parse_args()
-    pmars = program_of(args.pmars, "make pmars")
-    programs = program_of(args.program), pmars
+    programs = program_of(args.program), program_of(args.pmars, "make pmars")
     with tempfile.TemporaryDirectory() as folder:
         pairs = play_in_turn(lasting_pairs(args, programs, folder), args.runs)
     print_pairs("pair", pairs)

@@ -5,10 +5,10 @@ Each template is tuned against the eight warriors of `examples/warriors/`, with 
 fight played, and by `cwtune-spread` on several processors. The ratios are to the first of these.
 The exit status is 3 if a search fails, or if two find different settings.
 """
-import argparse, pathlib, subprocess, sys, tempfile, time
+import argparse, pathlib, sys, tempfile, time
 
 from author.lib.endings import Fault, run_tool
-from author.lib.program import program_of
+from author.lib.program import output_of, program_of
 from author.lib.words import add_number, add_program, module_parser
 
 ROOT = pathlib.Path(__file__).resolve().parent.parent
@@ -39,22 +39,11 @@ def some_of(names):
     return read
 
 
-def run(name, words):
-    """Runs a command, which has to succeed. Returns what it prints.
-
-    A command that fails says itself why, on standard error.
-    """
-    done = subprocess.run(words, stdin=subprocess.DEVNULL, stdout=subprocess.PIPE, text=True)
-    if done.returncode != 0:
-        raise Fault(f"{name} ended with status {done.returncode}", 3)
-    return done.stdout
-
-
 def search(words, template, folder):
     """Searches a template. Returns the fights, the seconds, and what was found."""
     begun = time.monotonic()
-    printed = run(f"{template.name}: a search",
-                  [*words, template, folder / "schedule.csv", folder / "cert", *WARRIORS])
+    printed = output_of([*words, template, folder / "schedule.csv", folder / "cert", *WARRIORS],
+                        f"{template.name}: a search")
     seconds = time.monotonic() - begun
     lines = [line.split(" ", 1) for line in printed.splitlines()]
     report = dict(line for line in lines if line[0] != "rank")
@@ -90,7 +79,7 @@ def main():
         folder = pathlib.Path(name)
         series = [sys.executable, AUTHOR / "cwtune-series", SEED, str(args.rounds),
                   str(len(WARRIORS))]
-        (folder / "schedule.csv").write_text(run("cwtune-series", series))
+        (folder / "schedule.csv").write_text(output_of(series))
         for template in args.templates:
             print_searches(args, template.resolve(), folder)
 

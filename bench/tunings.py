@@ -1,21 +1,21 @@
 """Measures how long `cwtune tune` takes for templates of examples/tuning/. README.md says what is
 measured."""
-import pathlib, tempfile
+import pathlib, re, tempfile
 
 from .runs import least, run
 
 FOLDER = pathlib.Path(__file__).resolve().parent.parent / "examples/tuning"
-# The templates with the report that each must give, and the opponents in the order of their
-# indices.
+# The templates with the report that each must give.
 TEMPLATES = {"stone": "report.txt", "decoy": "decoy-report.txt"}
-OPPONENTS = ["dwarf", "imp-ring", "scanner", "replicator", "core-clear"]
+# The file says in a line of shell which warriors are the opponents, in the order of their indices.
+OPPONENTS = re.findall(r"[\w-]+\.red", (FOLDER.parent / "opponents.sh").read_text("ascii"))
 
 
 def print_tunings(program, runs):
     """Prints the settings a second of processor time of each tuning, with the start of the
     process."""
     print(f"{'tuning':<14}{'settings':>10}{'settings/s':>12}")
-    opponents = [FOLDER.parent / f"warriors/{name}.red" for name in OPPONENTS]
+    opponents = [FOLDER.parent / "warriors" / name for name in OPPONENTS]
     for name, report in TEMPLATES.items():
         expected = (FOLDER / report).read_text("ascii")
         with tempfile.TemporaryDirectory() as folder:

@@ -15,11 +15,11 @@ import itertools, pathlib, random, tempfile, time
 from author.lib.adapt import Unwritable, adapt
 from author.lib.endings import Fault, run_tool
 from author.lib.pmars.program import refuse_other
-from author.lib.program import Rules, program_of, run_program
+from author.lib.program import Rules, output_of, program_of, run_program
 from author.lib.watching import AT_TERMINAL, rewrite
 from author.lib.words import add_number, add_program, module_parser, number_from
 
-from .games import LONGEST, Game, fights_of, run
+from .games import READING, Game, fights_of
 from .known import FIGHTS, RULES, TEXTS, WAITS
 from .random_warriors import Text, random_load
 
@@ -47,14 +47,14 @@ class Programs:
 
     def assemble(self, text):
         """Returns the load file that `cwtune asm` makes of a text, or why it refuses the text."""
-        done = run_program(self.cwtune, "asm", self.write("text.red", text), encoding="latin-1",
-                           timeout=LONGEST)
+        done = run_program(self.cwtune, "asm", self.write("text.red", text), **READING)
         return done.stdout or done.stderr
 
     def listing(self, text):
         """Returns the load file of what pMARS lists for a text. A refusal of it is a fault."""
-        listed = run([self.pmars, "-r", "0", self.write("text.red", text)]).partition("\n")[2]
-        return run([self.cwtune, "asm", self.write("load.red", listed)])
+        words = [self.pmars, "-r", "0", self.write("text.red", text)]
+        listed = output_of(words, **READING).partition("\n")[2]
+        return output_of([self.cwtune, "asm", self.write("load.red", listed)], **READING)
 
     def write(self, name, text):
         """Writes a file of the folder. Returns its path."""
@@ -190,9 +190,9 @@ def show_fights(programs):
     wrong = 0
     for known in FIGHTS:
         game = programs.game(RULES, known.warrior, WAITS)
-        came = (game.points(programs.cwtune, [(known.position, "c")])[0],
-                game.round_points(programs.pmars, known.position, "c"))
-        wrong += is_other(known, came)
+        actual = (game.points(programs.cwtune, [(known.position, "c")])[0],
+                  game.round_points(programs.pmars, known.position, "c"))
+        wrong += is_other(known, actual)
     return wrong
 
 
@@ -202,12 +202,12 @@ def show_texts(programs):
                for known in TEXTS)
 
 
-def is_other(known, came):
+def is_other(known, actual):
     """Returns whether the results of the programs are other than known, and prints them if so."""
-    if came == (known.cwtune, known.pmars):
+    if actual == (known.cwtune, known.pmars):
         return False
     print(f"known: {known.name}: expected {known.cwtune!r} by cwtune and {known.pmars!r} by pMARS, "
-          f"came {came!r}")
+          f"came {actual!r}")
     return True
 
 
@@ -221,10 +221,9 @@ def main():
     parser.add_argument("pmars", metavar="PMARS", help="a server build of pMARS 0.9.2, whose path "
                         "`make pmars` prints")
     args = parser.parse_args()
-    pmars = program_of(args.pmars, "make pmars")
     dice, progress = random.Random(args.seed), Progress(args.fights)
     with tempfile.TemporaryDirectory() as folder:
-        programs = Programs(program_of(args.program), pmars, folder)
+        programs = Programs(program_of(args.program), program_of(args.pmars, "make pmars"), folder)
         try:
             wrong = compare_fights(programs, dice, args.fights, progress)
             wrong += compare_texts(programs, dice, args.texts, progress)

@@ -1,18 +1,14 @@
 """Plays the same fights by `cwtune` and by a pMARS server build (`make pmars` builds one)."""
-import pathlib, subprocess
+import pathlib
 
 from author.lib.endings import Fault
-from author.lib.pmars.program import LETTERS
+from author.lib.pmars.program import words_of
+from author.lib.program import output_of
 from author.lib.series import series
 from author.lib.tuning_files import Fight, schedule_text
 
-LONGEST = 120  # seconds
-
-
-def letters(rules):
-    """Returns the rules as options of pMARS."""
-    return [word for name, number in rules._asdict().items()
-            for word in (f"-{LETTERS[name]}", str(number))]
+# How the output of both is read: of pMARS it has the bytes of names. The time is in seconds.
+READING = {"encoding": "latin-1", "timeout": 120}
 
 
 class Game:
@@ -39,7 +35,7 @@ class Game:
 
     def series_words(self, pmars, seed, rounds):
         """Returns the command that plays the fights of `cwtune-series`."""
-        return [pmars, "-b", "-k", "-F", str(seed), "-r", str(rounds), *letters(self.rules),
+        return [pmars, "-b", "-k", "-F", str(seed), "-r", str(rounds), *words_of(self.rules),
                 *self.warriors]
 
     def fight_words(self, program, position, first):
@@ -48,11 +44,8 @@ class Game:
                 *self.warriors]
 
     def round_words(self, pmars, position, first):
-        """Returns the command by which pMARS plays one fight.
-
-        The warrior that it is given first is at 0 and moves first, so that the two change places
-        if the opponent moves first.
-        """
+        """Returns the command by which pMARS plays one fight. The warrior that it is given first
+        is at 0 and moves first, so that the two change places if the opponent moves first."""
         if first == "c":
             return self.series_words(pmars, position, 1)
         words = self.series_words(pmars, self.rules.core - position, 1)
@@ -60,21 +53,19 @@ class Game:
 
     def points(self, program, fights):
         """Returns the candidate's points in each of the fights, by `cwtune`."""
-        run(self.tune_words(program, fights))
+        output_of(self.tune_words(program, fights), **READING)
         row = (self.folder / "cert").read_text("ascii").splitlines()[2]
         return [int(item.split(":")[1]) for item in row.split(",")[2].split(" ")]
 
     def counts(self, pmars, seed, rounds):
         """Returns how many of the fights of a series pMARS says are won, tied and lost."""
-        lines = run(self.series_words(pmars, seed, rounds)).splitlines()
-        (wins, ties), (losses, _) = (map(int, line.split()) for line in lines[:2])
-        return wins, ties, losses
+        return counts_of(pmars, output_of(self.series_words(pmars, seed, rounds), **READING))
 
     def round_points(self, pmars, position, first):
         """Returns the candidate's points in one fight, by pMARS."""
-        lines = run(self.round_words(pmars, position, first)).splitlines()
-        wins, ties = map(int, lines[0 if first == "c" else 1].split())
-        return 3 * wins + ties
+        printed = output_of(self.round_words(pmars, position, first), **READING)
+        wins, ties, losses = counts_of(pmars, printed)
+        return 3 * (wins if first == "c" else losses) + ties
 
 
 def fights_of(rules, seed, rounds):
@@ -82,10 +73,11 @@ def fights_of(rules, seed, rounds):
     return list(series(seed, rounds, rules.core, rules.distance))
 
 
-def run(words):
-    """Runs a command, and returns what it prints. It has to succeed."""
-    done = subprocess.run(words, stdin=subprocess.DEVNULL, capture_output=True, encoding="latin-1",
-                          timeout=LONGEST)
-    if done.returncode != 0:
-        raise Fault(f"{' '.join(words)} ended with status {done.returncode}: {done.stderr}", 3)
-    return done.stdout
+def counts_of(pmars, printed):
+    """Returns how many fights the warrior won, tied and lost that pMARS was given first: for each
+    warrior it prints the rounds that it survived alone, and those that both did."""
+    try:
+        (wins, ties), (losses, _) = (map(int, line.split()) for line in printed.splitlines()[:2])
+    except ValueError:
+        raise Fault(f"{pmars}: not a pMARS server build", 3) from None
+    return wins, ties, losses

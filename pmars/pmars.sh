@@ -23,7 +23,7 @@ if [ ! -x "$program" ]; then
         }
     done
     cd "$folder"
-    rm -rf sources.d
+    rm -rf sources.d pmars-0.9.2
     mkdir -p lists/partial sources.d
     for file in /etc/apt/sources.list /etc/apt/sources.list.d/*; do
         [ -f "$file" ] || continue

@@ -105,6 +105,11 @@ class Hosts(OnHosts, SpreadTrial):
         first, last, *more = err.splitlines()
         self.same("dead hosts", (3, "", DEAD, "failed: no host of hosts is ready", []), (
             status, out, first[:len(DEAD)], last, more))
+        for name in ["parallel", "rsync"]:
+            self.write_program(name, "exit 9\n")
+        with mock.patch.dict(os.environ, {"PATH": str(self.folder)}):
+            self.same("no pkill", (2, "", "error: --hosts needs pkill, and there is none (Debian: "
+                      "apt-get install procps)\n"), self.on("good", *DECOY))
 
     def test_shared(self):
         tuned = self.tuned()

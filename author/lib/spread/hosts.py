@@ -28,6 +28,8 @@ done
 if command -v tar >/dev/null && command -v rsync >/dev/null; then echo {answer}
 else echo no tar or no rsync; fi
 """
+# Where GNU parallel puts in the number of a piece.
+NUMBER = "{}"
 # What GNU parallel runs for a piece. `echo` fails if the connection is gone already, which GNU
 # parallel only sees later. `touch` says of which work the folder is, where no inputs are sent.
 JOB = ("echo && touch {inputs} && cd $(mktemp -d ./XXXXXX) && to=${{CWTUNE_SPREAD_FOLDER:-..}} && "
@@ -54,6 +56,8 @@ def refuse_missing_tools():
     for tool in ["parallel", "rsync"]:
         if not shutil.which(tool):
             raise Fault(f"--hosts needs GNU parallel and rsync, and there is no {tool}", 2)
+    if not shutil.which("pkill"):
+        raise Fault("--hosts needs pkill, and there is none (Debian: apt-get install procps)", 2)
 
 
 def read_hosts(path):
@@ -151,8 +155,8 @@ class HostJobs:
 
     def parallel_words(self, host_count):
         """Returns the words of GNU parallel, which puts a number in place of each `{}`."""
-        inputs, piece = self.inputs.name, f"{{}}.{self.folder.pid}"
-        job = JOB.format(inputs=inputs, piece=piece, words=" ".join(self.folder.words("{}")))
+        inputs, piece = self.inputs.name, f"{NUMBER}.{self.folder.pid}"
+        job = JOB.format(inputs=inputs, piece=piece, words=" ".join(self.folder.words(NUMBER)))
         # Of more than ten logins at once sshd refuses some.
         return ["--jobs", str(self.args.jobs), "--retries", str(host_count + 2),
                 "--sshdelay", "0.1", "--workdir", "...", "--transferfile", inputs,

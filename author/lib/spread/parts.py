@@ -21,6 +21,7 @@ from ..schema import Sha256
 from ..tuning_files import MOST_TEMPLATE_BYTES, Template
 from ..writing import open_new
 from .folder import JOB_FILES, ClusterPieces, SpreadFolder, copies_of
+from .hosts import NUMBER
 
 # A count that `cwtune` prints, and the values of a setting.
 COUNT, CONSTANTS = r"\d{1,20}", rf"{NAME}=-?\d{{1,5}}(?: {NAME}=-?\d{{1,5}})*"
@@ -169,8 +170,7 @@ class Parts(SpreadFolder):
         if len(ranked) < self.args.keep or self.args.all:
             return []
         last_kept = ranked[self.args.keep - 1]
-        # GNU parallel puts in the number of the part later.
-        is_before = number != "{}" and last_kept < self.settings(number).start
+        is_before = number != NUMBER and last_kept < self.settings(number).start
         return [f"--floor={self.totals[last_kept] + is_before}"]
 
     def prepare(self, number):
