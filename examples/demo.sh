@@ -13,7 +13,7 @@ if [ ! -x "$program" ]; then
 fi
 program=$(realpath "$program") work=$(mktemp -d) wrong=0 || exit 1
 trap 'rm -rf "$work"' EXIT
-trap 'exit 130' INT HUP TERM
+trap 'exit 143' HUP INT TERM
 cd "$(dirname "$0")" || exit 1
 # shellcheck source=examples/opponents.sh
 . ./opponents.sh

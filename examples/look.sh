@@ -19,7 +19,7 @@ for name in $opponents; do
 done
 log=$(mktemp) || exit 1
 trap 'rm -f "$log"' EXIT
-trap 'exit 130' INT HUP TERM
+trap 'exit 143' HUP INT TERM
 # shellcheck disable=SC2086
 rt try --seconds 100 "$@" -- tune --cycles "$cycles" stone.red schedule.csv stone.cert $opponents \
     >"$log" 2>&1

@@ -3,7 +3,7 @@ import os, signal, sys
 
 
 def run(path):
-    """Runs the command of this name. Until `run_tool` does, Ctrl-C ends it without a word."""
+    """Runs the command at this path. Until `run_tool` does, Ctrl-C ends it without a word."""
     # A link to a command may have any name.
     while not os.path.basename(path).startswith("cwtune-") and os.path.islink(path):
         path = os.path.join(os.path.dirname(path), os.readlink(path))

@@ -9,6 +9,9 @@ use Rattle.rc_instr.specs.declared.instruction.Mode.TheVariants.{Immediate, Dire
 
 -- A code is 8 times the number of an opcode plus the number of a modifier. Modifiers have the
 -- numbers 0 to 6; 7 is read as the last one, I, too.
+abbrev pub code_count : ℕ
+code_count = 128
+
 abbrev pub opcode_of : ℕ → Opcode
 opcode_of n =
     if n == 0 then Dat else if n == 1 then Mov else if n == 2 then Add else if n == 3 then Sub

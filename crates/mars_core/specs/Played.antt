@@ -18,8 +18,8 @@ pub record CanPlay (m : ℕ) (core : List Instruction) (mine theirs : Queue) (cy
   pub same_room : theirs.capacity ≡ mine.capacity
   pub few : cycles ≤ MOST_CYCLES
 
--- The result of a fight, whichever side moves first: its turns, at most two for each cycle; the state
--- after them, in a core of m cells again; and queues with the room that they had.
+-- The result of a fight, whichever side moves first: its turns, at most two for each cycle; the
+-- state after them, in a core of m cells again; and queues with the room that they had.
 pub record Plays (m : ℕ) (core : List Instruction) (mine theirs : Queue) (cycles turns : ℕ) (core_new : List Instruction) (my_new their_new : Queue) : Type 0 where
   pub turns_are : (first : Side) → turns ≡ turns_of mine.capacity (seen_from first core mine.items theirs.items) first cycles
   pub state_is : (first : Side) →

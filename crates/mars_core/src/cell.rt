@@ -4,7 +4,7 @@ ghost use Rattle.rc_instr.specs.Instruction.{same_instruction};
 ghost use Rattle.rc_instr.specs.declared.instruction.Instruction.{Instruction};
 ghost use Rattle.mars_core.specs.Core.{field_of, with_field};
 ghost use Rattle.mars_core.specs.Classes.{IsClassOf};
-ghost use Rattle.mars_core.specs.Codes.{opcode_of, modifier_of};
+ghost use Rattle.mars_core.specs.Codes.{code_count, opcode_of, modifier_of};
 
 use crate::classes::FIRST_OF_MODES;
 use crate::codes::{mode_code, modifier_code, opcode_code};
@@ -31,7 +31,7 @@ pub trait Cell: Copy {
 
     /// Returns 8 times the number of the opcode, plus the number of the modifier.
     fn code(self) -> u64
-        ensures small { result < 128 }
+        ensures small { result < code_count }
         ensures opcode { opcode_of (result / 8) ≡ (held self).opcode }
         ensures modifier { modifier_of (result % 8) ≡ (held self).modifier };
 

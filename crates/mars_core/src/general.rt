@@ -2,7 +2,7 @@
 ghost use Rattle.std.specs.Prelude.{◌<◌, ◌≤◌, ◌+◌, ◌/◌, ◌%◌};
 ghost use Rattle.rc_instr.specs.Warrior.{IsBelow};
 ghost use Rattle.mars_core.specs.Classes.{first_of_modes, IsClassOf, IsModed};
-ghost use Rattle.mars_core.specs.Codes.{opcode_of, modifier_of};
+ghost use Rattle.mars_core.specs.Codes.{code_count, opcode_of, modifier_of};
 ghost use Rattle.mars_core.specs.Core.{IsCore};
 ghost use Rattle.mars_core.specs.Executed.{seen_operand, IsFetched, IsExecuted, IsInside, AreEvaluated, IsActed};
 
@@ -157,7 +157,7 @@ fn act_by_code<C: Store, const PLACE: u64>(
     a: Located<C::Kept>,
     b: Located<C::Kept>,
 ) -> Queued
-    requires code { code < 128 }
+    requires code { code < code_count }
     requires core { IsCore size (C.items cells.old) }
     requires a { IsInside size (seen_operand C.Kept.held a) }
     requires b { IsInside size (seen_operand C.Kept.held b) }
