@@ -14,7 +14,7 @@ from .lib.inputs import RULES
 from .lib.play import Place, end, report
 from .lib.tally import compare, tally
 
-FILES = inputs.files("dat.red", "imp.red", "both.csv", "imps.red", "step.red", "tail.red",
+FILES = inputs.files("dat.red", "imp.red", "both.csv", "first.csv", "imps.red", "step.red", "tail.red",
                      "empty.red")
 TUNE = ["tune", *RULES, "imps.red", "both.csv", "CERT", "dat.red", "imp.red"]
 OTHERS = [*(["tune", *options, *TUNE[1:]]
@@ -67,10 +67,10 @@ def replaced(place):
         actual, expected = place.inputs(TUNE)
         yield compare(f"{name} is replaced", expected, actual)
     place.write("CERT.inputs", OLD)
-    place.inputs_path.chmod(0o640)
+    place.inputs_path.chmod(0o2640)
     place.inputs(TUNE)
-    mode = place.inputs_path.exists() and place.inputs_path.stat().st_mode & 0o777
-    yield compare("permissions stay", 0o640, mode)
+    mode = place.inputs_path.exists() and place.inputs_path.stat().st_mode & 0o7777
+    yield compare("permissions stay", 0o2640, mode)
     place.write("elsewhere", OLD)
     place.remove_inputs()
     place.inputs_path.symlink_to("elsewhere")
@@ -96,6 +96,10 @@ def kept(place):
     place.inputs_path.mkdir()
     yield compare("a folder stays", good, place.run(TUNE))
     place.inputs_path.rmdir()
+    place.inputs_path.symlink_to("/dev/null")
+    yield compare("a link to a device stays", (good, True),
+                  (place.run(TUNE), place.inputs_path.is_symlink()))
+    place.remove_inputs()
     os.link(place.folder / "imp.red", place.inputs_path)
     yield compare("a file of the tuning stays", end(2, err=NAMED), place.run(TUNE))
     place.remove_inputs()
@@ -125,6 +129,10 @@ def checks(place):
          "  rules 16 21 4 4 4, and the tuning had rules 16 20 4 4 4\n"
          "  step.red is not the tuning's template\n"
          "  the tuning had 2 opponents, and this check has 3\n"),
+        ("another schedule, and fewer opponents",
+         ["check", *RULES, "imps.red", "first.csv", "CERT", "dat.red"],
+         "  first.csv is not the tuning's schedule\n"
+         "  the tuning had 2 opponents, and this check has 1\n"),
         ("another part", ["check", "--part=2/2", *TUNE[1:]],
          "  part 2/2, and the tuning had part 1/1\n"),
     ]:

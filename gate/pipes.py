@@ -230,12 +230,12 @@ def links(place):
     for old in [OLD, None]:
         if old:
             place.write("CERT", old)
-            path.chmod(0o640)
+            path.chmod(0o2640)
         yield "a link as CERT", TUNED, place.run(tune_to("link"), keep=True)
         kept = [(place.folder / name).is_symlink() for name in ("link", "second")]
         yield "the link stays", [True, True], kept
         if old:
-            yield "permissions stay", 0o640, path.stat().st_mode & 0o777
+            yield "permissions stay", 0o2640, path.stat().st_mode & 0o7777
         path.unlink()
     inside = place.folder / "inside"
     inside.mkdir()

@@ -32,6 +32,8 @@ PROGRESS = rb"\r\x1b\[\?7l([^\r\n]*)\x1b\[K\x1b\[\?7h"
 AT_TERMINAL = f"\r\x1b[?7l{BEGUN}\x1b[K\x1b[?7h\r\x1b[K"
 LINE = (rb"\d+% \d+ of 800000 settings, [1-9]\d* fights, \d+ a second, best \d+ total \d"
         rb"( \w+=-?\d+)+, START \d, \d+ (s|min|h) left")
+# Of a part without the start setting.
+PART_LINE = LINE.replace(b"800000", b"400000").replace(rb", START \d", b"")
 MEANWHILE = rb"0% 0 of 1 settings, [1-9]\d* fights, \d+ a second"
 STEADY = (rb"(\d+)% (\d+) of 40 settings, (\d+) fights, (\d+) a second, best 0 total \d+ "
           rb"K=0, START \d+, (\d+) s left")
@@ -103,6 +105,10 @@ def long_tunings(place):
     yield "two lines a second at most", True, 6 <= len(lines) <= 2 * seconds + 1 or lines
     wrong = [line for line in lines[1:] if not re.fullmatch(LINE, line)]
     yield "what the lines say", ([], [SLOW_BEGUN]), (wrong, lines[:1])
+    of_part, _ = seen(place, ["tune", "--part=2/2", *SLOW], 3)
+    wrong = [line for line in of_part[1:] if not re.fullmatch(PART_LINE, line)]
+    yield "what the lines of a part say", ([], [b"0% 0 of 400000 settings, 0 fights"]), (
+        wrong, of_part[:1])
     # There is half a second or more from a line to the next. A rate is rounded down.
     wrong = [line for index, line in enumerate(lines[1:], 1)
              if not index / 2 <= seconds_of(line) <= 2 * seconds]

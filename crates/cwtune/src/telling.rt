@@ -16,6 +16,7 @@ pub(crate) mod refusal;
 use command_runs::{tell, tell_bytes};
 use itoa::Buffer;
 use rc_instr::Outlet;
+use rc_text::is_blank;
 use std::alloc::Global;
 use std::fmt::Display;
 use std::io;
@@ -93,7 +94,7 @@ pub(crate) fn tell_source<V: Write>(err: &mut Outlet<V>, file: &str, text: &[u8]
 pub(crate) fn tell_record<V: Write>(err: &mut Outlet<V>, file: &str, text: &[u8], row: u64) {
     let mut number: u64 = 0;
     let mut left = row;
-    for line in text.split(|byte| *byte == b'\n') {
+    for line in text.split(is_line_feed) {
         number = number.saturating_add(1);
         let records = records_of(line);
         if left < records {
@@ -104,10 +105,25 @@ pub(crate) fn tell_record<V: Write>(err: &mut Outlet<V>, file: &str, text: &[u8]
     }
 }
 
+// Returns whether a byte ends a line.
+pub(crate) fn is_line_feed(byte: &u8) -> bool {
+    *byte == b'\n'
+}
+
+// Returns whether a byte begins a comment.
+pub(crate) fn is_semicolon(byte: &u8) -> bool {
+    *byte == b';'
+}
+
+// Returns whether a byte is between the words of a range line.
+pub(crate) fn is_gap(byte: &u8) -> bool {
+    is_blank(*byte)
+}
+
 // Counts the records of a table.
 pub(crate) fn records_in(text: &[u8]) -> u64 {
     let mut count: u64 = 0;
-    for line in text.split(|byte| *byte == b'\n') {
+    for line in text.split(is_line_feed) {
         count = count.saturating_add(records_of(line));
     }
     count
@@ -126,7 +142,7 @@ fn records_of(line: &[u8]) -> u64 {
 
 // Returns the line at an index, from 0, or nothing if the text has fewer.
 pub(crate) fn line_at(text: &[u8], index: u64) -> &[u8] {
-    match text.split(|byte| *byte == b'\n').nth(index as usize) {
+    match text.split(is_line_feed).nth(index as usize) {
         Some(line) => line,
         None => b"",
     }
@@ -140,7 +156,7 @@ fn tell_shown<V: Write>(err: &mut Outlet<V>, line: &[u8]) {
         None => line,
     };
     let front = front_of(line);
-    if !front.iter().all(|byte| can_be_shown(*byte)) {
+    if !front.iter().all(can_be_shown) {
         tell(err, &["(a terminal cannot show it)"]);
         return;
     }
@@ -150,8 +166,8 @@ fn tell_shown<V: Write>(err: &mut Outlet<V>, line: &[u8]) {
     }
 }
 
-fn can_be_shown(byte: u8) -> bool {
-    byte == b'\t' || (byte >= b' ' && byte != 127)
+fn can_be_shown(byte: &u8) -> bool {
+    *byte == b'\t' || (*byte >= b' ' && *byte != 127)
 }
 
 // Returns the first characters of a line, at most `MOST_SHOWN` bytes.

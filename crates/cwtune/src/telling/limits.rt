@@ -3,8 +3,8 @@
 use crate::telling::help_lines::tell_help;
 use crate::telling::range_line::{tell_bad_range, tell_neighbours};
 use crate::telling::{
-    line_at, records_in, tell_broken_limit, tell_fault, tell_greatest, tell_number, tell_record,
-    tell_source,
+    is_line_feed, line_at, records_in, tell_broken_limit, tell_fault, tell_greatest, tell_number,
+    tell_record, tell_source,
 };
 use command_runs::tell;
 use command_words::TuneWords;
@@ -115,7 +115,7 @@ fn tell_settings<V: Write>(err: &mut Outlet<V>, settings: u64) {
 // there are more than 1000000, so the product cannot overflow.
 fn settings_up_to(alloc: Global, text: &[u8], last: u64) -> u64 {
     let mut product: u64 = 1;
-    for line in text.split(|byte| *byte == b'\n').take(last as usize) {
+    for line in text.split(is_line_feed).take(last as usize) {
         product = product.saturating_mul(values_of(alloc, line));
     }
     product

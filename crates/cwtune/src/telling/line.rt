@@ -1,5 +1,6 @@
 //! A line of Redcode as explanations look at it: its words, without its comment.
 
+use crate::telling::is_semicolon;
 use rc_text::{Lexer, NameClass, is_blank, is_same_word, name_class};
 use std::alloc::Global;
 
@@ -14,7 +15,7 @@ pub(crate) struct Line<'a> {
 pub(crate) fn line_of<'a>(alloc: Global, line: &'a [u8]) -> Line<'a> {
     let code = code_of(line);
     let mut words = Vec::new(alloc);
-    for word in code.split(|byte| !is_word_byte(*byte)) {
+    for word in code.split(is_between_words) {
         let word = before_dot(word);
         if !word.is_empty() {
             let _ = words.push(word);
@@ -29,21 +30,22 @@ fn code_of(line: &[u8]) -> &[u8] {
         Some(rest) if is_assertion(rest) => rest,
         _ => line,
     };
-    match line.split(|byte| *byte == b';').next() {
+    match line.split(is_semicolon).next() {
         Some(code) => code,
         None => b"",
     }
 }
 
 fn is_assertion(comment: &[u8]) -> bool {
-    match comment.split(|byte| !is_word_byte(*byte)).next() {
+    match comment.split(is_between_words).next() {
         Some(word) => is_same_word(word, b"assert"),
         None => false,
     }
 }
 
-fn is_word_byte(byte: u8) -> bool {
-    byte == b'_' || byte == b'.' || byte.is_ascii_alphanumeric()
+// Returns whether a byte cannot be in a word.
+fn is_between_words(byte: &u8) -> bool {
+    *byte != b'_' && *byte != b'.' && !byte.is_ascii_alphanumeric()
 }
 
 fn before_dot(word: &[u8]) -> &[u8] {

@@ -2,7 +2,8 @@
 //! dropped blocks are not heeded, so an explanation may be missing, or show another line.
 
 use crate::telling::line::{Line, line_of};
-use rc_text::{NameClass, is_blank, is_reserved_name, is_same_word, name_class};
+use crate::telling::{is_gap, is_line_feed};
+use rc_text::{NameClass, is_reserved_name, is_same_word, name_class};
 use std::alloc::Global;
 use tune_template::is_range_line;
 
@@ -33,7 +34,7 @@ pub(crate) fn definition_of<'a>(
     name: &[u8],
 ) -> Option<Definition<'a>> {
     let mut number: u64 = 0;
-    for line in text.split(|byte| *byte == b'\n') {
+    for line in text.split(is_line_feed) {
         number = number.saturating_add(1);
         if let Some(meaning) = meaning_in(alloc, line, name) {
             return Some(Definition {
@@ -49,7 +50,7 @@ pub(crate) fn definition_of<'a>(
 // Returns the number of the range line that names a constant.
 pub(crate) fn range_of<'a>(text: &'a [u8], name: &[u8]) -> Option<u64> {
     let mut number: u64 = 0;
-    for line in text.split(|byte| *byte == b'\n') {
+    for line in text.split(is_line_feed) {
         number = number.saturating_add(1);
         if constant_in(line) == Some(name) {
             return Some(number);
@@ -64,13 +65,12 @@ fn constant_in(line: &[u8]) -> Option<&[u8]> {
         return None;
     }
     let rest = line.strip_prefix(b";@tune")?;
-    rest.split(|byte| is_blank(*byte))
-        .find(|word| !word.is_empty())
+    rest.split(is_gap).find(|word| !word.is_empty())
 }
 
 // Returns a name of the text that differs from a name in capital and small letters alone.
 pub(crate) fn like_name<'a>(alloc: Global, text: &'a [u8], name: &[u8]) -> Option<&'a [u8]> {
-    for line in text.split(|byte| *byte == b'\n') {
+    for line in text.split(is_line_feed) {
         if let Some(word) = like_in(alloc, line, name) {
             return Some(word);
         }

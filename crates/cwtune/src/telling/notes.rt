@@ -1,10 +1,10 @@
 //! Warnings: what has no effect in a template or a schedule.
 
-use crate::telling::{tell_number, tell_source};
+use crate::telling::{is_gap, is_line_feed, is_semicolon, tell_number, tell_source};
 use command_runs::{tell, tell_bytes};
 use mars_fight::Fight;
 use rc_instr::Outlet;
-use rc_text::{Lexer, is_blank, is_same_word};
+use rc_text::{Lexer, is_same_word};
 use std::alloc::Global;
 use std::io::Write;
 use tune_template::{Template, is_range_line};
@@ -45,7 +45,7 @@ fn has_fight(fights: &[Fight], opponent: u32) -> bool {
 // Writes the lines of a template that look like range lines and are not.
 pub(crate) fn tell_lost_ranges<V: Write>(err: &mut Outlet<V>, file: &str, text: &[u8]) {
     let mut number: u64 = 0;
-    for line in text.split(|byte| *byte == b'\n') {
+    for line in text.split(is_line_feed) {
         number = number.saturating_add(1);
         if has_lost_range(line) {
             tell_source(err, file, text, number);
@@ -68,7 +68,7 @@ fn has_lost_range(line: &[u8]) -> bool {
     if is_range_line(line) {
         return false;
     }
-    for comment in line.split(|byte| *byte == b';').skip(1) {
+    for comment in line.split(is_semicolon).skip(1) {
         if begins_as_range(comment) {
             return true;
         }
@@ -78,7 +78,7 @@ fn has_lost_range(line: &[u8]) -> bool {
 
 // Returns whether the first word of a comment is `@tune`, in any letters.
 fn begins_as_range(comment: &[u8]) -> bool {
-    for word in comment.split(|byte| is_blank(*byte)) {
+    for word in comment.split(is_gap) {
         if !word.is_empty() {
             return is_same_word(word, b"@tune");
         }

@@ -1,9 +1,9 @@
 //! What is wrong with a range line.
 
+use crate::telling::is_gap;
 use command_runs::tell;
 use itoa::Buffer;
 use rc_instr::Outlet;
-use rc_text::is_blank;
 use std::io::Write;
 use std::str;
 
@@ -19,10 +19,7 @@ struct Range<'a> {
 
 // Returns the words of a range line, unless it has too few.
 fn range_in(line: &[u8]) -> Option<Range<'_>> {
-    let mut words = line
-        .split(|byte| is_blank(*byte))
-        .filter(|word| !word.is_empty())
-        .skip(2);
+    let mut words = line.split(is_gap).filter(|word| !word.is_empty()).skip(2);
     Some(Range {
         low: words.next()?,
         high: words.next()?,
