@@ -31,13 +31,12 @@ class OnHosts:
         self.settle(self.top / "work")
 
     def remains(self):
-        """Returns what a run left after some seconds: processes, folders of hosts and of CERT."""
+        """Returns what a run left: processes after some seconds, folders of hosts and of CERT."""
         deadline = time.monotonic() + 8
-        while (any(left := (running_in(self.top), self.hosts.left()))
-               and time.monotonic() < deadline):
+        while (running := running_in(self.top)) and time.monotonic() < deadline:
             time.sleep(0.1)
         work = [path.name for path in self.folder.glob("CERT.*") if path.is_dir()]
-        return *left, work
+        return running, self.hosts.left(), work
 
 
 class Hosts(OnHosts, SpreadTrial):
