@@ -14,8 +14,8 @@ from .lib.inputs import RULES
 from .lib.play import Place, end, report
 from .lib.tally import compare, tally
 
-FILES = inputs.files("dat.red", "imp.red", "both.csv", "first.csv", "imps.red", "step.red", "tail.red",
-                     "empty.red")
+FILES = inputs.files("dat.red", "imp.red", "both.csv", "first.csv", "imps.red", "step.red",
+                     "tail.red", "empty.red")
 TUNE = ["tune", *RULES, "imps.red", "both.csv", "CERT", "dat.red", "imp.red"]
 OTHERS = [*(["tune", *options, *TUNE[1:]]
             for options in [["--all"], ["--cache", "7"], ["--part=2/3"]]),

@@ -105,14 +105,14 @@ def long_tunings(place):
     yield "two lines a second at most", True, 6 <= len(lines) <= 2 * seconds + 1 or lines
     wrong = [line for line in lines[1:] if not re.fullmatch(LINE, line)]
     yield "what the lines say", ([], [SLOW_BEGUN]), (wrong, lines[:1])
-    of_part, _ = seen(place, ["tune", "--part=2/2", *SLOW], 3)
-    wrong = [line for line in of_part[1:] if not re.fullmatch(PART_LINE, line)]
-    yield "what the lines of a part say", ([], [b"0% 0 of 400000 settings, 0 fights"]), (
-        wrong, of_part[:1])
     # There is half a second or more from a line to the next. A rate is rounded down.
     wrong = [line for index, line in enumerate(lines[1:], 1)
              if not index / 2 <= seconds_of(line) <= 2 * seconds]
     yield "the seconds that a line counts", [], wrong
+    lines, _ = seen(place, ["tune", "--part=2/2", *SLOW], 3)
+    wrong = [line for line in lines[1:] if not re.fullmatch(PART_LINE, line)]
+    yield "what the lines of a part say", ([], [b"0% 0 of 400000 settings, 0 fights"]), (
+        wrong, lines[:1])
     yield "the first line within a second", True, begins_soon(place, ["tune", *SLOW])
     process = place.start(["tune", "--progress", *SLOW])
     first = process.stderr.readline()
