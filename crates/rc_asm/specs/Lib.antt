@@ -10,4 +10,3 @@ pub mod Faults
 pub mod Lines
 pub mod Assembly
 pub mod Seen
-pub mod Examples

@@ -11,4 +11,3 @@ pub mod Read
 pub mod Unroll
 pub mod Replace
 pub mod Expansion
-pub mod Examples

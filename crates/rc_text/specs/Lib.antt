@@ -12,4 +12,3 @@ pub mod Reading
 pub mod NameClasses
 pub mod TokenTexts
 pub mod Gaps
-pub mod Examples

@@ -39,7 +39,8 @@ pub(crate) fn tell_help<V: Write>(
 fn is_of_pmars(kind: AsmKind) -> bool {
     match kind {
         AsmKind::Expand(ExpandKind::Text(fault)) => fault == LexFault::NumberTooLarge,
-        AsmKind::Expand(_) | AsmKind::Value(_) | AsmKind::MissingOperand => true,
+        AsmKind::Expand(kind) => kind != ExpandKind::DuplicateName,
+        AsmKind::Value(_) | AsmKind::MissingOperand => true,
         _ => false,
     }
 }
