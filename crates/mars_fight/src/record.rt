@@ -11,12 +11,12 @@ use mars_core::Side;
 use rc_instr::{Rules, padded_decimal};
 use tables::{four_fields, three_fields};
 
-/// Which fields the records of a schedule have. The header says it for all of them.
+// Which fields the records of a schedule have. The header says it for all of them.
 #[derive(Clone, Copy, Debug, PartialEq, Eq)]
 pub(crate) enum Columns {
-    /// Opponent, position and first mover: every fight counts once.
+    // Opponent, position and first mover: every fight counts once.
     Unweighted,
-    /// These, and then the weight.
+    // These, and then the weight.
     Weighted,
 }
 

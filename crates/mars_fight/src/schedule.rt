@@ -73,7 +73,7 @@ impl Schedule {
         Ok(Schedule { fights, greatest })
     }
 
-    /// Returns the fights, 1 to 10000. A fight's index is its place in this list.
+    /// Returns the fights, 1 to 10000, in the order of the text: the one at 0 is that of record 1.
     pub fn fights(&self) -> &[Fight]
         ensures fights { result.now ≡ self.now }
         ensures few { (0 < length self.now) × (length self.now ≤ MOST_FIGHTS) }

@@ -1,7 +1,7 @@
 //! Tests of `mars_fight`: schedules and fights in a core of 16 cells with distance 4, and the texts
 //! of faults.
 use crate::machine::rules_of;
-use crate::warriors::IMP;
+use crate::warriors::{COPIER, IMP};
 use mars_core::{Arena, PackedCells, Side};
 use mars_fight::{Fight, Schedule, ScheduleFault, ScheduleFaultKind as Kind, keeps_distance, play};
 use rc_instr::{Rules, read_loadfile};
@@ -19,7 +19,7 @@ pub(crate) const TWO_FIGHTS: &[u8] = b"opponent,position,first\n0,8,c\n1,11,o\n"
 
 #[test]
 fn a_schedule_is_read(rt: HostRuntime) -> Result<(), Fail> {
-    let rules = Rules::try_new(16, 20, 4, 4, 4)?;
+    let rules = rules_of(16, 20, 4)?;
     let schedule = Schedule::read(rt.alloc(), TWO_FIGHTS, 2, &rules)?;
     let fights = [
         AT_EIGHT,
@@ -119,7 +119,7 @@ const FITS: [Fit; 10] = [
 
 #[test]
 fn a_schedule_fits_rules_and_opponents(rt: HostRuntime) -> Result<(), Fail> {
-    let rules = Rules::try_new(16, 20, 4, 4, 4)?;
+    let rules = rules_of(16, 20, 4)?;
     let schedule = Schedule::read(rt.alloc(), TWO_FIGHTS, 2, &rules)?;
     for case in &FITS {
         let rules = Rules::try_new(case.core, 20, 4, 4, case.distance)?;
@@ -135,7 +135,7 @@ fn a_schedule_fits_rules_and_opponents(rt: HostRuntime) -> Result<(), Fail> {
 
 #[test]
 fn positions_keep_the_distance_both_ways_round(rt: HostRuntime) -> Result<(), Fail> {
-    let rules = Rules::try_new(16, 20, 4, 4, 4)?;
+    let rules = rules_of(16, 20, 4)?;
     for &(position, want) in &[(0, false), (3, false), (4, true), (12, true), (13, false)] {
         assert_eq!(rt; keeps_distance(&rules, position), want, "{position}");
     }
@@ -205,7 +205,7 @@ const LONG: [Long; 5] = [
 
 #[test]
 fn a_schedule_has_at_most_ten_thousand_fights(rt: HostRuntime) -> Result<(), Fail> {
-    let rules = Rules::try_new(16, 20, 4, 4, 4)?;
+    let rules = rules_of(16, 20, 4)?;
     for case in &LONG {
         let text = long_text(rt.alloc(), case.fights, case.last)?;
         let found = match Schedule::read(rt.alloc(), text.as_bytes(), 2, &rules) {
@@ -219,7 +219,7 @@ fn a_schedule_has_at_most_ten_thousand_fights(rt: HostRuntime) -> Result<(), Fai
 
 #[test]
 fn a_schedule_may_have_weights(rt: HostRuntime) -> Result<(), Fail> {
-    let rules = Rules::try_new(16, 20, 4, 4, 4)?;
+    let rules = rules_of(16, 20, 4)?;
     let text = "opponent,position,first,weight\n0,8,c,2\n1,11,o,1000\n";
     let schedule = Schedule::read(rt.alloc(), text.as_bytes(), 2, &rules)?;
     assert_eq!(rt; (schedule.plain(), schedule.greatest()), (false, 3006));
@@ -230,10 +230,10 @@ fn a_schedule_may_have_weights(rt: HostRuntime) -> Result<(), Fail> {
 fn one_arena_for_many_fights(rt: HostRuntime) -> Result<(), Fail> {
     let rules = rules_of(16, 20, 4)?;
     let imp = read_loadfile(rt.alloc(), IMP, &rules)?;
-    let lowers_a_cell = read_loadfile(rt.alloc(), b"ORG 0\nMOV.I $0, <1\nDAT.F $0, $4\n", &rules)?;
+    let copier = read_loadfile(rt.alloc(), COPIER, &rules)?;
     let mut arena = Arena::<PackedCells>::try_new(rt.alloc(), &rules)?;
     assert_eq!(rt; play(&mut arena, &imp, &imp, &AT_EIGHT), 1);
-    play(&mut arena, &lowers_a_cell, &imp, &AT_EIGHT);
+    play(&mut arena, &copier, &imp, &AT_EIGHT);
     assert_eq!(rt; play(&mut arena, &imp, &imp, &AT_EIGHT), 1);
     Ok(())
 }

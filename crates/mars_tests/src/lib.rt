@@ -1,6 +1,6 @@
 //! Tests of `mars_core` (`steps`, `machine`), `mars_fight` (`fights`) and `tables` (`no_memory`);
-//! `memory` has those of calls that allocate, `no_memory` those of calls that do not, and
-//! `warriors` what several modules share.
+//! `memory` has those of calls that allocate, `no_memory` those of calls that do not. Modules share
+//! the load files of `warriors` and the helpers of `machine`.
 //!
 //! They show that each public call can succeed, and what neither a clause says nor a run of the
 //! program shows, such as the texts of faults. What a run shows is a case in `gate/cases/`. They

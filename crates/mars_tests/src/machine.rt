@@ -5,7 +5,7 @@ ghost use Rattle.rc_instr.specs.Rules.{rules_view};
 ghost use Rattle.rc_instr.specs.Warrior.{Fits};
 ghost use Rattle.mars_core.specs.Arena.{IsBlank};
 
-use crate::warriors::IMP;
+use crate::warriors::{COPIER, IMP, WAIT};
 use mars_core::laws::a_reset_sets_few_cells;
 use mars_core::{Arena, Cells, Outcome, PackedCells, PlainCells, Side};
 use rc_instr::{Rules, RulesError, Warrior, read_loadfile};
@@ -99,7 +99,7 @@ fn reset_twice<C: Cells>(arena: &mut Arena<C>, imp: &Warrior, copier: &Warrior) 
 fn a_reset_of_packed_cells_sets_few(rt: HostRuntime) -> Result<(), Fail> {
     let rules = rules_of(16, 20, 4)?;
     let imp = read_loadfile(rt.alloc(), IMP, &rules)?;
-    let copier = read_loadfile(rt.alloc(), b"ORG 0\nMOV.I $0, <1\nDAT.F $0, $4\n", &rules)?;
+    let copier = read_loadfile(rt.alloc(), COPIER, &rules)?;
     let mut plain = Arena::<PlainCells>::try_new(rt.alloc(), &rules)?;
     let mut packed = Arena::<PackedCells>::try_new(rt.alloc(), &rules)?;
     let tie = Outcome {
@@ -126,16 +126,15 @@ fn a_reset_of_packed_cells_sets_few(rt: HostRuntime) -> Result<(), Fail> {
 // turn are more than the core has cells, so its journal ends, if the fight goes on.
 #[test]
 fn a_journal_ends_after_a_stretch(rt: HostRuntime) -> Result<(), Fail> {
-    let wait = b"ORG 0\nJMP.B $0, $0\n";
     let played = |turns, reset| Played {
         points: 1,
         turns,
         reset,
     };
     let first = Side::Candidate;
-    let a_stretch = play_on_both(&rt, wait, wait, 2000, 4, first)?;
+    let a_stretch = play_on_both(&rt, WAIT, WAIT, 2000, 4, first)?;
     assert_eq!(rt; a_stretch, (played(4000, 16), played(4000, 2)));
-    let longer = play_on_both(&rt, wait, wait, 2001, 4, first)?;
+    let longer = play_on_both(&rt, WAIT, WAIT, 2001, 4, first)?;
     assert_eq!(rt; longer, (played(4002, 16), played(4002, 16)));
     Ok(())
 }
@@ -143,8 +142,8 @@ fn a_journal_ends_after_a_stretch(rt: HostRuntime) -> Result<(), Fail> {
 #[test]
 fn a_reset_opens_the_journal_again(rt: HostRuntime) -> Result<(), Fail> {
     let rules = rules_of(16, 2001, 4)?;
-    let wait = read_loadfile(rt.alloc(), b"ORG 0\nJMP.B $0, $0\n", &rules)?;
-    let copier = read_loadfile(rt.alloc(), b"ORG 0\nMOV.I $0, <1\nDAT.F $0, $4\n", &rules)?;
+    let wait = read_loadfile(rt.alloc(), WAIT, &rules)?;
+    let copier = read_loadfile(rt.alloc(), COPIER, &rules)?;
     let mut packed = Arena::<PackedCells>::try_new(rt.alloc(), &rules)?;
     let resets = Resets {
         turns: 1,

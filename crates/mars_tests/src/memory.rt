@@ -4,19 +4,16 @@
 //! `make test` also runs each of these tests with its first, second and so on request for memory
 //! refused (gate/refuse/growth.py). It then ends with the same results, or with the error
 //! `OutOfMemory` of the call itself, in no other variant.
-use crate::machine::{Played, play_on_both};
-use crate::warriors::{DAT, IMP};
+use crate::machine::{Played, play_on_both, rules_of};
+use crate::warriors::{DAT, IMP, WAIT};
 use mars_core::Side;
 use mars_fight::{Schedule, ScheduleFaultKind};
-use rc_instr::Rules;
 use std::alloc::Global;
 use std::test::Fail;
 
 const DIVIDES: &[u8] = b"ORG 0\nDIV.F #0, $2\nDAT.F $0, $0\nDAT.F #6, #6\n";
 
 const SPLITS: &[u8] = b"ORG 0\nSPL.B $0, $0\n";
-
-const WAITS: &[u8] = b"ORG 0\nJMP.B $0, $0\n";
 
 // A fight worked out by hand from the 1994 draft. `played` is what it leaves on packed cells, where
 // a reset sets the cells that were written; on plain cells it sets all 16.
@@ -86,7 +83,7 @@ const DUELS: [Duel; 7] = [
     Duel {
         name: "an imp and a jump to itself tie",
         candidate: IMP,
-        opponent: WAITS,
+        opponent: WAIT,
         cycles: 20,
         tasks: 4,
         first: Side::Candidate,
@@ -208,7 +205,7 @@ const SCHEDULES: [ScheduleCase; 10] = [
 // Reads a schedule against two opponents. Returns the number of its fights, or the text of its
 // fault.
 fn schedule_read(alloc: Global, text: &[u8]) -> Result<String, Fail> {
-    let rules = Rules::try_new(16, 20, 4, 4, 4)?;
+    let rules = rules_of(16, 20, 4)?;
     match Schedule::read(alloc, text, 2, &rules) {
         Ok(schedule) => Ok(format!(in alloc; "{}", schedule.fights().len())?),
         Err(fault) => {

@@ -5,7 +5,7 @@
 use crate::fights::{AT_EIGHT, TWO_FIGHTS};
 use crate::machine::{Played, play_and_reset, rules_of};
 use crate::steps::step_and_reset;
-use crate::warriors::{DAT, IMP};
+use crate::warriors::{DAT, IMP, SPLITS_AND_JUMPS};
 use csv::ByteRecord;
 use mars_core::{Arena, PackedCells, PlainCells, Side};
 use mars_fight::{Schedule, keeps_distance, play};
@@ -26,15 +26,12 @@ fn ask(alloc: Global) -> Result<(), Fail> {
     Ok(())
 }
 
-// Has a second task after each step, until it has as many as the rules allow.
-const SPLITS: &[u8] = b"ORG 0\nSPL.B $0, $0\nJMP.B $-1, $0\n";
-
 // On each kind of cells two imps tie, and a warrior that adds tasks ties with an imp.
 #[test]
 fn fights_are_played(rt: HostRuntime) -> Result<(), Fail> {
     let rules = rules_of(16, 20, 4)?;
     let imp = read_loadfile(rt.alloc(), IMP, &rules)?;
-    let splits = read_loadfile(rt.alloc(), SPLITS, &rules)?;
+    let splits = read_loadfile(rt.alloc(), SPLITS_AND_JUMPS, &rules)?;
     let mut plain = Arena::<PlainCells>::try_new(rt.alloc(), &rules)?;
     let mut packed = Arena::<PackedCells>::try_new(rt.alloc(), &rules)?;
     use_up(rt.alloc())?;
@@ -57,7 +54,7 @@ fn fights_are_played(rt: HostRuntime) -> Result<(), Fail> {
 #[test]
 fn steps_are_made(rt: HostRuntime) -> Result<(), Fail> {
     let rules = rules_of(16, 20, 4)?;
-    let splits = read_loadfile(rt.alloc(), SPLITS, &rules)?;
+    let splits = read_loadfile(rt.alloc(), SPLITS_AND_JUMPS, &rules)?;
     let dat = read_loadfile(rt.alloc(), DAT, &rules)?;
     let mut plain = Arena::<PlainCells>::try_new(rt.alloc(), &rules)?;
     let mut packed = Arena::<PackedCells>::try_new(rt.alloc(), &rules)?;

@@ -5,7 +5,7 @@ ghost use Rattle.rc_instr.specs.Warrior.{Fits};
 ghost use Rattle.mars_core.specs.Arena.{IsBlank};
 
 use crate::machine::rules_of;
-use crate::warriors::DAT;
+use crate::warriors::{DAT, SPLITS_AND_JUMPS};
 use mars_core::{Arena, Cells, PackedCells, PlainCells, Side};
 use rc_instr::{Instruction, Warrior, read_loadfile};
 use std::test::Fail;
@@ -318,7 +318,7 @@ fn six_steps<C: Cells>(
 #[test]
 fn one_side_steps_more_often_than_it_has_room_for_tasks(rt: HostRuntime) -> Result<(), Fail> {
     let rules = rules_of(16, 20, 4)?;
-    let candidate = read_loadfile(rt.alloc(), b"ORG 0\nSPL.B $0, $0\nJMP.B $-1, $0\n", &rules)?;
+    let candidate = read_loadfile(rt.alloc(), SPLITS_AND_JUMPS, &rules)?;
     let opponent = read_loadfile(rt.alloc(), DAT, &rules)?;
     let mut plain = Arena::<PlainCells>::try_new(rt.alloc(), &rules)?;
     let mut packed = Arena::<PackedCells>::try_new(rt.alloc(), &rules)?;

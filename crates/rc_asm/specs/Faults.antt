@@ -23,7 +23,7 @@ Returns view result definition = ReturnsBut IsOutOfMemory view result definition
 
 -- A line of code must parse, and ORG needs an expression.
 abbrev pub form_check : List ℕ → LineWord → List Token → Result (Unit {0}) AsmKind
-form_check source Code ts = mapped (λ s. tt) (form_of source ts)
+form_check source Code ts = mapped (λ form. tt) (form_of source ts)
 form_check source Org [] = Err MissingOperand
 form_check source _ ts = Ok tt
 

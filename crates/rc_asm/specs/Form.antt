@@ -64,7 +64,7 @@ pub record FormView : Type 0 where
   pub operands : OperandTokensView
 
 abbrev pub form : Opcode → Option Modifier → OperandTokensView → FormView
-form o m s = record { opcode = o; modifier = m; operands = s }
+form o m operands = record { opcode = o; modifier = m; operands = operands }
 
 unfoldable pub with_operands : Opcode → Option Modifier → List Token → Result FormView AsmKind
 with_operands o m ts = mapped (form o m) (operands_of o (parts ts))

@@ -31,9 +31,9 @@ operand m mode z = record { mode = mode; number = core_number m z }
 
 -- The instruction of a line and its operands; a modifier that is not written is the default one.
 unfoldable pub instruction_of_parts : FormView → Operand → Operand → Instruction
-instruction_of_parts s a b = record {
-  opcode = s.opcode;
-  modifier = unwrap_or s.modifier (default_modifier_of s.opcode a.mode b.mode);
+instruction_of_parts form a b = record {
+  opcode = form.opcode;
+  modifier = unwrap_or form.modifier (default_modifier_of form.opcode a.mode b.mode);
   a_mode = a.mode;
   a_number = a.number;
   b_mode = b.mode;
@@ -54,12 +54,12 @@ module _ (source : List ℕ) (names : NameValues) (address : ℕ) where
 
   -- A fault of the A-operand comes before one of the B-operand.
   unfoldable pub instruction_of_form : FormView → Result Instruction EvalFault
-  instruction_of_form s = do
-    a ← operand_at s.operands.a
-    mapped (instruction_of_parts s a) (operand_at s.operands.b)
+  instruction_of_form form = do
+    a ← operand_at form.operands.a
+    mapped (instruction_of_parts form a) (operand_at form.operands.b)
 
   -- The instruction that the tokens spell, or the first fault.
   unfoldable pub instruction_at : List Token → Result Instruction AsmKind
   instruction_at tokens = do
-    s ← form_of source tokens
-    with_fault Value (instruction_of_form s)
+    form ← form_of source tokens
+    with_fault Value (instruction_of_form form)

@@ -57,6 +57,6 @@ stands_for names address labels_as name =
     option_or (given_names names.constants names.rules name)
     (if bytes_eq name CURLINE then Some (pos address) else option_map (label_value labels_as address) (names.address name))
 
--- The value of an expression in such a line, or its first fault.
+-- The value of an expression in the line at `address`, or its first fault.
 abbrev pub value_at : List ℕ → NameValues → (address : ℕ) → LabelsAs → List Token → Result ℤ EvalFault
 value_at source names address labels_as tokens = evaluation_of (stands_for names address labels_as) (symbols_of source tokens)

@@ -10,13 +10,13 @@ use Rattle.rc_asm.specs.Lines.{ReadingView}
 use Rattle.rc_asm.specs.Form.{OperandTokensView, operand_tokens, FormView, form}
 
 abbrev pub seen_operands : OperandTokens → OperandTokensView
-seen_operands s = operand_tokens (option_map (λ p. p.now) s.a) (option_map (λ p. p.now) s.b)
+seen_operands operands = operand_tokens (option_map (λ p. p.now) operands.a) (option_map (λ p. p.now) operands.b)
 
 abbrev pub seen_form : Form → FormView
-seen_form s = form s.opcode s.modifier (seen_operands s.operands)
+seen_form f = form f.opcode f.modifier (seen_operands f.operands)
 
 abbrev pub seen_names : Context → NameValues
-seen_names k = record { constants = table_in k.given.now.constants.now; rules = k.given.now.rules.now; address = entry_of k.labels.now }
+seen_names context = record { constants = table_in context.given.now.constants.now; rules = context.given.now.rules.now; address = entry_of context.labels.now }
 
 abbrev pub seen_reading : Reading → ReadingView
 seen_reading r = record { code = r.code.items; starts = r.starts }

@@ -11,7 +11,7 @@ ghost use Rattle.rc_asm.specs.Seen.{seen_names, seen_reading};
 use crate::fault::{AsmFault, AsmKind, at_line, of_expansion, of_warrior};
 use crate::forms::check_forms;
 use crate::labels::Labels;
-use crate::limits::MOST_BYTES;
+use crate::limits;
 use crate::reading::{Reading, read_lines};
 use crate::scope::Context;
 use crate::starts::Starts;
@@ -57,7 +57,7 @@ pub fn assemble(
     ensures outcome { Returns (λ w. w) result (outcome_of source.now (table_in constants.now) rules.now) }
     ensures fits { IfOk result (Fits rules.now) }
 {
-    if source.len() > MOST_BYTES {
+    if source.len() > limits::MOST_BYTES {
         return Err(at_line(0, AsmKind::TextTooLong));
     }
     match expand(alloc, source, constants, rules) {
@@ -93,8 +93,8 @@ fn assemble_lines(
     }
 }
 
-// Makes the warrior of lines, or returns the fault of the first line that has one. A line may be
-// malformed: the caller then looks for the first that is.
+// Makes the warrior of lines. Returns the fault of the first line that has one, else that of the
+// warrior. A line may be malformed: the caller then looks for the first that is.
 fn warrior_of_lines(
     alloc: Global,
     source: &[u8],

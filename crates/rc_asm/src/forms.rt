@@ -1,5 +1,5 @@
-//! The forms of the lines. They are checked once a line has no value, since the fault of a
-//! malformed line comes before those of values.
+//! The forms of the lines. They are checked only after a fault: that of a malformed line comes
+//! before those of values and of the warrior.
 ghost use Rattle.std.specs.Prelude.{◌≡◌};
 ghost use Rattle.rc_asm.specs.Faults.{form_check, forms_check};
 

@@ -31,7 +31,15 @@ pub record GivenNamesView : Type 0 where
 -- The predefined names of pMARS but for CURLINE, which has no value before lines are counted. That
 -- WARRIORS is 2 and VERSION is 92 is fixed here.
 abbrev pub predefined : RulesView → Table
-predefined r = (codes "CORESIZE", pos r.core) ∷ (codes "MAXPROCESSES", pos r.tasks) ∷ (codes "MAXCYCLES", pos r.cycles) ∷ (codes "MAXLENGTH", pos r.length) ∷ (codes "MINDISTANCE", pos r.distance) ∷ (codes "WARRIORS", pos 2) ∷ (codes "VERSION", pos 92) ∷ []
+predefined r =
+    (codes "CORESIZE", pos r.core)
+    ∷ (codes "MAXPROCESSES", pos r.tasks)
+    ∷ (codes "MAXCYCLES", pos r.cycles)
+    ∷ (codes "MAXLENGTH", pos r.length)
+    ∷ (codes "MINDISTANCE", pos r.distance)
+    ∷ (codes "WARRIORS", pos 2)
+    ∷ (codes "VERSION", pos 92)
+    ∷ []
 
 abbrev pub CURLINE : List ℕ
 CURLINE = codes "CURLINE"

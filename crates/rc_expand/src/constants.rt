@@ -3,7 +3,7 @@
 /// Names and values from outside of a text, such as a template's constants.
 ///
 /// A template gives at most 8, with distinct names that are neither reserved nor predefined. Other
-/// callers may give any: the first of equal names counts, and a name without a value is no
+/// callers may give any: the first of equal names counts, and a name without a value is not a
 /// constant.
 #[derive(Clone, Copy, Debug)]
 pub struct Constants<'a> {

@@ -12,7 +12,7 @@ pub(crate) mod links;
 use crate::context::Context;
 use crate::equ_tokens::links::link_tokens;
 use crate::fault::{ExpandFault, ExpandKind, at_line};
-use crate::limits::{DEEPEST_EQU, MOST_REPLACEMENTS, MOST_TOKENS};
+use crate::limits;
 use crate::line::Tokens;
 use crate::tokens::clone_token;
 use rc_text::Token;
@@ -51,7 +51,13 @@ pub(crate) fn replace_tokens(
         tokens: front,
         replacements: 0,
     };
-    append_replaced(&mut out, context, tokens, indices.as_slice(), DEEPEST_EQU)?;
+    append_replaced(
+        &mut out,
+        context,
+        tokens,
+        indices.as_slice(),
+        limits::DEEPEST_EQU,
+    )?;
     Ok(Tokens::from_vec(out.tokens))
 }
 
@@ -91,7 +97,7 @@ fn append_token(
             if levels == 0 {
                 return Err(at_line(out.line, ExpandKind::EquTooDeep));
             }
-            if out.replacements >= MOST_REPLACEMENTS {
+            if out.replacements >= limits::MOST_REPLACEMENTS {
                 return Err(at_line(out.line, ExpandKind::TooManyTokens));
             }
             out.replacements += 1;
@@ -117,7 +123,7 @@ fn body_at<'a>(
 fn push_token(out: &mut TokensSoFar, token: &Token) -> Result<(), ExpandFault>
     ensures { Returns (λ u. out.new) result (with_token token.now out.old) }
 {
-    if out.tokens.len() >= MOST_TOKENS {
+    if out.tokens.len() >= limits::MOST_TOKENS {
         return Err(at_line(out.line, ExpandKind::TooManyTokens));
     }
     out.tokens.push(clone_token(token)?)?;

@@ -27,7 +27,7 @@ pub fn tokens_lie_in_the_text()
 /// FOR that is open. Each text has exactly one of these.
 #[tactic(auto, using(crate::proofs::Reading::NestingSteps::said, crate::proofs::Reading::NestingSteps::found))]
 pub fn blocks_are_closed_or_have_a_fault()
-    ensures { (hs : List RawLine) (r : Result BlockTree ExpandFault) → blocks_of hs ≡ r ↔ AreBlocks hs r }
+    ensures { (raws : List RawLine) (r : Result BlockTree ExpandFault) → blocks_of raws ≡ r ↔ AreBlocks raws r }
 {}
 
 /// The labels of a line and the tokens after them are its tokens, in order.

@@ -1,8 +1,9 @@
 //! Expansion of Redcode: to lines without EQU names, FOR blocks and joined names.
 //!
-//! It goes in three passes, each over the whole text: `read` reads the lines, `unroll` copies the
-//! lines of blocks, and `replace` puts the tokens of EQU names in place. `expander` runs them one
-//! after the other, and `context` is what the last two share.
+//! It goes in three passes: `read` reads the lines up to END, `unroll` notes which line is in which
+//! copies of blocks, and `replace` makes these lines one by one, defines their names, and puts the
+//! tokens of EQU names in the place of the names. `expander` runs the passes one after the other,
+//! and `context` is what the last two share.
 #![tactic(auto)]
 
 mod constants;

@@ -1,4 +1,5 @@
-//! The limits of an expansion, by the names that `specs/Limits.antt` has for them too.
+//! The limits of an expansion, named as in `specs/Limits.antt`. Code writes `limits::NAME`, so that
+//! a bare NAME in a contract is the definition.
 
 // Unrolled lines and copies of blocks, counted together.
 pub(crate) const MOST_LINES: usize = 4096;

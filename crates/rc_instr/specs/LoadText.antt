@@ -51,4 +51,4 @@ code_text m code = flat_map (line_text m) code
 
 -- The load file of a warrior in a core of m cells.
 unfoldable pub load_text : ℕ → WarriorView → List ℕ
-load_text m p = start_text p.start ++ code_text m p.code
+load_text m w = start_text w.start ++ code_text m w.code

@@ -1,8 +1,8 @@
 -- Outlets.
 use Rattle.std.specs.Prelude.{ℕ, Bool, List, Option}
 
--- The bytes that the writer holds, if they are known; whether a write has failed; and whether the
--- last call was a flush that succeeded.
+-- The bytes that the writer holds, if they are known; whether a write or a flush has failed; and
+-- whether the last call of the writer itself was a flush that succeeded.
 pub record OutletView : Type 0 where
   pub bytes : Option (List ℕ)
   pub failed : Bool

@@ -13,10 +13,10 @@ abbrev pub warrior_view : List Instruction → ℕ → WarriorView
 warrior_view code start = record { code = code; start = start }
 
 -- A warrior has 1 to 200 instructions, and starts at one of them.
-pub record IsWarrior (p : WarriorView) : Type 0 where
-  pub some : 0 < length p.code
-  pub short : length p.code ≤ MOST_LENGTH
-  pub inside : p.start < length p.code
+pub record IsWarrior (w : WarriorView) : Type 0 where
+  pub some : 0 < length w.code
+  pub short : length w.code ≤ MOST_LENGTH
+  pub inside : w.start < length w.code
 
 -- Both numbers are below the core size `m`.
 pub record IsBelow (m : ℕ) (i : Instruction) : Type 0 where
@@ -24,6 +24,6 @@ pub record IsBelow (m : ℕ) (i : Instruction) : Type 0 where
   pub b : i.b_number < m
 
 -- The warrior is not longer than the rules allow, and its numbers are below the core size.
-pub record Fits (rules : RulesView) (p : WarriorView) : Type 0 where
-  pub short : length p.code ≤ rules.length
-  pub numbers : All (IsBelow rules.core) p.code
+pub record Fits (rules : RulesView) (w : WarriorView) : Type 0 where
+  pub short : length w.code ≤ rules.length
+  pub numbers : All (IsBelow rules.core) w.code

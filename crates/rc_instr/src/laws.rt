@@ -28,7 +28,7 @@ pub fn rules_are_within_their_limits()
 /// Neither is changed.
 #[tactic(auto, using(crate::proofs::CheckSteps::warrior_fits, crate::proofs::CheckSteps::warrior_passes))]
 pub fn a_warrior_fits_its_rules()
-    ensures { (r : RulesView) (p w : WarriorView) → IsRules r → warrior_of r p ≡ Ok w ↔ (w ≡ p) × IsWarrior p × Fits r p }
+    ensures { (r : RulesView) (v w : WarriorView) → IsRules r → warrior_of r v ≡ Ok w ↔ (w ≡ v) × IsWarrior v × Fits r v }
 {}
 
 /// Writes a load file of `warrior` and reads it back: the result is the same warrior. Fails only if

@@ -30,7 +30,7 @@ pub fn default_modifier(opcode: Opcode, a_mode: Mode, b_mode: Mode) -> Modifier
     }
 }
 
-// AB if the A-operand is immediate.
+// Returns AB if the A-operand is immediate, else `otherwise`.
 fn ab_or(otherwise: Modifier, a_mode: Mode) -> Modifier
     ensures { result ≡ ab_or otherwise a_mode }
 {
@@ -40,7 +40,7 @@ fn ab_or(otherwise: Modifier, a_mode: Mode) -> Modifier
     }
 }
 
-// B if the B-operand is immediate.
+// Returns B if the B-operand is immediate, else `otherwise`.
 fn b_or(otherwise: Modifier, b_mode: Mode) -> Modifier
     ensures { result ≡ b_or otherwise b_mode }
 {

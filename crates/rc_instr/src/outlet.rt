@@ -87,9 +87,10 @@ impl<X: Write> Outlet<X> {
         Ok(())
     }
 
-    /// Calls the writer's `flush`, and returns `Ok` if that succeeds.
+    /// Calls the writer's `flush`, unless the outlet has failed before. Returns `Ok` if that
+    /// succeeds.
     ///
-    /// After `WriteFailed` it has failed for good, and what was written stays.
+    /// After `WriteFailed` the outlet has failed for good. What was written stays written.
     pub fn finish(&mut self) -> Result<(), WriteFailed>
         ensures bytes { Keeps self.old.bytes self.new.bytes }
         ensures failed { self.new.failed ≡ is_err result }
@@ -106,16 +107,6 @@ impl<X: Write> Outlet<X> {
             }
             Err(_) => Err(self.fail()),
         }
-    }
-
-    // Gives the writer up.
-    fn fail(&mut self) -> WriteFailed
-        ensures bytes { self.new.bytes ≡ self.old.bytes }
-        ensures failed { self.new.failed ≡ true }
-        ensures flushed { self.new.flushed ≡ self.old.flushed }
-    {
-        self.has_failed = true;
-        WriteFailed
     }
 
     /// Returns whether a write or a flush has failed.
@@ -135,5 +126,15 @@ impl<X: Write> Outlet<X> {
             is_flushed: _,
         } = self;
         inner
+    }
+
+    // Gives the writer up.
+    fn fail(&mut self) -> WriteFailed
+        ensures bytes { self.new.bytes ≡ self.old.bytes }
+        ensures failed { self.new.failed ≡ true }
+        ensures flushed { self.new.flushed ≡ self.old.flushed }
+    {
+        self.has_failed = true;
+        WriteFailed
     }
 }

@@ -9,7 +9,7 @@ use crate::rules::Rules;
 use std::marker::Model;
 use thiserror::Error;
 
-/// A list of instructions. Contracts see the list.
+/// A warrior's instructions. Contracts see the list, also where [`Refused`] hands it back.
 #[derive(Debug, Drop)]
 pub struct Code {
     instructions: Vec<Instruction>,
@@ -25,7 +25,6 @@ impl Model for Code {
 }
 
 impl Code {
-    /// Makes code of instructions.
     pub fn from_vec(instructions: Vec<Instruction>) -> Code
         ensures { result ≡ instructions.items }
     {
@@ -96,25 +95,6 @@ impl Warrior {
     ghost use Rattle.std.specs.Result.{result_err};
     ghost use Rattle.rc_instr.specs.Checks.{warrior_of};
 
-    // Returns the first reason why `code` and `start` are not a warrior, in the order of
-    // `WarriorError`.
-    #[tactic(auto, unfolding(crate::specs::Checks::warrior_of))]
-    fn refusal_of(code: &[Instruction], start: u32, rules: &Rules) -> Option<WarriorError>
-        ensures { result ≡ result_err (warrior_of rules.now (warrior_view code.now start)) }
-    {
-        if code.is_empty() {
-            Some(WarriorError::Empty)
-        } else if code.len() > rules.length() as usize {
-            Some(WarriorError::TooLong)
-        } else if start as usize >= code.len() {
-            Some(WarriorError::BadStart)
-        } else if !are_below(code, rules.core()) {
-            Some(WarriorError::NumberTooLarge)
-        } else {
-            None
-        }
-    }
-
     /// Makes a warrior of `code` that starts at index `start`.
     ///
     /// # Errors
@@ -162,6 +142,25 @@ impl Warrior {
         ensures warrior { IsWarrior self.now }
     {
         self.start
+    }
+
+    // Returns the first reason why `code` and `start` are not a warrior, in the order of
+    // `WarriorError`.
+    #[tactic(auto, unfolding(crate::specs::Checks::warrior_of))]
+    fn refusal_of(code: &[Instruction], start: u32, rules: &Rules) -> Option<WarriorError>
+        ensures { result ≡ result_err (warrior_of rules.now (warrior_view code.now start)) }
+    {
+        if code.is_empty() {
+            Some(WarriorError::Empty)
+        } else if code.len() > rules.length() as usize {
+            Some(WarriorError::TooLong)
+        } else if start as usize >= code.len() {
+            Some(WarriorError::BadStart)
+        } else if !are_below(code, rules.core()) {
+            Some(WarriorError::NumberTooLarge)
+        } else {
+            None
+        }
     }
 }
 

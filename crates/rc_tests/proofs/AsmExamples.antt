@@ -1,4 +1,4 @@
--- The definitions at concrete texts, computed.
+-- Examples of rc_asm: what concrete texts assemble to, computed by the definitions.
 use Rattle.std.specs.Prelude.{◌≡◌, refl, ℕ, ℤ, pos, List, [], ◌∷◌, ◌++◌, codes, Option, Some, option_map, Result}
 use Rattle.std.specs.Result.{result_ok, result_err}
 use Rattle.rc_text.specs.Reading.{before_operand, after_operand}

@@ -1,4 +1,4 @@
--- The definitions at concrete texts, computed.
+-- Examples of rc_expand: the lines of concrete texts, computed by the definitions.
 use Rattle.std.specs.Prelude.{◌≡◌, refl, ℕ, List, [], ◌∷◌, ◌++◌, map, codes, Option, Some, option_map, Bool, true, false, is_some}
 use Rattle.std.specs.Result.{result_ok}
 use Rattle.rc_text.specs.Reading.{before_operand, after_operand}

@@ -1,4 +1,4 @@
--- The definitions of the assembler at concrete texts, computed.
+-- Examples: the definitions of rc_text, rc_expand and rc_asm at concrete texts, computed.
 pub mod TextExamples
 pub mod ExpandExamples
 pub mod AsmExamples

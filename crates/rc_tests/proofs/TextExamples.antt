@@ -1,4 +1,4 @@
--- The definitions at concrete texts, computed.
+-- Examples of rc_text: tokens and values of concrete texts, computed by the definitions.
 use Rattle.std.specs.Prelude.{◌≡◌, refl, codes, ◌∷◌, [], map, Some, None, Ok, Err, pos, negsuc, ◌++◌}
 use Rattle.rc_text.specs.declared.token.Kind.TheVariants.{Name, Number, Sign as SignOf}
 use Rattle.rc_text.specs.declared.token.Sign.TheVariants.{Comma, LessEqual, Dot}

@@ -1,7 +1,7 @@
 //! What tests of several modules share.
 ghost use Rattle.rc_instr.specs.Warrior.{Fits};
 
-use rc_instr::{Rules, Warrior, write_loadfile};
+use rc_instr::{Rules, RulesError, Warrior, write_loadfile};
 use std::alloc::Global;
 use std::test::Fail;
 
@@ -10,6 +10,11 @@ pub(crate) struct Case {
     pub(crate) name: &'static str,
     pub(crate) text: &'static [u8],
     pub(crate) want: &'static [u8],
+}
+
+// Makes rules of a core of 16 cells, 20 cycles, 4 tasks, length 4 and distance 4.
+pub(crate) fn small_rules() -> Result<Rules, RulesError> {
+    Rules::try_new(16, 20, 4, 4, 4)
 }
 
 // Returns the load file of `warrior`.

@@ -6,6 +6,8 @@
 //! program shows, such as the texts of faults. What a run shows is a case in `gate/cases/`. They
 //! are a crate of their own because a crate with tests is proved twice, once without its tests and
 //! once with them.
+//!
+//! `proofs/` has examples: what the definitions themselves say of concrete texts, computed.
 #![tactic(auto)]
 
 #[cfg(test)]

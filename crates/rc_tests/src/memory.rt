@@ -2,7 +2,7 @@
 //! (gate/refuse/growth.py). They pass all the same, or end with `OutOfMemory`, and with no other
 //! fault. The results are worked out by hand.
 use crate::expansion::lines::lines_of;
-use crate::fixtures::{Case, constant_name, load_of};
+use crate::fixtures::{Case, constant_name, load_of, small_rules};
 use rc_asm::{AsmFault, AsmKind, assemble};
 use rc_expand::Constants;
 use rc_instr::{LoadFault, Rules, WarriorError, read_loadfile, write_loadfile};
@@ -101,7 +101,7 @@ const ASSEMBLIES: [Case; 7] = [
 // Reads `load` and appends it to the text `before`. Fails if out of memory, or if a call that fails
 // changes the text.
 fn appended(alloc: Global, load: &[u8]) -> Result<Vec<u8>, Fail> {
-    let rules = Rules::try_new(16, 20, 4, 4, 4)?;
+    let rules = small_rules()?;
     let warrior = read_loadfile(alloc, load, &rules)?;
     let mut out = b"before\n".to_vec(alloc)?;
     let written = write_loadfile(alloc, &warrior, &rules, &mut out);
@@ -164,7 +164,7 @@ const UNREAD: [Unread; 5] = [
 
 #[test]
 fn read_loadfile_names_the_fault(rt: HostRuntime) -> Result<(), Fail> {
-    let rules = Rules::try_new(16, 20, 4, 4, 4)?;
+    let rules = small_rules()?;
     for case in &UNREAD {
         match read_loadfile(rt.alloc(), case.text, &rules) {
             Ok(_) => assert!(rt; false, "{}: it is read", case.name),

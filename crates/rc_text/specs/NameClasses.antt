@@ -35,7 +35,16 @@ is_reserved name = is_opcode_word name || is_one_of directives name
 
 -- The predefined names, in capitals (pMARS).
 abbrev pub predefined_names : List (List ℕ)
-predefined_names = codes "CORESIZE" ∷ codes "MAXPROCESSES" ∷ codes "MAXCYCLES" ∷ codes "MAXLENGTH" ∷ codes "MINDISTANCE" ∷ codes "WARRIORS" ∷ codes "VERSION" ∷ codes "CURLINE" ∷ []
+predefined_names =
+    codes "CORESIZE"
+    ∷ codes "MAXPROCESSES"
+    ∷ codes "MAXCYCLES"
+    ∷ codes "MAXLENGTH"
+    ∷ codes "MINDISTANCE"
+    ∷ codes "WARRIORS"
+    ∷ codes "VERSION"
+    ∷ codes "CURLINE"
+    ∷ []
 
 -- A name that is one of the predefined names, case included.
 abbrev pub is_predefined : List ℕ → Bool

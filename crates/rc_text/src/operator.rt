@@ -6,6 +6,9 @@ ghost use Rattle.rc_text.specs.Values.{truth_value, prefix_value, infix_value, n
 use crate::fault::EvalFault;
 use crate::token::Sign;
 
+// A value, or the fault in its place.
+pub(crate) type Outcome = Result<i64, EvalFault>;
+
 // Returns the level of an infix operator, from 1 (loosest) to 6 (tightest), or 0 for any other
 // sign.
 pub(crate) fn level_of(sign: Sign) -> u8
@@ -59,9 +62,6 @@ pub(crate) fn infix_outcome(left: Outcome, sign: Sign, right: Outcome) -> Outcom
 {
     infix_value(sign, left?, right?)
 }
-
-// A value, or the fault in its place.
-pub(crate) type Outcome = Result<i64, EvalFault>;
 
 fn truth_value(holds: bool) -> i64
     ensures { result ≡ truth_value holds }

@@ -145,7 +145,7 @@ pub struct Token {
     pub joined: Joined,
 }
 
-/// Returns the bytes of a token's span. What of the span is not in `source` is left out.
+/// Returns the bytes of a token's span. A span that goes beyond `source` is cut off at its end.
 pub fn text_of<'a>(source: &'a [u8], token: &Token) -> &'a [u8]
     ensures { result.now ≡ slice_range source.now token.now.lo token.now.hi }
 {

@@ -19,4 +19,4 @@ text_fault source = option_map (λ fault. at_line (ending_line (1 + (header_of s
 
 -- A lexer in this state, with no token left, ends with this fault.
 abbrev pub IsEnding : LexerView → ExpandFault → Type 0
-IsEnding a f = (fault : LexFault) × (a.ending ≡ Some fault) × (f ≡ at_line a.line (Text fault))
+IsEnding lexer f = (fault : LexFault) × (lexer.ending ≡ Some fault) × (f ≡ at_line lexer.line (Text fault))

@@ -18,6 +18,8 @@ use Rattle.rc_expand.specs.Names.{is_among, is_taken}
 use Rattle.rc_expand.specs.Read.Lines.{label_token}
 use Rattle.rc_expand.specs.Replace.{line_tokens}
 
+-- The word of a line. EQU, FOR and ROF do not come here: the passes have dropped or unrolled these
+-- lines.
 abbrev pub line_word : RawWord → LineWord
 line_word word.Bare = line.Bare
 line_word word.Org = line.Org

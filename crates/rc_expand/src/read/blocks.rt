@@ -5,7 +5,7 @@ ghost use Rattle.rc_expand.specs.Results.{Returns};
 ghost use Rattle.rc_expand.specs.Read.Tree.{NoLine, OneLine, Block, blocks_of, tree_of, distances, HaveDistances};
 
 use crate::fault::{ExpandFault, ExpandKind, at_line};
-use crate::limits::DEEPEST_BLOCK;
+use crate::limits;
 use crate::read::raw_line::{RawLine, RawWord};
 use std::alloc::Global;
 use std::collections::VecDeque;
@@ -103,7 +103,7 @@ fn check_blocks(alloc: Global, lines: &[RawLine]) -> Result<Vec<usize>, ExpandFa
         let raw = &lines[i];
         match raw.word {
             RawWord::For => {
-                if open.len() == DEEPEST_BLOCK {
+                if open.len() == limits::DEEPEST_BLOCK {
                     return Err(at_line(raw.number, ExpandKind::ForTooDeep));
                 }
                 if open.is_empty() {

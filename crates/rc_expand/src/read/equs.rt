@@ -84,7 +84,7 @@ fn add_equ(
     Ok(())
 }
 
-// Reads an EQU line. Its name must not be taken already.
+// Reads an EQU line. Its name must not be defined already.
 fn read_equ(
     alloc: Global,
     source: &[u8],

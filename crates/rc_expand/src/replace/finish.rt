@@ -158,7 +158,8 @@ fn exempt_len_of_code(source: &[u8], tokens: &[Token]) -> usize
     }
 }
 
-// Converts the word of a line. Anything that is left and not a directive is code.
+// Converts the word of a line. EQU, FOR and ROF do not come here: the passes have dropped or
+// unrolled these lines.
 fn line_word(word: RawWord) -> LineWord
     ensures { result ≡ line_word word }
 {

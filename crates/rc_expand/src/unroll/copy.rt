@@ -4,7 +4,7 @@ ghost use Rattle.rc_expand.specs.Read.Lines.{is_name_token, is_ampersand};
 ghost use Rattle.rc_expand.specs.Unroll.Copies.{is_counter, with_number, joins, copied_tokens, BeginsCopy, copied_code, copied_rest, copied_line, all_of};
 ghost use Rattle.rc_expand.specs.Unroll.Numberings.{seen_numbering};
 
-use crate::limits::MOST_JOINED;
+use crate::limits;
 use crate::line::Tokens;
 use crate::names::spells;
 use crate::read::raw_line::{Labels, RawLine, RawWord, clone_directive};
@@ -127,7 +127,7 @@ impl<'a> Numbering<'a> {
         let mut made = false;
         let mut after = at + 1;
         while after < tokens.len() && self.joins(&name, tokens, after) {
-            if name.joined.len() >= MOST_JOINED {
+            if name.joined.len() >= limits::MOST_JOINED {
                 return Ok(None);
             }
             name.joined.push(self.number);

@@ -9,7 +9,7 @@ ghost use Rattle.rc_expand.specs.Unroll.Openings.{is_plain_number, is_enclosing_
 use crate::context::Context;
 use crate::equ_tokens::replace_tokens;
 use crate::fault::{ExpandFault, ExpandKind, at_line};
-use crate::limits::MOST_COPIES;
+use crate::limits;
 use crate::line::Tokens;
 use crate::names::is_taken;
 use crate::read::equs::equ_line;
@@ -149,7 +149,7 @@ fn limited_count(value: i64) -> Option<u16>
     if value < 0 {
         return Some(0);
     }
-    if value <= MOST_COPIES {
+    if value <= limits::MOST_COPIES {
         Some(value as u16)
     } else {
         None

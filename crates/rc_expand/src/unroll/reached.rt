@@ -8,7 +8,7 @@ ghost use Rattle.rc_expand.specs.Unroll.Reached.{copies_in, have_no_counter, rea
 ghost use Rattle.std.specs.List.{list_all};
 
 use crate::context::Context;
-use crate::limits::MOST_JOINED;
+use crate::limits;
 use crate::line::Tokens;
 use crate::read::raw_line::{RawLine, clone_raw_line};
 use crate::tokens::is_unjoined;
@@ -205,7 +205,7 @@ fn are_short(labels: &[Tokens]) -> bool
 
 // The most tokens among which no ninth counter can be joined to a name: each that is joined takes
 // two tokens away, itself and its `&`.
-const MOST_SHORT: usize = 2 * (MOST_JOINED + 1);
+const MOST_SHORT: usize = 2 * (limits::MOST_JOINED + 1);
 
 fn is_short(tokens: &[Token]) -> bool
     ensures { result ≡ is_short tokens.now }

@@ -4,7 +4,7 @@ ghost use Rattle.rc_expand.specs.Results.{Returns};
 ghost use Rattle.rc_expand.specs.Unroll.{nothing_unrolled, with_line, with_copy};
 
 use crate::fault::{ExpandFault, ExpandKind, at_line};
-use crate::limits::MOST_LINES;
+use crate::limits;
 use crate::read::blocks::BlockSlice;
 use crate::unroll::reached::Reached;
 use std::alloc::Global;
@@ -44,7 +44,7 @@ impl<'a> UnrolledSoFar<'a> {
     pub(crate) fn push(&mut self, line: Reached<'a>) -> Result<(), ExpandFault>
         ensures { Returns (λ u. self.new) result (with_line line.entry self.old) }
     {
-        if self.lines.len() + self.copy_count >= MOST_LINES {
+        if self.lines.len() + self.copy_count >= limits::MOST_LINES {
             return Err(at_line(line.number(), ExpandKind::TooManyLines));
         }
         self.lines.push(line)?;
@@ -55,7 +55,7 @@ impl<'a> UnrolledSoFar<'a> {
     pub(crate) fn add_copy(&mut self, line: u64) -> Result<(), ExpandFault>
         ensures { Returns (λ u. self.new) result (with_copy line self.old) }
     {
-        if self.lines.len() + self.copy_count >= MOST_LINES {
+        if self.lines.len() + self.copy_count >= limits::MOST_LINES {
             return Err(at_line(line, ExpandKind::TooManyLines));
         }
         self.copy_count += 1;

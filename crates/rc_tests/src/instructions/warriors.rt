@@ -1,4 +1,5 @@
 //! Warriors that are made, refused, and compared with other rules.
+use crate::fixtures::small_rules;
 use rc_instr::{Instruction, Refused, Rules, Warrior, WarriorError};
 use std::alloc::{AllocError, Global};
 use std::process::Abort;
@@ -20,7 +21,7 @@ fn cells(alloc: Global, length: u32, numbers: (u16, u16)) -> Result<Vec<Instruct
 // Makes a warrior of `cells(length, numbers)` by rules with a core of 16 cells and length 4, and
 // returns the refusal.
 fn refused(alloc: Global, length: u32, start: u32, numbers: (u16, u16)) -> Result<Refused, Fail> {
-    let rules = Rules::try_new(16, 20, 4, 4, 4)?;
+    let rules = small_rules()?;
     match Warrior::try_new(cells(alloc, length, numbers)?, start, &rules) {
         Ok(_) => Err(Fail::from("a warrior was made")),
         Err(refused) => Ok(refused),
@@ -100,7 +101,7 @@ fn the_first_fault_is_reported_and_the_code_handed_back(rt: HostRuntime) -> Resu
 
 #[test]
 fn a_warrior_keeps_its_code_and_its_start(rt: HostRuntime) -> Result<(), Fail> {
-    let rules = Rules::try_new(16, 20, 4, 4, 4)?;
+    let rules = small_rules()?;
     let warrior = Warrior::try_new(cells(rt.alloc(), 4, (15, 8))?, 3, &rules)?;
     let given = cells(rt.alloc(), 4, (15, 8))?;
     assert_eq!(rt; warrior.code(), given.as_slice());
@@ -155,7 +156,7 @@ fn expect_fits<A: Abort>(rt: &A, warrior: &Warrior) -> Result<(), Fail> {
 
 #[test]
 fn a_warrior_fits_rules_of_its_length_and_numbers(rt: HostRuntime) -> Result<(), Fail> {
-    let own = Rules::try_new(16, 20, 4, 4, 4)?;
+    let own = small_rules()?;
     for &numbers in &[(15, 0), (0, 15)] {
         let warrior = Warrior::try_new(cells(rt.alloc(), 4, numbers)?, 0, &own)?;
         expect_fits(&rt, &warrior)?;
