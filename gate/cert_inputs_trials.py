@@ -26,7 +26,8 @@ REPORT = report(4, 4, 0, "K=0", "4 of 6", "2 of 8")
 OLD = "cwtune inputs 1\nof an older certificate\n"
 HOLDS = ("  a certificate holds only for its own template, schedule, opponents in order, rules and "
          "part\n")
-SAME = "  all of these are the tuning's, so {}the certificate itself is wrong\n"
+SAME = ("  all of these are the tuning's, so its --keep or --floor was another, or the certificate "
+        "itself is wrong\n")
 KIND = "error: CERT.inputs is a text of another kind, and is not overwritten: CERT.inputs\n"
 NAMED = "error: CERT.inputs is also a file of this command, and is not overwritten: CERT.inputs\n"
 
@@ -142,7 +143,7 @@ def checks(place):
 
 def rejections(place):
     """Checks certificates that are not of the tuning, or show too little, at a terminal."""
-    unknown = HOLDS + "  CERT.inputs {}, so it is not known which of these differs\n"
+    unknown = HOLDS + "  CERT.inputs {}, so it is not known whether one of these differs\n"
     place.run(TUNE, keep=True)
     text, said = place.read("CERT"), place.read("CERT.inputs") or b""
     wrong = text.replace(b"0:3", b"0:1")
@@ -152,15 +153,16 @@ def rejections(place):
                   place.at_terminal(check))
     digests = [cert_inputs.digest_of(cert).encode() for cert in (text, wrong)]
     place.write("CERT.inputs", said.replace(*digests))
-    yield compare("a wrong certificate with its digest", HOLDS + SAME.format(""),
-                  place.at_terminal(check))
+    yield compare("a wrong certificate with its digest", HOLDS + SAME, place.at_terminal(check))
     place.remove_inputs()
     yield compare("without CERT.inputs", unknown.format("cannot be read"), place.at_terminal(check))
     tail = [*RULES, "tail.red", *TUNE[-4:]]
     place.run(["tune", *tail], keep=True)
     yield compare("a ranking that the tuning did not find",
-                  HOLDS + SAME.format("its --keep or --floor was another, or "),
-                  place.at_terminal(["check", "--keep=3", *tail]))
+                  HOLDS + SAME, place.at_terminal(["check", "--keep=3", *tail]))
+    place.run(["tune", "--floor=5", *TUNE[1:]], keep=True)
+    yield compare("a floor that no setting reaches, and that the check does not name",
+                  HOLDS + SAME, place.at_terminal(check))
 
 
 def main():

@@ -32,7 +32,7 @@ PROGRESS = rb"\r\x1b\[\?7l([^\r\n]*)\x1b\[K\x1b\[\?7h"
 AT_TERMINAL = f"\r\x1b[?7l{BEGUN}\x1b[K\x1b[?7h\r\x1b[K"
 LINE = (rb"\d+% \d+ of 800000 settings, [1-9]\d* fights, \d+ a second, best \d+ total \d"
         rb"( \w+=-?\d+)+, START \d, \d+ (s|min|h) left")
-# Of a part without the start setting.
+# Of a part without START.
 PART_LINE = LINE.replace(b"800000", b"400000").replace(rb", START \d", b"")
 MEANWHILE = rb"0% 0 of 1 settings, [1-9]\d* fights, \d+ a second"
 STEADY = (rb"(\d+)% (\d+) of 40 settings, (\d+) fights, (\d+) a second, best 0 total \d+ "
@@ -163,10 +163,12 @@ def invitations(place):
     with open_terminal() as (screen, program_end):
         other = place.run(["asm", "imp.red"], terminal=True, stdin=program_end)
         yield "a terminal that is not read", end(0, "ORG 0\nMOV.I $0, $1\n"), other
-        screen.write(b"\x04")
-        actual = place.run([], terminal=True, stdin=program_end)
-    said = "reading a fight text, which Ctrl-D ends; `cwtune --help` lists the commands\n"
-    yield "a fight text from a terminal", end(1, err=f"{said}refused: FightText line 1\n"), actual
+        said = "reading a fight text, which Ctrl-D ends; `cwtune --help` lists the commands\n"
+        expected = end(1, err=f"{said}refused: FightText line 1\n")
+        for words in [], ["fight"], ["fight", "--explain"]:
+            screen.write(b"\x04")
+            actual = place.run(words, terminal=True, stdin=program_end)
+            yield f"a fight text from a terminal, by {words}", expected, actual
 
 
 def main():

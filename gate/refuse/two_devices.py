@@ -13,7 +13,7 @@ from ..lib.tally import compare, tally
 from .runs import FILES, TUNINGS, library_of, run, with_rules
 
 WORDS, TUNED = TUNINGS[0]
-NAMED = "error: CERT is another word's file, too, and is not overwritten: CERT\n"
+NAMED = "error: CERT is also another file of this command, and is not overwritten: CERT\n"
 
 
 def trials(program):

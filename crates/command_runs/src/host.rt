@@ -48,7 +48,7 @@ impl<F: Files, T: Witness, V: Write> Host<'_, F, T, V> {
         }
     }
 
-    // Stops at the first file that cannot be read, so that this one is named.
+    // Reads the files in order, and names the first that cannot be read.
     pub(crate) fn read_all(&mut self, names: &[&str]) -> Result<Vec<Vec<u8>>, Ending>
         ensures { IfErr result (λ e. e ≡ Ending.Failed) }
     {

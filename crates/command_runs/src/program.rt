@@ -21,7 +21,7 @@ use std::io::{Read, Write};
 use std::rt::Files;
 use tune_runs::RunFault;
 
-const LETTERS_BEHIND: &str =
+const LETTERS_AFTER: &str =
     "error: no letters can follow `-h` or `-V`\n\nFor more information, try '--help'.\n";
 
 /// Runs the command that `words` ask for, and returns the exit status: 0 success or accepted, 1
@@ -145,7 +145,7 @@ fn show<F: Files, W: Write, V: Write, T: Witness>(
     }
     // `clap` takes `-hx` for `-h`.
     if !mentions_help(words) {
-        tell(host.err, &[LETTERS_BEHIND]);
+        tell(host.err, &[LETTERS_AFTER]);
         return Err(Ending::Misused);
     }
     match out.write_all(text.as_bytes()) {

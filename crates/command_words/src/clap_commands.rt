@@ -69,13 +69,10 @@ pub(crate) fn duel_command<'a>(alloc: Global) -> Result<Command<'a>, AllocError>
 }
 
 pub(crate) fn asm_command<'a>(alloc: Global) -> Result<Command<'a>, AllocError> {
-    let file = Arg::new(alloc, "FILE")
-        .required(true)
-        .action(ArgAction::Set)
-        .help("Redcode source of a warrior, at most 65536 bytes (`-` is a file of that name)");
+    let help = "Redcode source of a warrior, at most 65536 bytes (`-` is a file of that name)";
     let command = Command::new(alloc, "asm")
         .about("Assemble a Redcode file and print the load file of its warrior")
-        .arg(file)?
+        .arg(file_arg(alloc, "FILE", help))?
         .arg(setting_option(alloc))?
         .arg(explain_option(alloc))?;
     with_rules(alloc, command)

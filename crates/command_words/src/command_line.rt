@@ -72,9 +72,13 @@ pub enum Request<'a> {
     },
 }
 
-/// Returns what the words after the program's name ask for, or `clap`'s answer: its help, or a
-/// usage error. The shortest words for a fight are recognised without `clap`, so that they take no
-/// memory.
+/// Returns what the words after the program's name ask for. The shortest words for a fight are
+/// recognised without `clap`, so that they take no memory.
+///
+/// # Errors
+///
+/// The help or the version as text for standard output, a usage error for standard error, or the
+/// kind `OutOfMemory` if memory ran out.
 pub fn request_of<'a>(alloc: Global, words: &'a [String]) -> Result<Request<'a>, Error>
     ensures fight { AsksForFight (map string_bytes words.entry.now) → result ≡ Ok Request.Fight }
     ensures named { IfOk result (λ r. command_of (map string_bytes words.entry.now) ≡ command_word r) }

@@ -22,7 +22,7 @@ fn begins_with_help(words: &[String]) -> bool
 }
 
 // Returns whether an option asks for help or, if `version` is true, for the version. Words after
-// `--` are files, and the value of an option of `command` is no option.
+// `--` are files, and the value of an option of `command` is not an option.
 pub(crate) fn has_help_option(words: &[String], command: &str, version: bool) -> bool
     ensures { result ≡ has_help_option version command.now false (map string_bytes words.now) }
 {

@@ -17,7 +17,7 @@ pub(crate) fn hill_option<'a>(alloc: Global) -> Arg<'a> {
         .value_name("HILL")
         .action(ArgAction::Set)
         .value_parser(ValueParser::Names(&NAMES))
-        .help("Hill whose rules are the defaults of the other options [default: 94nop]")
+        .help("Hill whose rules are the defaults of the five options below [default: 94nop]")
 }
 
 // Returns the rules of a hill, which `clap` keeps to `NAMES`, or the standard rules without one.

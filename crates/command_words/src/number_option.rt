@@ -53,8 +53,8 @@ pub(crate) const DISTANCE: NumberOption = NumberOption {
 
 pub(crate) const POSITION: NumberOption = NumberOption {
     name: "position",
-    help: "Where the opponent is loaded [default: half of the core]",
-    why: "a number is wanted, from the distance to the core size less it",
+    help: "Address of the opponent, from the distance to the core size less the distance [default: half of the core]",
+    why: "a number from the distance to the core size less the distance is wanted",
 };
 
 pub(crate) const TUNE_FLOOR: NumberOption = NumberOption {

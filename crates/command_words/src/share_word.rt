@@ -18,7 +18,7 @@ pub(crate) fn share_option<'a>(alloc: Global) -> Arg<'a> {
         .value_name("I/K")
         .action(ArgAction::Set)
         .help(
-            "Check share I of K of the settings only, after reading all of CERT; a certificate is valid if all K shares of it are accepted",
+            "Check share I of K of the settings only, after reading all of CERT, and print `accepted share I/K ..`; a certificate is valid if all K shares of it are accepted",
         )
 }
 

@@ -64,12 +64,20 @@ fn run<R: Read, W: Write, V: Write>(
 
 // Says at a terminal that a fight text is read: else the program would seem to hang.
 fn invite(rt: &HostRuntime, words: &[String], at_terminal: bool) {
-    if at_terminal && rt.stdin().is_terminal() && asks_for_fight(words) {
+    if at_terminal && rt.stdin().is_terminal() && takes_fight_text(words) {
         let mut err = Outlet::new(rt.stderr());
         tell(
             &mut err,
             &["reading a fight text, which Ctrl-D ends; `cwtune --help` lists the commands\n"],
         );
+    }
+}
+
+// Returns whether the fight text comes from standard input: `--explain` may follow `fight`.
+fn takes_fight_text(words: &[String]) -> bool {
+    match words {
+        [command, option] => command.as_str() == "fight" && option.as_str() == "--explain",
+        _ => asks_for_fight(words),
     }
 }
 

@@ -176,13 +176,14 @@ pub record Spells (records : List Fields) (c : Cert) : Type 0 where
   pub cert : IsCert c
   pub text : records ≡ cert_fields c
 
--- The form of each record.
+-- The form of each record of a certificate that names a best setting.
 abbrev pub HasForm : (index : ℕ) → Fields → Type 0
 HasForm zero fields = (version : ℕ) × (count : ℕ) × IsVersion version × FitsU32 count × (fields ≡ count_fields version count)
 HasForm (suc zero) fields = (best : ℕ) × (total : ℕ) × FitsU32 best × FitsU32 total × (fields ≡ best_fields best total)
 HasForm (suc (suc v)) fields = (row : Row) × FitsU32 v × IsRow row × (fields ≡ row_fields v row)
 
--- A record is malformed if it has another form, or if it is missing and is one of the first two.
+-- A record of such a certificate is malformed if it has another form, or if it is missing and is
+-- one of the first two.
 abbrev pub IsMalformed : (records : List Fields) → (index : ℕ) → Type 0
 IsMalformed records index =
     ((index < 2) × (length records ≤ index)) ⊎ ((fields : Fields) × (slice_get records index ≡ Some fields) × ¬ (HasForm index fields))

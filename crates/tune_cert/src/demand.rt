@@ -9,8 +9,8 @@ use tune_problem::{Aim, Answer};
 #[derive(Clone, Copy, Debug, PartialEq, Eq)]
 pub struct Demand {
     /// The rows have to show this many settings, from the first of the ranking on. With `floor`,
-    /// only settings that total it or more are ranked. The number is not checked: that the ranking
-    /// is that of all settings, the laws say for 1 to 1000.
+    /// only settings that total it or more are ranked. It is not checked. If it is 1 to 1000, the
+    /// ranking is that of all settings, by the laws.
     pub keep: Option<u32>,
     /// The floor that a certificate may say no setting reaches. Without `floor`, a certificate has
     /// to name a best setting.

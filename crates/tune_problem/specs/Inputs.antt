@@ -40,7 +40,7 @@ settings_of i = part_of i.part (vectors_of i.template.ranges.spans)
 abbrev pub index_among : (first count v : ℕ) → ℕ
 index_among first count v = if nat_le first v && nat_lt v (first + count) then v - first else 0
 
--- The index of the start setting, if it is one of the part's; else the first.
+-- The index of the start setting: of START if the part has it, else 0, the part's first.
 unfoldable pub part_start : InputsView → ℕ
 part_start i =
     index_among (part_first i.part (setting_count i.template)) (length (settings_of i)) (start_index i.template.ranges.spans)

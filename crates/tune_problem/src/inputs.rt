@@ -122,7 +122,7 @@ impl Inputs {
         self.part.end(whole) - self.part.first(whole)
     }
 
-    /// Returns the index of the setting of the start values, or 0 if it is not in the part.
+    /// Returns the index of the start setting: of START, or 0 if the part does not have START.
     #[tactic(auto, using(crate::proofs::PartSteps::start_placed))]
     pub fn start_number(&self) -> u32
         ensures index { result ≡ part_start self.now }

@@ -1,8 +1,8 @@
 //! What a tuning starts from and what it asks: the optimum, and valid certificates of it.
 //!
 //! The optimum is the first setting with the greatest total. A certificate has a row for each
-//! setting, which shows why that setting is not better. Both the search and the checker stand on
-//! this crate, and neither knows the other. In this API a setting is called a vector.
+//! setting, which shows why that setting is not better. Both the search and the checker use this
+//! crate, and neither uses the other. In this API a setting is called a vector.
 #![tactic(auto)]
 
 mod aim;

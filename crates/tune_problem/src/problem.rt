@@ -122,7 +122,7 @@ pub fn part_size(inputs: &Inputs) -> u32
     inputs.count()
 }
 
-/// Returns the index of the start setting, or 0 if the part does not have it:
+/// Returns the index of the start setting: of START, or 0 if the part does not have START. It is
 /// `Inputs::start_number`.
 pub fn start_setting(inputs: &Inputs) -> u32
     ensures start { result ≡ (problem_of inputs.now).start }

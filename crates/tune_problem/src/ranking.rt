@@ -92,7 +92,8 @@ fn beats_lead(cap: u32, vector: u32, lead: Option<Best>) -> bool
     }
 }
 
-// Returns the place of a setting in a ranking: that of the first setting that it beats.
+// Returns the index at which a setting goes into a ranking: that of the first setting that it
+// beats, or the end if it beats none.
 fn place_of(best: Best, ranking: &[Best]) -> usize
     ensures within { result ≤ length ranking.now }
     ensures place { ranked best ranking.now ≡ take result ranking.now ++ best ∷ drop result ranking.now }

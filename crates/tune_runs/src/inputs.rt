@@ -54,7 +54,7 @@ pub fn template_of(alloc: Global, text: &[u8]) -> Result<Template, RunFault>
     Ok(Template::read(alloc, text)?)
 }
 
-// Assembles one opponent. `index` is its place among all, for the fault.
+// Assembles the opponent at `index`.
 pub(crate) fn opponent_of(
     alloc: Global,
     text: &[u8],

@@ -5,7 +5,7 @@ ghost use Rattle.tune_search.specs.Order.{drops};
 
 use tune_problem::{Aim, Best, contends};
 
-/// How a search goes. Both methods find the same setting, with the same total.
+/// How a search goes. Both methods find the same settings, with the same totals.
 #[derive(Clone, Copy, Debug, PartialEq, Eq)]
 pub enum Method {
     /// Drops a setting once it cannot be one of those that are asked for, and remembers up to

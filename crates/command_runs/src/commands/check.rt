@@ -61,7 +61,7 @@ fn check_texts<F: Files, T: Witness, W: Write, V: Write>(
     match check_for_run(host.alloc, texts, demand, share, host.witness, cert, out) {
         Ok(true) => Ok(()),
         Ok(false) => {
-            reject(host, words, texts, demand, cert);
+            reject(host, words, texts, cert);
             Err(Ending::Refused)
         }
         Err(fault) => Err(host.refuse_tuning(words, texts, fault)),

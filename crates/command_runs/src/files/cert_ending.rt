@@ -15,7 +15,6 @@ use command_words::TuneWords;
 use rc_instr::Outlet;
 use std::io::Write;
 use std::rt::Files;
-use tune_cert::Demand;
 use tune_runs::{Method, TuneTexts};
 
 // Says why the file CERT is not opened.
@@ -43,7 +42,7 @@ fn end_barred<F: Files, T: Witness, V: Write>(
 {
     let line = match (barred, written) {
         (Barred::Unread { name, error }, _) => return host.fail("read", *name, error),
-        (Barred::Named, Written::Cert) => "CERT is another word's file, too, and",
+        (Barred::Named, Written::Cert) => "CERT is also another file of this command, and",
         (Barred::OtherText, Written::Cert) => "CERT is a text but not a certificate, and",
         (Barred::Named, Written::Inputs) => "CERT.inputs is also a file of this command, and",
         (Barred::OtherText, Written::Inputs) => "CERT.inputs is a text of another kind, and",
@@ -134,13 +133,12 @@ pub(crate) fn reject<F: Files, T: Witness, V: Write>(
     host: &mut Host<'_, F, T, V>,
     words: &TuneWords<'_>,
     texts: &TuneTexts<'_>,
-    demand: Demand,
     cert: &[u8],
 ) {
     if !host.witness.explains() {
         return;
     }
-    if let Ok(lines) = differences(host.rt, host.alloc, words, texts, demand, cert) {
+    if let Ok(lines) = differences(host.rt, host.alloc, words, texts, cert) {
         host.witness.after_rejection(lines.as_slice());
     }
 }

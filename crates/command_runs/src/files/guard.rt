@@ -35,7 +35,7 @@ pub(crate) enum Barred<'a> {
     Unread { name: &'a str, error: io::Error },
 }
 
-// Checks that a file is no other word's, and that it is empty or begins as its kind does. A file
+// Checks that no other word names the file, and that it is empty or begins as its kind does. A file
 // that is not there or not regular, such as a terminal, has no text to lose.
 pub(crate) fn check_old<'a, F: Files>(
     rt: &F,
@@ -84,7 +84,7 @@ fn is_other_file<'a, F: Files>(
     Ok(false)
 }
 
-// A name that no file has is no name of the found one: CERT need not be there yet.
+// Returns whether `name` leads to the found file. It need not exist: CERT may not be there yet.
 fn is_name_of<'a, F: Files>(rt: &F, name: &'a str, found: &Metadata) -> Result<bool, Barred<'a>> {
     match is_file_at(rt, name, found) {
         Ok(is_same) => Ok(is_same),

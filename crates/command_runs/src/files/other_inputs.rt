@@ -7,8 +7,13 @@ use command_words::TuneWords;
 use std::alloc::{AllocError, Global};
 use std::rt::Files;
 use std::str;
-use tune_cert::Demand;
 use tune_runs::TuneTexts;
+
+// The line for the case that no input differs. CERT.inputs does not have the `--keep` and the
+// `--floor` of the tuning, and a certificate without a best setting is rejected without `--floor`.
+const ALL_THE_SAME: &str =
+    "all of these are the tuning's, so its --keep or --floor was another, or the certificate \
+        itself is wrong";
 
 // Returns a line for each input that differs from the tuning's. If none differs, or that is not
 // known, one line says so.
@@ -17,7 +22,6 @@ pub(crate) fn differences<F: Files>(
     alloc: Global,
     words: &TuneWords<'_>,
     texts: &TuneTexts<'_>,
-    demand: Demand,
     cert: &[u8],
 ) -> Result<Vec<String>, AllocError> {
     let name = name_beside(alloc, words.cert)?;
@@ -25,7 +29,6 @@ pub(crate) fn differences<F: Files>(
         alloc,
         words,
         texts,
-        demand,
         lines: Vec::new(alloc),
         compared: 0,
     };
@@ -42,7 +45,6 @@ struct Comparison<'a> {
     alloc: Global,
     words: &'a TuneWords<'a>,
     texts: &'a TuneTexts<'a>,
-    demand: Demand,
     lines: Vec<String>,
     // How many opponents of the tuning were compared so far.
     compared: usize,
@@ -74,7 +76,7 @@ impl Comparison<'_> {
 
     fn add_unknown(&mut self, name: &str, why: &str) -> Result<(), AllocError> {
         let line = format!(in self.alloc;
-            "{name} {why}, so it is not known which of these differs"
+            "{name} {why}, so it is not known whether one of these differs"
         )?;
         self.add(line)
     }
@@ -147,20 +149,9 @@ impl Comparison<'_> {
             self.add(line)?;
         }
         if self.lines.is_empty() {
-            let line = String::from_str(self.alloc, all_the_same(self.demand))?;
+            let line = String::from_str(self.alloc, ALL_THE_SAME)?;
             self.add(line)?;
         }
         Ok(())
-    }
-}
-
-// Returns the line for the case that no input differs. With a demand the certificate may be right,
-// and show less than is demanded.
-fn all_the_same(demand: Demand) -> &'static str {
-    if demand == Demand::none() {
-        "all of these are the tuning's, so the certificate itself is wrong"
-    } else {
-        "all of these are the tuning's, so its --keep or --floor was another, or the certificate \
-            itself is wrong"
     }
 }

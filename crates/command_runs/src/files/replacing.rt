@@ -54,7 +54,7 @@ pub(crate) fn replacement_at<R: Files + Copy>(
 
 impl<R: Files> Replacement<R> {
     // Writes a piece of the text to the unfinished file, which the first piece makes. If that
-    // fails, removes it, and must not be called again: it would begin a new file.
+    // fails, removes the file; a further call would begin a new one, so there must be none.
     pub(crate) fn write(&mut self, piece: &[u8]) -> io::Result<()> {
         let mut file = match self.file.take() {
             Some(file) => file,
@@ -107,7 +107,7 @@ fn beyond_links<F: Files>(rt: &F, alloc: Global, name: &str) -> io::Result<PathB
 fn follow<F: Files>(rt: &F, alloc: Global, path: &mut PathBuf) -> io::Result<bool> {
     let link = match rt.read_link(alloc, path.as_str()) {
         Ok(link) => link,
-        Err(error) if is_no_link(error.kind()) => return Ok(false),
+        Err(error) if is_not_a_link(error.kind()) => return Ok(false),
         Err(error) => return Err(error),
     };
     path.pop();
@@ -116,7 +116,7 @@ fn follow<F: Files>(rt: &F, alloc: Global, path: &mut PathBuf) -> io::Result<boo
 }
 
 // Checks whether reading a link failed because the name is not a link, or no file has it.
-fn is_no_link(kind: io::ErrorKind) -> bool {
+fn is_not_a_link(kind: io::ErrorKind) -> bool {
     kind == io::ErrorKind::InvalidInput || kind == io::ErrorKind::NotFound
 }
 

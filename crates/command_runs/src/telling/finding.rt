@@ -19,7 +19,7 @@ pub struct Finding {
     // floor. In a check only if the certificate names START as the best.
     start_total: Option<u32>,
     start_index: u32,
-    // Whether the part has the start setting of the template.
+    // Whether the part has START.
     has_start: bool,
     // A template of its own, since the inputs are gone when a setting is printed.
     template: Option<Template>,
@@ -67,7 +67,7 @@ impl Finding {
         }
     }
 
-    // Writes the line of the best setting, at the margin, if there is one.
+    // Writes the line `found: ..` of the best setting, if there is one. It is not indented.
     pub(crate) fn tell_found<V: Write>(&self, err: &mut Outlet<V>) {
         if self.best.is_some() {
             tell(err, &["found: "]);
@@ -76,8 +76,8 @@ impl Finding {
         }
     }
 
-    /// Writes the best setting with its total and its values, and the total of the start setting.
-    /// Writes nothing if no setting was found.
+    /// Writes the best setting with its total and its values, and the total of START, once that has
+    /// played. Writes nothing if no setting was found.
     pub fn tell_progress<V: Write>(&self, err: &mut Outlet<V>)
         ensures { self.now.best ≡ None → err.new ≡ err.old }
     {

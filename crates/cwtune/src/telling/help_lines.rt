@@ -1,13 +1,13 @@
 //! Lines `help: ..` after the reason of a refusal: what to write in place of what is refused here.
 
-use crate::telling::line::{Line, bad_byte, line_of};
+use crate::telling::line::{Line, bad_byte, before_signs, line_of};
 use crate::telling::names_in::{Meaning, definition_of, like_name, range_of, unknown_name};
 use crate::telling::{tell_name, tell_number};
 use command_runs::{tell, tell_bytes};
 use rc_asm::AsmKind;
 use rc_expand::ExpandKind;
 use rc_instr::{Outlet, WarriorError};
-use rc_text::{EvalFault, LexFault};
+use rc_text::{EvalFault, LexFault, is_reserved_name};
 use std::alloc::Global;
 use std::io::Write;
 
@@ -35,7 +35,8 @@ pub(crate) fn tell_help<V: Write>(
     }
 }
 
-// Returns whether pMARS may take a text with this fault, so that `cwtune-adapt` helps.
+// Returns whether pMARS may take a text with this fault, so that `cwtune-adapt` helps. A duplicate
+// label gets help only if it is an opcode of P-space, for which there is no other way.
 fn is_of_pmars(kind: AsmKind) -> bool {
     match kind {
         AsmKind::Expand(ExpandKind::Text(fault)) => fault == LexFault::NumberTooLarge,
@@ -50,7 +51,7 @@ fn help_of(kind: AsmKind, line: &Line<'_>) -> Option<&'static str> {
     match kind {
         AsmKind::Expand(kind) => help_of_expansion(kind, line),
         AsmKind::Value(fault) => help_of_value(fault, line),
-        AsmKind::UnknownOpcode if uses_p_space(line) => Some(NO_P_SPACE),
+        AsmKind::UnknownOpcode => p_space_help(line),
         AsmKind::MissingOperand if line.has(b"org") => Some("write `ORG 0`"),
         AsmKind::Warrior(WarriorError::BadStart) => Some("`ORG 0` starts at the first instruction"),
         AsmKind::Warrior(WarriorError::Empty) => Some("`DAT 0` is the shortest warrior"),
@@ -58,10 +59,18 @@ fn help_of(kind: AsmKind, line: &Line<'_>) -> Option<&'static str> {
     }
 }
 
-const NO_P_SPACE: &str = "LDP, STP and PIN have no equivalent: there is no P-space";
+const NO_P_SPACE: &str = "LDP and STP have no equivalent: there is no P-space";
 
-fn uses_p_space(line: &Line<'_>) -> bool {
-    line.has(b"ldp") || line.has(b"stp") || line.has(b"pin")
+const NO_PIN: &str = "take the line out: without LDP and STP, PIN does nothing";
+
+fn p_space_help(line: &Line<'_>) -> Option<&'static str> {
+    if line.has(b"ldp") || line.has(b"stp") {
+        Some(NO_P_SPACE)
+    } else if line.has(b"pin") {
+        Some(NO_PIN)
+    } else {
+        None
+    }
 }
 
 fn help_of_expansion(kind: ExpandKind, line: &Line<'_>) -> Option<&'static str> {
@@ -72,7 +81,7 @@ fn help_of_expansion(kind: ExpandKind, line: &Line<'_>) -> Option<&'static str> 
         ExpandKind::ForTooDeep => Some(
             "write the lines of the innermost block out, as often as its count says",
         ),
-        ExpandKind::DuplicateName if uses_p_space(line) => Some(NO_P_SPACE),
+        ExpandKind::DuplicateName => p_space_help(line),
         ExpandKind::Text(LexFault::NumberTooLarge) => Some("write the number modulo the core size"),
         _ => None,
     }
@@ -95,7 +104,9 @@ fn help_of_count(line: &Line<'_>) -> Option<&'static str> {
     if line.has(b"CURLINE") {
         Some("CURLINE has no value in a count: write the number of instructions before it")
     } else if line.has_name_after(b"for") {
-        Some("a count uses numbers, EQU names, constants and counters of outer blocks")
+        Some(
+            "a count is at most 4096, of numbers, EQU names, constants and counters of outer blocks",
+        )
     } else {
         None
     }
@@ -107,7 +118,7 @@ fn help_of_value(fault: EvalFault, line: &Line<'_>) -> Option<&'static str> {
         EvalFault::Syntax if line.begins_with(b"assert") => {
             Some("`; assert`, with a space, is a comment")
         }
-        EvalFault::Syntax if line.code.contains(&b'&') => {
+        EvalFault::Syntax if line.has_join() => {
             Some("join the counter of the outer block first, as in `x&i&j`")
         }
         EvalFault::Syntax if line.has_bare_mode() => Some("a mode needs a number, as in `#0`"),
@@ -154,9 +165,12 @@ fn tell_byte<V: Write>(err: &mut Outlet<V>, line: &[u8]) {
     }
 }
 
-// Writes which name of a line is also the constant of a range line.
+// Writes which name that a line defines is also the constant of a range line.
 fn tell_duplicate<V: Write>(err: &mut Outlet<V>, alloc: Global, text: &[u8], line: &[u8]) {
-    for word in line_of(alloc, line).words.as_slice() {
+    for word in line_of(alloc, before_signs(line)).words.as_slice() {
+        if is_reserved_name(*word) {
+            return;
+        }
         if let Some(number) = range_of(text, *word) {
             tell(err, &["  help: "]);
             tell_name(err, *word);

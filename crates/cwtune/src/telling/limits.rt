@@ -1,6 +1,7 @@
 //! Why a text is refused, in words, and the limits that faults are about.
 
 use crate::telling::help_lines::tell_help;
+use crate::telling::line::line_of;
 use crate::telling::range_line::{tell_bad_range, tell_neighbours};
 use crate::telling::{
     is_line_feed, line_at, records_in, tell_broken_limit, tell_fault, tell_greatest, tell_number,
@@ -60,11 +61,17 @@ pub(crate) fn tell_asm<V: Write>(
         AsmKind::TextTooLong => tell_text_length(err, text),
         kind => tell_fault(err, alloc, kind),
     }
-    if fault.kind == AsmKind::Expand(ExpandKind::DuplicateName) {
+    let line = line_at(text, fault.line.saturating_sub(1));
+    if fault.kind == AsmKind::Expand(ExpandKind::DuplicateName) && is_of_label(alloc, line) {
         tell(err, &["  a word that is not an opcode is a label\n"]);
     }
-    let line = line_at(text, fault.line.saturating_sub(1));
     tell_help(err, alloc, file, text, line, fault.kind);
+}
+
+// Returns whether the name at fault in a line is a label: it is neither an EQU name nor a counter.
+fn is_of_label(alloc: Global, line: &[u8]) -> bool {
+    let line = line_of(alloc, line);
+    !line.has(b"equ") && !line.has(b"for")
 }
 
 // Writes how long a text may be, and how long this one is.

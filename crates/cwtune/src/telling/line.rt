@@ -7,7 +7,7 @@ use std::alloc::Global;
 // A line of a text, without its comment, and its words: names, opcodes without a modifier, numbers.
 #[derive(Drop)]
 pub(crate) struct Line<'a> {
-    pub(crate) code: &'a [u8],
+    code: &'a [u8],
     pub(crate) words: Vec<&'a [u8]>,
 }
 
@@ -46,6 +46,18 @@ fn is_assertion(comment: &[u8]) -> bool {
 // Returns whether a byte cannot be in a word.
 fn is_between_words(byte: &u8) -> bool {
     *byte != b'_' && *byte != b'.' && !byte.is_ascii_alphanumeric()
+}
+
+// Returns the front of a line, up to the first sign that labels do not have.
+pub(crate) fn before_signs(line: &[u8]) -> &[u8] {
+    match line.split(ends_labels).next() {
+        Some(front) => front,
+        None => line,
+    }
+}
+
+fn ends_labels(byte: &u8) -> bool {
+    !is_blank(*byte) && !b"_:&".contains(byte) && !byte.is_ascii_alphanumeric()
 }
 
 fn before_dot(word: &[u8]) -> &[u8] {
@@ -89,6 +101,19 @@ impl<'a> Line<'a> {
         }
     }
 
+    // Returns whether a `&` joins a counter: one that is not half of `&&`.
+    pub(crate) fn has_join(&self) -> bool {
+        let mut is_single = false;
+        for byte in self.code {
+            if *byte == b'&' {
+                is_single = !is_single;
+            } else if is_single {
+                return true;
+            }
+        }
+        is_single
+    }
+
     // Returns whether a mode has no number after it: it is the last sign, or a comma follows.
     pub(crate) fn has_bare_mode(&self) -> bool {
         let mut last: u8 = b' ';
@@ -122,7 +147,7 @@ pub(crate) fn bad_byte(line: &[u8]) -> Option<(usize, u8)> {
     None
 }
 
-// Returns the column, from 1, and the value of the first byte from `start` on that is no blank.
+// Returns the column, from 1, and the value of the first byte from `start` on that is not a blank.
 fn first_from(line: &[u8], start: usize) -> Option<(usize, u8)> {
     let mut column = start;
     for byte in line.iter().skip(start) {

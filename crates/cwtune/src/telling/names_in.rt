@@ -19,12 +19,11 @@ pub(crate) enum Meaning {
     Counter,
 }
 
-// Where a name is defined: the line, and its number from 1.
+// Where a name is defined.
 #[derive(Clone, Copy)]
 pub(crate) struct Definition<'a> {
     pub(crate) meaning: Meaning,
     pub(crate) line: &'a [u8],
-    pub(crate) number: u64,
 }
 
 // Returns where a name is defined first.
@@ -33,15 +32,9 @@ pub(crate) fn definition_of<'a>(
     text: &'a [u8],
     name: &[u8],
 ) -> Option<Definition<'a>> {
-    let mut number: u64 = 0;
     for line in text.split(is_line_feed) {
-        number = number.saturating_add(1);
         if let Some(meaning) = meaning_in(alloc, line, name) {
-            return Some(Definition {
-                meaning,
-                line,
-                number,
-            });
+            return Some(Definition { meaning, line });
         }
     }
     None
@@ -128,7 +121,7 @@ fn meaning_before(word: &[u8]) -> Meaning {
 }
 
 // Returns the first name of a line that the text gives no value, also one in the text of an EQU
-// name. A line with `&` is not looked into, since its names may be joined.
+// name. A line with a joining `&` is not looked into: its names may be parts of others.
 pub(crate) fn unknown_name<'a>(alloc: Global, text: &'a [u8], line: &'a [u8]) -> Option<&'a [u8]> {
     let mut lines = Vec::new(alloc);
     let _ = lines.push(line);
@@ -154,7 +147,7 @@ fn unknown_in<'a>(
     lines: &mut Vec<&'a [u8]>,
 ) -> Option<&'a [u8]> {
     let line = line_of(alloc, line);
-    if line.code.contains(&b'&') {
+    if line.has_join() {
         return None;
     }
     for word in line.words.iter().skip(operands_from(&line)) {

@@ -25,8 +25,8 @@ fn six_settings(alloc: Global) -> Result<Inputs, Fail> {
 }
 
 // Parts of the six settings. Each has its number and the number of parts, the count of its
-// settings, the index of its start setting, and its first setting. A part without the start setting
-// starts with its first one.
+// settings, the index of its start setting, and its first setting. A part without START starts with
+// its first setting.
 const PARTS: [(u32, u32, u32, u32, [i64; 2]); 6] = [
     (1, 1, 6, 4, [0, 5]),
     (1, 2, 3, 0, [0, 5]),
