@@ -56,14 +56,14 @@ def arms(first, last):
     for n in range(first, last):
         name, (o, m, a, b), _ = CLASSES[n]
         label = "_" if n == last - 1 else n
-        yield f"        {label} => arm::<C, {o}, {m}, {a}, {b}>(cells, size, pc, cell), // {name}"
+        yield f"        {label} => arm::<C, {o}, {m}, {a}, {b}>(cells, size, pc, cell, class), // {name}"
 
 
 def pairs():
     for n, (a, b) in enumerate(PAIRS):
         label = "_" if n == 63 else COUNT + n
         modes = f"{MODES[a]}, {MODES[b]}"
-        yield f"        {label} => pair_in::<C, {a}, {b}>(cells, size, pc, cell), // {modes}"
+        yield f"        {label} => pair_in::<C, {a}, {b}>(cells, size, pc, cell, class), // {modes}"
 
 
 def codes():
@@ -87,35 +87,6 @@ def leads(first):
     yield f"    {'inr refl' if last else f'leads_from_{first + PART} k'}{')' * PART}"
 
 
-def goal(call, label, clause):
-    return f"{call}-requires{label}-clause-{clause}"
-
-
-def coded(first, last, bounds):
-    for n in range(first, last):
-        label, is_class = f"-in-{n}", f"c.in-{n}.is"
-        if n == first:
-            label = ""
-        if n == last - 1:
-            label, is_class = "-in_default", f"(omega (arith, c.in_default, {bounds}))"
-        name = goal("arm", label, "coded")
-        yield f"pub {name} : goal.{name}"
-        below = " ".join(["(omega arith)"] * 4)
-        parts = " ".join(map(str, CLASSES[n][1]))
-        known = f"c.requires.class {is_class} (omega arith) refl {below}"
-        yield f"{name} g c = coded _ _ {n} {parts} {known}"
-        yield ""
-
-
-def moded():
-    for n, (a, b) in enumerate(PAIRS[:-1]):
-        name = goal("pair_in", f"-in-{COUNT + n}" if n else "", "moded")
-        yield f"pub {name} : goal.{name}"
-        parts = f"{a} {b} c.requires.class c.in-{COUNT + n}.is (omega arith) (omega arith)"
-        yield f"{name} g c = moded _ _ {parts}"
-        yield ""
-
-
 PARTS = range(0, COUNT, PART)
 TABLES = {
     "specs/Classes.antt": {f"keys from {n}": tests(n) for n in PARTS},
@@ -123,13 +94,6 @@ TABLES = {
     "src/turn.rt": {"classes": arms(0, FIRST), "further classes": arms(FIRST, COUNT)},
     "src/general.rt": {"modes": pairs(), "codes": codes()},
     "proofs/Keys.antt": {"keys": key_in()} | {f"tests from {n}": leads(n) for n in PARTS},
-    "proofs/turn/execute_by_class/Answers.antt": {
-        "classes": coded(0, FIRST, "c.requires.frequent"),
-    },
-    "proofs/turn/execute_further/Answers.antt": {
-        "classes": coded(FIRST, COUNT, "c.requires.further, c.requires.frequent"),
-    },
-    "proofs/general/operands/Answers.antt": {"modes": moded()},
 }
 
 

@@ -6,13 +6,14 @@ use Rattle.rc_instr.specs.declared.instruction.Opcode.{Opcode}
 use Rattle.rc_instr.specs.declared.instruction.Opcode.TheVariants.{Dat, Mov, Add, Sub, Mul, Div, Mod, Jmp, Jmz, Jmn, Djn, Seq, Sne, Slt, Spl, Nop}
 use Rattle.rc_instr.specs.declared.instruction.Modifier.{Modifier}
 use Rattle.rc_instr.specs.declared.instruction.Modifier.TheVariants.{A, B, AB, BA, F, X, I}
-use Rattle.mars_core.specs.Classes.{in_pairs, canonical_modifier, IsCoded}
+use Rattle.mars_core.specs.Classes.{in_pairs, canonical_modifier}
 use Rattle.mars_core.specs.Codes.{opcode_of, modifier_of, mode_of}
 use Rattle.mars_core.specs.Executed.{IsFetched, IsEvaluated, IsActed, IsExecuted}
 use Rattle.mars_core.specs.Operand.{Located}
 use Rattle.mars_core.specs.Pairs.{pairs_of, computed, counted_down, has_zero_divisor, all_are, are_less}
 use Rattle.mars_core.specs.Step.{effect_of, step_of}
 use Rattle.mars_core.specs.declared.effect.Queued.{Queued}
+use Rattle.mars_core.proofs.ClassParts.{IsCoded}
 
 same_pairs : (k : Modifier) → pairs_of (in_pairs k) ≡ pairs_of k
 same_pairs A = refl

@@ -8,7 +8,7 @@ use Rattle.mars_core.specs.declared.side.Side.{Side}
 pub split : (k n : ℕ) → k ≤ suc n → (k ≤ n) ⊎ (k ≡ suc n)
 split k n h = elim (leb_tells k n) [ inl p ↦ inl p.1 | inr p ↦ inr (omega arith) ]
 
--- the step up from n to n + 1, by what `least` answers below n
+-- the step up from n to n + 1, by what `least` gives below n
 found : (test : ℕ → Bool) (n k : ℕ) → least test n ≡ k → k < n → least test (suc n) ≡ k
 found test n k e h = rw e (grind (arith, nat_tests))
 

@@ -1,4 +1,4 @@
--- Facts about the row of slots in which a queue is kept.
+-- Facts about the slots in which a queue is kept.
 use Rattle.std.proofs.Common.{rules, ◌≡◌, ℕ, ◌<◌, ◌≤◌, ◌+◌, ◌-◌, arith, List, [], ◌∷◌, ◌++◌, length, drop, take, refl, sym, ◌∙◌, ap}
 use Rattle.std.specs.Prelude.{Some, None, slice_get, slice_set, get_or}
 use Rattle.std.specs.List.{copy_within}
@@ -22,7 +22,7 @@ held_at slots first end i task h l e =
 pub held_past : (slots : List ℕ) (first end i : ℕ) → end ≤ length slots → end - first ≤ i → None ≡ slice_get (held_in slots first end) i
 held_past slots first end i h l = let n = length_held slots first end h in sym (slice_get_past (held_in slots first end) i (omega (arith, n)))
 
--- what is written behind the last task changes no task
+-- what is written after the last task changes no task
 pub held_kept : (slots : List ℕ) (first end x : ℕ) → end < length slots → held_in (slice_set slots end x) first end ≡ held_in slots first end
 held_kept slots first end x l = same_lists _ _ (search (rules, places)) (λ k d h. grind (arith, places))
 

@@ -8,11 +8,12 @@ use Rattle.rc_instr.specs.declared.instruction.Opcode.{Opcode}
 use Rattle.rc_instr.specs.declared.instruction.Opcode.TheVariants.{Dat, Mov, Jmp, Seq, Sne, Spl, Nop}
 use Rattle.rc_instr.specs.declared.instruction.Modifier.{Modifier}
 use Rattle.rc_instr.specs.declared.instruction.Modifier.TheVariants.{B, F, I}
-use Rattle.mars_core.specs.Codes.{opcode_of, modifier_of, mode_of}
 
+-- Classes below this one are the most frequent instructions.
 abbrev pub first_of_further : ℕ
 first_of_further = 64
 
+-- Classes below this one are frequent instructions; the others say modes, and nothing else.
 abbrev pub first_of_modes : ℕ
 first_of_modes = 128
 
@@ -37,18 +38,6 @@ canonical_modifier Mov k = k
 canonical_modifier Seq k = k
 canonical_modifier Sne k = k
 canonical_modifier _ k = in_pairs k
-
--- The opcode, canonical modifier and modes of an instruction have these numbers.
-pub record IsCoded (opcode modifier a_mode b_mode : ℕ) (i : Instruction) : Type 0 where
-  pub opcode_is : i.opcode ≡ opcode_of opcode
-  pub modifier_is : canonical_modifier i.opcode i.modifier ≡ modifier_of modifier
-  pub a_mode_is : i.a_mode ≡ mode_of a_mode
-  pub b_mode_is : i.b_mode ≡ mode_of b_mode
-
--- The modes of an instruction have these numbers.
-pub record IsModed (a_mode b_mode : ℕ) (i : Instruction) : Type 0 where
-  pub a_mode_is : i.a_mode ≡ mode_of a_mode
-  pub b_mode_is : i.b_mode ≡ mode_of b_mode
 
 -- The key of an instruction is made of its opcode, modifier and modes.
 abbrev pub key_of : Instruction → ℕ

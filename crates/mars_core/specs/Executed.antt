@@ -1,5 +1,5 @@
--- The values of the code as those of the definitions; the premise of a step, and the results of its
--- parts, in a core of m cells.
+-- A step of the code in terms of the definitions: how contracts see its operands and its queue,
+-- what a step requires, and what each part of it ensures. The core has m cells.
 use Rattle.std.specs.Prelude.{◌≡◌, ℕ, ◌<◌, List, [], ◌∷◌}
 use Rattle.rc_instr.specs.Warrior.{IsBelow}
 use Rattle.rc_instr.specs.declared.instruction.Instruction.{Instruction}

@@ -3,7 +3,8 @@
 --   bits   0 .. 2    3 .. 6   8 .. 10   11 .. 13   15     16 .. 31   32 .. 39   48 .. 63
 --          modifier  opcode   A-mode    B-mode     mark   A-number   class      B-number
 --
--- The other bits are 0.
+-- The other bits are 0. So a part is multiplied by 2 to the power of its first bit: the mark by
+-- 32768, the A-number by 65536, the class by 4294967296, the B-number by 281474976710656.
 use Rattle.std.specs.Prelude.{ℕ, Bool, ◌+◌, ◌-◌, ◌*◌, ◌/◌, ◌%◌, ◌==◌}
 use Rattle.rc_instr.specs.Instruction.{empty_cell}
 use Rattle.rc_instr.specs.declared.instruction.Instruction.{Instruction}

@@ -1,4 +1,4 @@
--- A queue of tasks, and the row of slots in which it is kept.
+-- A queue of tasks, and the slots in which it is kept.
 use Rattle.std.specs.Prelude.{◌≡◌, ℕ, ◌+◌, ◌-◌, ◌≤◌, List, length, drop, take}
 use Rattle.rc_instr.specs.declared.instruction.Instruction.{Instruction}
 use Rattle.mars_core.specs.State.{appended, tasks_after}
@@ -26,11 +26,11 @@ queue_after core q = queue (tasks_after q.capacity core q.items) q.capacity
 abbrev pub stretch : ℕ
 stretch = 2000
 
--- What a row of slots holds from the slot `first` up to the one before `end`.
+-- What slots hold from the slot `first` up to the one before `end`.
 abbrev pub held_in : List ℕ → (first end : ℕ) → List ℕ
 held_in slots first end = drop first (take end slots)
 
--- A queue in a row of slots, and the turns for which there is room.
+-- A queue in slots, and the turns for which there is room.
 pub record LinearView : Type 0 where
   pub queue : Queue
   pub turns : ℕ
@@ -38,7 +38,7 @@ pub record LinearView : Type 0 where
 abbrev pub linear_view : List ℕ → (first end capacity : ℕ) → LinearView
 linear_view slots first end capacity = record { queue = queue (held_in slots first end) capacity; turns = stretch - first }
 
--- What holds of every row of slots: behind the last task, at `end`, there is one more slot.
+-- What holds of all slots: after the last task, at `end`, there is one more slot.
 pub record IsLinear (slots : List ℕ) (first end capacity : ℕ) : Type 0 where
   pub slots_are : length slots ≡ capacity + stretch + 1
   pub first_is : first ≤ stretch

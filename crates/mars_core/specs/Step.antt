@@ -1,4 +1,5 @@
--- One step of a task (1994 draft; SEQ, SNE and NOP are from pMARS).
+-- One step of a task (1994 draft; SEQ, SNE and NOP: pMARS). That one of two tested numbers is
+-- enough for JMN and DJN to jump, and one of two pairs for SNE to skip, is this project's own.
 use Rattle.std.specs.Prelude.{ℕ, if◌then◌else◌, List, [], ◌∷◌, length}
 use Rattle.rc_instr.specs.declared.instruction.Instruction.{Instruction}
 use Rattle.rc_instr.specs.declared.instruction.Opcode.{Opcode}

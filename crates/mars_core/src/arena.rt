@@ -101,25 +101,6 @@ impl<C: Cells> Arena<C> {
         self.turns += 1;
     }
 
-    // Records the turns, counts the fight, and returns the outcome, read off the remaining tasks.
-    fn finish(&mut self, turns: u32) -> Outcome
-        requires { turns ≤ 2 * self.old.rules.cycles }
-        ensures points { result.points ≡ points_in self.old.state }
-        ensures result { result.turns ≡ turns }
-        ensures arena { self.new ≡ record self.old { turns = turns; fights = fights_after self.old.fights 1 } }
-    {
-        self.turns = turns;
-        self.fights = self.fights.wrapping_add(1);
-        let points = if self.opponent.is_empty() {
-            3
-        } else if self.candidate.is_empty() {
-            0
-        } else {
-            1
-        };
-        Outcome { points, turns }
-    }
-
     /// Plays a fight to its end: turns alternate, `first` moving first, until a side has no task or
     /// the cycles of the rules are over. A cycle is one turn of each side, so there are at most two
     /// turns for each cycle.
@@ -220,6 +201,25 @@ impl<C: Cells> Arena<C> {
         ensures { result ≡ self.now.fights }
     {
         self.fights
+    }
+
+    // Records the turns, counts the fight, and returns the outcome, read off the remaining tasks.
+    fn finish(&mut self, turns: u32) -> Outcome
+        requires { turns ≤ 2 * self.old.rules.cycles }
+        ensures points { result.points ≡ points_in self.old.state }
+        ensures result { result.turns ≡ turns }
+        ensures arena { self.new ≡ record self.old { turns = turns; fights = fights_after self.old.fights 1 } }
+    {
+        self.turns = turns;
+        self.fights = self.fights.wrapping_add(1);
+        let points = if self.opponent.is_empty() {
+            3
+        } else if self.candidate.is_empty() {
+            0
+        } else {
+            1
+        };
+        Outcome { points, turns }
     }
 }
 

@@ -1,6 +1,6 @@
 //! Instructions whose opcode, canonical modifier and modes are known at compile time.
-ghost use Rattle.std.specs.Prelude.{◌<◌, ◌≤◌, ◌+◌};
-ghost use Rattle.mars_core.specs.Classes.{IsCoded};
+ghost use Rattle.std.specs.Prelude.{◌≡◌, ◌<◌, ◌≤◌, ◌+◌, ◌*◌};
+ghost use Rattle.mars_core.specs.Classes.{IsClassOf, class_of_key, first_of_modes};
 ghost use Rattle.mars_core.specs.Codes.{opcode_of, modifier_of, mode_of};
 ghost use Rattle.mars_core.specs.Core.{IsCore};
 ghost use Rattle.mars_core.specs.Executed.{seen_operand, IsFetched, IsExecuted, IsInside, IsEvaluated, IsActed};
@@ -12,8 +12,8 @@ use crate::effect::{Queued, act};
 use crate::operand::{Located, evaluate};
 use crate::turn::Executed;
 
-// Executes the instruction at `pc`, which is `cell`. The const parameters stand for its opcode,
-// canonical modifier and modes, as `Codes` numbers them.
+// Executes the instruction at `pc`, which is `cell`, by its class. The const parameters stand for
+// the opcode, canonical modifier and modes of that class, as `Codes` numbers them.
 #[inline(always)]
 pub(crate) fn arm<
     C: Store,
@@ -21,11 +21,13 @@ pub(crate) fn arm<
     const MODIFIER: u64,
     const A_MODE: u64,
     const B_MODE: u64,
->(cells: &mut C, size: u32, pc: u32, cell: C::Kept) -> Executed
+>(cells: &mut C, size: u32, pc: u32, cell: C::Kept, class: u64) -> Executed
     requires codes { (OPCODE < 16) × (MODIFIER < 8) }
     requires modes { (A_MODE < 8) × (B_MODE < 8) }
     requires fetched { IsFetched size (C.items cells.old) pc (C.Kept.held cell) }
-    requires coded { IsCoded OPCODE MODIFIER A_MODE B_MODE (C.Kept.held cell) }
+    requires class { IsClassOf (C.Kept.held cell) class }
+    requires frequent { class < first_of_modes }
+    requires coded { class ≡ class_of_key (MODIFIER + 8 * OPCODE + 256 * (A_MODE + 8 * B_MODE)) }
     ensures executed { IsExecuted size (C.items cells.old) pc (C.items cells.new) result.jump result.queued }
     ensures marks { C.marks cells.new ≤ C.marks cells.old + 3 }
 {

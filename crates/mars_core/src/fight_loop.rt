@@ -11,8 +11,8 @@ use crate::turn::next_turn;
 // Alternates turns, `mine` first, until a queue is empty or `cycles` are over. Returns the cells,
 // both queues and the number of turns.
 //
-// The loop is a function of its own: beside a return before the loop, the compiler would take its
-// body to be rare, and leave calls in it.
+// The loop is a function of its own: after a return in the same function, the compiler would take
+// the loop to be rare, and leave calls in it.
 pub(crate) fn take_turns<C: Store>(
     cells: C,
     mine: C::Queue,
@@ -33,7 +33,8 @@ pub(crate) fn take_turns<C: Store>(
 }
 
 // Does what `take_turns` does, for two queues that are not empty. Returns the whole cycles and the
-// turns beyond them: beside their sum the compiler would keep the end of a queue in memory.
+// turns beyond them, and not their sum: with that the compiler would keep the end of a queue in
+// memory.
 //
 // Owns the cells and the queues while it runs, so that the compiler keeps their fields in
 // registers: it has to assume that a write to a cell changes what is behind a reference. Too large
@@ -93,9 +94,9 @@ fn play_on<C: Cells>(
     2 * played + cells.alternate(mine, theirs, size, cycles - played)
 }
 
-// Does what `play_on` does, but plays no whole periods once a state comes back: it will come back
-// again and again, so the fight is a tie. Marks all cells once three for each turn are as many: the
-// marks then bound nothing any more.
+// Does what `play_on` does, but leaves out whole periods once a state comes back: it will come back
+// again and again, so the fight is a tie. Marks all cells once 3 marks for each turn reach the core
+// size: the marks then promise no shorter reset, and writes need no journal.
 pub(crate) fn decide<C: Cells>(
     cells: &mut C,
     mine: &mut C::Queue,

@@ -1,7 +1,7 @@
 //! Instructions of which only the modes are known at compile time, by the classes of modes.
-ghost use Rattle.std.specs.Prelude.{◌<◌, ◌≤◌, ◌+◌, ◌/◌, ◌%◌};
+ghost use Rattle.std.specs.Prelude.{◌≡◌, ◌<◌, ◌≤◌, ◌+◌, ◌*◌, ◌/◌, ◌%◌};
 ghost use Rattle.rc_instr.specs.Warrior.{IsBelow};
-ghost use Rattle.mars_core.specs.Classes.{first_of_modes, IsClassOf, IsModed};
+ghost use Rattle.mars_core.specs.Classes.{first_of_modes, IsClassOf};
 ghost use Rattle.mars_core.specs.Codes.{code_count, opcode_of, modifier_of};
 ghost use Rattle.mars_core.specs.Core.{IsCore};
 ghost use Rattle.mars_core.specs.Executed.{seen_operand, IsFetched, IsExecuted, IsInside, AreEvaluated, IsActed};
@@ -58,87 +58,90 @@ fn operands<C: Store, const PLACE: u64>(
 {
     match class {
         // table of modes
-        128 => pair_in::<C, 0, 0>(cells, size, pc, cell), // #, #
-        129 => pair_in::<C, 1, 0>(cells, size, pc, cell), // $, #
-        130 => pair_in::<C, 2, 0>(cells, size, pc, cell), // *, #
-        131 => pair_in::<C, 3, 0>(cells, size, pc, cell), // @, #
-        132 => pair_in::<C, 4, 0>(cells, size, pc, cell), // {, #
-        133 => pair_in::<C, 5, 0>(cells, size, pc, cell), // <, #
-        134 => pair_in::<C, 6, 0>(cells, size, pc, cell), // }, #
-        135 => pair_in::<C, 7, 0>(cells, size, pc, cell), // >, #
-        136 => pair_in::<C, 0, 1>(cells, size, pc, cell), // #, $
-        137 => pair_in::<C, 1, 1>(cells, size, pc, cell), // $, $
-        138 => pair_in::<C, 2, 1>(cells, size, pc, cell), // *, $
-        139 => pair_in::<C, 3, 1>(cells, size, pc, cell), // @, $
-        140 => pair_in::<C, 4, 1>(cells, size, pc, cell), // {, $
-        141 => pair_in::<C, 5, 1>(cells, size, pc, cell), // <, $
-        142 => pair_in::<C, 6, 1>(cells, size, pc, cell), // }, $
-        143 => pair_in::<C, 7, 1>(cells, size, pc, cell), // >, $
-        144 => pair_in::<C, 0, 2>(cells, size, pc, cell), // #, *
-        145 => pair_in::<C, 1, 2>(cells, size, pc, cell), // $, *
-        146 => pair_in::<C, 2, 2>(cells, size, pc, cell), // *, *
-        147 => pair_in::<C, 3, 2>(cells, size, pc, cell), // @, *
-        148 => pair_in::<C, 4, 2>(cells, size, pc, cell), // {, *
-        149 => pair_in::<C, 5, 2>(cells, size, pc, cell), // <, *
-        150 => pair_in::<C, 6, 2>(cells, size, pc, cell), // }, *
-        151 => pair_in::<C, 7, 2>(cells, size, pc, cell), // >, *
-        152 => pair_in::<C, 0, 3>(cells, size, pc, cell), // #, @
-        153 => pair_in::<C, 1, 3>(cells, size, pc, cell), // $, @
-        154 => pair_in::<C, 2, 3>(cells, size, pc, cell), // *, @
-        155 => pair_in::<C, 3, 3>(cells, size, pc, cell), // @, @
-        156 => pair_in::<C, 4, 3>(cells, size, pc, cell), // {, @
-        157 => pair_in::<C, 5, 3>(cells, size, pc, cell), // <, @
-        158 => pair_in::<C, 6, 3>(cells, size, pc, cell), // }, @
-        159 => pair_in::<C, 7, 3>(cells, size, pc, cell), // >, @
-        160 => pair_in::<C, 0, 4>(cells, size, pc, cell), // #, {
-        161 => pair_in::<C, 1, 4>(cells, size, pc, cell), // $, {
-        162 => pair_in::<C, 2, 4>(cells, size, pc, cell), // *, {
-        163 => pair_in::<C, 3, 4>(cells, size, pc, cell), // @, {
-        164 => pair_in::<C, 4, 4>(cells, size, pc, cell), // {, {
-        165 => pair_in::<C, 5, 4>(cells, size, pc, cell), // <, {
-        166 => pair_in::<C, 6, 4>(cells, size, pc, cell), // }, {
-        167 => pair_in::<C, 7, 4>(cells, size, pc, cell), // >, {
-        168 => pair_in::<C, 0, 5>(cells, size, pc, cell), // #, <
-        169 => pair_in::<C, 1, 5>(cells, size, pc, cell), // $, <
-        170 => pair_in::<C, 2, 5>(cells, size, pc, cell), // *, <
-        171 => pair_in::<C, 3, 5>(cells, size, pc, cell), // @, <
-        172 => pair_in::<C, 4, 5>(cells, size, pc, cell), // {, <
-        173 => pair_in::<C, 5, 5>(cells, size, pc, cell), // <, <
-        174 => pair_in::<C, 6, 5>(cells, size, pc, cell), // }, <
-        175 => pair_in::<C, 7, 5>(cells, size, pc, cell), // >, <
-        176 => pair_in::<C, 0, 6>(cells, size, pc, cell), // #, }
-        177 => pair_in::<C, 1, 6>(cells, size, pc, cell), // $, }
-        178 => pair_in::<C, 2, 6>(cells, size, pc, cell), // *, }
-        179 => pair_in::<C, 3, 6>(cells, size, pc, cell), // @, }
-        180 => pair_in::<C, 4, 6>(cells, size, pc, cell), // {, }
-        181 => pair_in::<C, 5, 6>(cells, size, pc, cell), // <, }
-        182 => pair_in::<C, 6, 6>(cells, size, pc, cell), // }, }
-        183 => pair_in::<C, 7, 6>(cells, size, pc, cell), // >, }
-        184 => pair_in::<C, 0, 7>(cells, size, pc, cell), // #, >
-        185 => pair_in::<C, 1, 7>(cells, size, pc, cell), // $, >
-        186 => pair_in::<C, 2, 7>(cells, size, pc, cell), // *, >
-        187 => pair_in::<C, 3, 7>(cells, size, pc, cell), // @, >
-        188 => pair_in::<C, 4, 7>(cells, size, pc, cell), // {, >
-        189 => pair_in::<C, 5, 7>(cells, size, pc, cell), // <, >
-        190 => pair_in::<C, 6, 7>(cells, size, pc, cell), // }, >
-        _ => pair_in::<C, 7, 7>(cells, size, pc, cell), // >, >
+        128 => pair_in::<C, 0, 0>(cells, size, pc, cell, class), // #, #
+        129 => pair_in::<C, 1, 0>(cells, size, pc, cell, class), // $, #
+        130 => pair_in::<C, 2, 0>(cells, size, pc, cell, class), // *, #
+        131 => pair_in::<C, 3, 0>(cells, size, pc, cell, class), // @, #
+        132 => pair_in::<C, 4, 0>(cells, size, pc, cell, class), // {, #
+        133 => pair_in::<C, 5, 0>(cells, size, pc, cell, class), // <, #
+        134 => pair_in::<C, 6, 0>(cells, size, pc, cell, class), // }, #
+        135 => pair_in::<C, 7, 0>(cells, size, pc, cell, class), // >, #
+        136 => pair_in::<C, 0, 1>(cells, size, pc, cell, class), // #, $
+        137 => pair_in::<C, 1, 1>(cells, size, pc, cell, class), // $, $
+        138 => pair_in::<C, 2, 1>(cells, size, pc, cell, class), // *, $
+        139 => pair_in::<C, 3, 1>(cells, size, pc, cell, class), // @, $
+        140 => pair_in::<C, 4, 1>(cells, size, pc, cell, class), // {, $
+        141 => pair_in::<C, 5, 1>(cells, size, pc, cell, class), // <, $
+        142 => pair_in::<C, 6, 1>(cells, size, pc, cell, class), // }, $
+        143 => pair_in::<C, 7, 1>(cells, size, pc, cell, class), // >, $
+        144 => pair_in::<C, 0, 2>(cells, size, pc, cell, class), // #, *
+        145 => pair_in::<C, 1, 2>(cells, size, pc, cell, class), // $, *
+        146 => pair_in::<C, 2, 2>(cells, size, pc, cell, class), // *, *
+        147 => pair_in::<C, 3, 2>(cells, size, pc, cell, class), // @, *
+        148 => pair_in::<C, 4, 2>(cells, size, pc, cell, class), // {, *
+        149 => pair_in::<C, 5, 2>(cells, size, pc, cell, class), // <, *
+        150 => pair_in::<C, 6, 2>(cells, size, pc, cell, class), // }, *
+        151 => pair_in::<C, 7, 2>(cells, size, pc, cell, class), // >, *
+        152 => pair_in::<C, 0, 3>(cells, size, pc, cell, class), // #, @
+        153 => pair_in::<C, 1, 3>(cells, size, pc, cell, class), // $, @
+        154 => pair_in::<C, 2, 3>(cells, size, pc, cell, class), // *, @
+        155 => pair_in::<C, 3, 3>(cells, size, pc, cell, class), // @, @
+        156 => pair_in::<C, 4, 3>(cells, size, pc, cell, class), // {, @
+        157 => pair_in::<C, 5, 3>(cells, size, pc, cell, class), // <, @
+        158 => pair_in::<C, 6, 3>(cells, size, pc, cell, class), // }, @
+        159 => pair_in::<C, 7, 3>(cells, size, pc, cell, class), // >, @
+        160 => pair_in::<C, 0, 4>(cells, size, pc, cell, class), // #, {
+        161 => pair_in::<C, 1, 4>(cells, size, pc, cell, class), // $, {
+        162 => pair_in::<C, 2, 4>(cells, size, pc, cell, class), // *, {
+        163 => pair_in::<C, 3, 4>(cells, size, pc, cell, class), // @, {
+        164 => pair_in::<C, 4, 4>(cells, size, pc, cell, class), // {, {
+        165 => pair_in::<C, 5, 4>(cells, size, pc, cell, class), // <, {
+        166 => pair_in::<C, 6, 4>(cells, size, pc, cell, class), // }, {
+        167 => pair_in::<C, 7, 4>(cells, size, pc, cell, class), // >, {
+        168 => pair_in::<C, 0, 5>(cells, size, pc, cell, class), // #, <
+        169 => pair_in::<C, 1, 5>(cells, size, pc, cell, class), // $, <
+        170 => pair_in::<C, 2, 5>(cells, size, pc, cell, class), // *, <
+        171 => pair_in::<C, 3, 5>(cells, size, pc, cell, class), // @, <
+        172 => pair_in::<C, 4, 5>(cells, size, pc, cell, class), // {, <
+        173 => pair_in::<C, 5, 5>(cells, size, pc, cell, class), // <, <
+        174 => pair_in::<C, 6, 5>(cells, size, pc, cell, class), // }, <
+        175 => pair_in::<C, 7, 5>(cells, size, pc, cell, class), // >, <
+        176 => pair_in::<C, 0, 6>(cells, size, pc, cell, class), // #, }
+        177 => pair_in::<C, 1, 6>(cells, size, pc, cell, class), // $, }
+        178 => pair_in::<C, 2, 6>(cells, size, pc, cell, class), // *, }
+        179 => pair_in::<C, 3, 6>(cells, size, pc, cell, class), // @, }
+        180 => pair_in::<C, 4, 6>(cells, size, pc, cell, class), // {, }
+        181 => pair_in::<C, 5, 6>(cells, size, pc, cell, class), // <, }
+        182 => pair_in::<C, 6, 6>(cells, size, pc, cell, class), // }, }
+        183 => pair_in::<C, 7, 6>(cells, size, pc, cell, class), // >, }
+        184 => pair_in::<C, 0, 7>(cells, size, pc, cell, class), // #, >
+        185 => pair_in::<C, 1, 7>(cells, size, pc, cell, class), // $, >
+        186 => pair_in::<C, 2, 7>(cells, size, pc, cell, class), // *, >
+        187 => pair_in::<C, 3, 7>(cells, size, pc, cell, class), // @, >
+        188 => pair_in::<C, 4, 7>(cells, size, pc, cell, class), // {, >
+        189 => pair_in::<C, 5, 7>(cells, size, pc, cell, class), // <, >
+        190 => pair_in::<C, 6, 7>(cells, size, pc, cell, class), // }, >
+        _ => pair_in::<C, 7, 7>(cells, size, pc, cell, class), // >, >
         // end of modes
     }
 }
 
-// Evaluates the operands of `cell`, which is at `pc`. The const parameters stand for its modes.
+// Evaluates the operands of `cell`, which is at `pc`. The const parameters stand for the modes of
+// its class.
 #[inline(always)]
 fn pair_in<C: Store, const A_MODE: u64, const B_MODE: u64>(
     cells: &mut C,
     size: u32,
     pc: u32,
     cell: C::Kept,
+    class: u64,
 ) -> (Located<C::Kept>, Located<C::Kept>)
     requires known { (A_MODE < 8) × (B_MODE < 8) }
     requires core { IsCore size (C.items cells.old) }
     requires pc { pc < size }
     requires below { IsBelow size (C.Kept.held cell) }
-    requires moded { IsModed A_MODE B_MODE (C.Kept.held cell) }
+    requires class { IsClassOf (C.Kept.held cell) class }
+    requires pair { class ≡ first_of_modes + A_MODE + 8 * B_MODE }
     ensures evaluated { AreEvaluated size (C.items cells.old) pc (C.Kept.held cell) (seen_operand C.Kept.held result.0) (seen_operand C.Kept.held result.1) (C.items cells.new) }
     ensures marks { C.marks cells.new ≤ C.marks cells.old + 2 }
 {

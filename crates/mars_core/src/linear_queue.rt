@@ -1,16 +1,16 @@
-//! The queue of a packed machine: tasks in slots, one after the other.
+//! The queue that goes with packed cells: tasks in slots, one after the other.
 
 use crate::tasks::{STRETCH, Tasks};
 use rc_instr::OutOfMemory;
 use std::alloc::Global;
 use std::marker::Model;
 
-/// A queue of tasks in a row of slots. A turn takes the first task out at the front and writes what
-/// it queues behind the last one, so the tasks move along the row. `make_room` moves them back to
-/// its front.
+/// A queue of tasks in a list of slots. A turn takes the first task out at the front and writes
+/// what it queues after the last one, so the tasks move along the slots. `make_room` moves them
+/// back to slot 0.
 ///
 /// There is a slot for each task, one for each turn of a stretch, and one more: `append` writes
-/// behind the last task even if the queue is full.
+/// after the last task even if the queue is full.
 #[derive(Drop)]
 pub struct LinearQueue {
     pub(crate) slots: Vec<u16>,

@@ -39,8 +39,8 @@ impl Model for PackedCells {
     ghost invariant = { λ s. IsPacked s.words.items s.journal.items s.count s.is_open };
 }
 
-// Packed cells while cycles are played. Whether the journal is open is a constant then, so that a
-// write beside a closed one does nothing else. `OPEN` is 1 or 0: no `bool` can stand there.
+// Packed cells while cycles are played. Whether the journal is open is a constant here, so that a
+// write does nothing else if it is closed. `OPEN` is 1 or 0: it cannot be a `bool`.
 #[derive(Drop)]
 struct PlayedCells<const OPEN: u64> {
     words: Vec<u64>,

@@ -1,4 +1,4 @@
-//! The queue of a plain machine: tasks in a circular buffer.
+//! The queue that goes with plain cells: tasks in a circular buffer.
 ghost use Rattle.std.specs.Prelude.{◌≡◌};
 
 use crate::tasks::Tasks;

@@ -12,7 +12,7 @@ use std::marker::Model;
 
 // The most tasks of a side in a state that is kept. With more tasks a state seldom comes back, and
 // the queue takes long to compare.
-const FEW: usize = 8;
+const FEW_TASKS: usize = 8;
 
 // The state of a fight after some of its cycles.
 #[derive(Drop)]
@@ -44,8 +44,8 @@ impl<C: Cells + Drop> Snapshot<C> {
     pub(crate) fn over(alloc: Global, cells: C) -> Result<Snapshot<C>, OutOfMemory>
         ensures { IfOk result (λ s. s.core ≡ C.items cells) }
     {
-        let mine = C::Queue::with_capacity(alloc, FEW)?;
-        let theirs = C::Queue::with_capacity(alloc, FEW)?;
+        let mine = C::Queue::with_capacity(alloc, FEW_TASKS)?;
+        let theirs = C::Queue::with_capacity(alloc, FEW_TASKS)?;
         Ok(Snapshot {
             cells,
             mine,
@@ -102,7 +102,7 @@ impl<C: Cells> Snapshot<C> {
         requires cycles { cycles ≤ MOST_CYCLES }
         ensures { (self.new ≡ self.old) ⊎ (self.new ≡ snapshot_view (C.items cells.now) (C.Queue.held mine.now).items (C.Queue.held theirs.now).items cycles) }
     {
-        if cycles < self.due || mine.len() > FEW || theirs.len() > FEW {
+        if cycles < self.due || mine.len() > FEW_TASKS || theirs.len() > FEW_TASKS {
             return;
         }
         self.cells.copy_from(cells);

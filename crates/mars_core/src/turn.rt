@@ -100,6 +100,7 @@ fn execute<C: Store, const PLACE: u64>(
 
 // Executes the instruction at `pc`, which is `cell`, if it is one of the most frequent ones. Each
 // has an arm, in which the numbers of its opcode, modifier and modes are constants.
+#[tactic(auto, unfolding(crate::specs::Classes::class_of_key, crate::specs::Classes::class_from_32))]
 #[inline(always)]
 fn execute_by_class<C: Store>(
     cells: &mut C,
@@ -116,76 +117,77 @@ fn execute_by_class<C: Store>(
 {
     match class {
         // table of classes
-        0 => arm::<C, 1, 6, 1, 1>(cells, size, pc, cell), // MOV.I $, $
-        1 => arm::<C, 7, 1, 1, 1>(cells, size, pc, cell), // JMP.B $, $
-        2 => arm::<C, 1, 6, 1, 3>(cells, size, pc, cell), // MOV.I $, @
-        3 => arm::<C, 2, 2, 0, 1>(cells, size, pc, cell), // ADD.AB #, $
-        4 => arm::<C, 14, 1, 0, 1>(cells, size, pc, cell), // SPL.B #, $
-        5 => arm::<C, 7, 1, 1, 5>(cells, size, pc, cell), // JMP.B $, <
-        6 => arm::<C, 14, 1, 3, 1>(cells, size, pc, cell), // SPL.B @, $
-        7 => arm::<C, 1, 6, 6, 7>(cells, size, pc, cell), // MOV.I }, >
-        8 => arm::<C, 7, 1, 1, 4>(cells, size, pc, cell), // JMP.B $, {
-        9 => arm::<C, 2, 4, 1, 1>(cells, size, pc, cell), // ADD.F $, $
-        10 => arm::<C, 12, 6, 1, 1>(cells, size, pc, cell), // SNE.I $, $
-        11 => arm::<C, 1, 6, 1, 7>(cells, size, pc, cell), // MOV.I $, >
-        12 => arm::<C, 3, 2, 0, 1>(cells, size, pc, cell), // SUB.AB #, $
-        13 => arm::<C, 10, 4, 1, 5>(cells, size, pc, cell), // DJN.F $, <
-        14 => arm::<C, 14, 1, 1, 1>(cells, size, pc, cell), // SPL.B $, $
-        15 => arm::<C, 1, 6, 1, 5>(cells, size, pc, cell), // MOV.I $, <
-        16 => arm::<C, 3, 4, 1, 1>(cells, size, pc, cell), // SUB.F $, $
-        17 => arm::<C, 11, 6, 1, 1>(cells, size, pc, cell), // SEQ.I $, $
-        18 => arm::<C, 10, 4, 1, 7>(cells, size, pc, cell), // DJN.F $, >
-        19 => arm::<C, 1, 6, 4, 5>(cells, size, pc, cell), // MOV.I {, <
-        20 => arm::<C, 14, 1, 0, 7>(cells, size, pc, cell), // SPL.B #, >
-        21 => arm::<C, 1, 6, 5, 5>(cells, size, pc, cell), // MOV.I <, <
-        22 => arm::<C, 1, 6, 1, 2>(cells, size, pc, cell), // MOV.I $, *
-        23 => arm::<C, 0, 4, 1, 1>(cells, size, pc, cell), // DAT.F $, $
-        24 => arm::<C, 7, 1, 3, 1>(cells, size, pc, cell), // JMP.B @, $
-        25 => arm::<C, 1, 6, 5, 1>(cells, size, pc, cell), // MOV.I <, $
-        26 => arm::<C, 1, 2, 0, 1>(cells, size, pc, cell), // MOV.AB #, $
-        27 => arm::<C, 10, 1, 1, 0>(cells, size, pc, cell), // DJN.B $, #
-        28 => arm::<C, 8, 1, 1, 1>(cells, size, pc, cell), // JMZ.B $, $
-        29 => arm::<C, 14, 1, 1, 5>(cells, size, pc, cell), // SPL.B $, <
-        30 => arm::<C, 7, 1, 0, 3>(cells, size, pc, cell), // JMP.B #, @
-        31 => arm::<C, 1, 6, 0, 1>(cells, size, pc, cell), // MOV.I #, $
-        32 => arm::<C, 10, 1, 1, 1>(cells, size, pc, cell), // DJN.B $, $
-        33 => arm::<C, 1, 6, 3, 5>(cells, size, pc, cell), // MOV.I @, <
-        34 => arm::<C, 0, 4, 5, 5>(cells, size, pc, cell), // DAT.F <, <
-        35 => arm::<C, 14, 1, 3, 7>(cells, size, pc, cell), // SPL.B @, >
-        36 => arm::<C, 10, 1, 1, 5>(cells, size, pc, cell), // DJN.B $, <
-        37 => arm::<C, 9, 1, 1, 1>(cells, size, pc, cell), // JMN.B $, $
-        38 => arm::<C, 0, 4, 7, 1>(cells, size, pc, cell), // DAT.F >, $
-        39 => arm::<C, 0, 4, 0, 0>(cells, size, pc, cell), // DAT.F #, #
-        40 => arm::<C, 14, 1, 0, 5>(cells, size, pc, cell), // SPL.B #, <
-        41 => arm::<C, 14, 1, 0, 4>(cells, size, pc, cell), // SPL.B #, {
-        42 => arm::<C, 14, 1, 0, 6>(cells, size, pc, cell), // SPL.B #, }
-        43 => arm::<C, 14, 1, 0, 0>(cells, size, pc, cell), // SPL.B #, #
-        44 => arm::<C, 14, 1, 3, 5>(cells, size, pc, cell), // SPL.B @, <
-        45 => arm::<C, 14, 1, 3, 4>(cells, size, pc, cell), // SPL.B @, {
-        46 => arm::<C, 14, 1, 3, 6>(cells, size, pc, cell), // SPL.B @, }
-        47 => arm::<C, 1, 6, 0, 2>(cells, size, pc, cell), // MOV.I #, *
-        48 => arm::<C, 1, 6, 1, 6>(cells, size, pc, cell), // MOV.I $, }
-        49 => arm::<C, 1, 6, 1, 4>(cells, size, pc, cell), // MOV.I $, {
-        50 => arm::<C, 1, 6, 2, 7>(cells, size, pc, cell), // MOV.I *, >
-        51 => arm::<C, 1, 6, 4, 1>(cells, size, pc, cell), // MOV.I {, $
-        52 => arm::<C, 1, 6, 5, 4>(cells, size, pc, cell), // MOV.I <, {
-        53 => arm::<C, 1, 6, 7, 1>(cells, size, pc, cell), // MOV.I >, $
-        54 => arm::<C, 1, 6, 7, 6>(cells, size, pc, cell), // MOV.I >, }
-        55 => arm::<C, 10, 4, 1, 4>(cells, size, pc, cell), // DJN.F $, {
-        56 => arm::<C, 10, 4, 1, 6>(cells, size, pc, cell), // DJN.F $, }
-        57 => arm::<C, 7, 1, 3, 5>(cells, size, pc, cell), // JMP.B @, <
-        58 => arm::<C, 7, 1, 3, 7>(cells, size, pc, cell), // JMP.B @, >
-        59 => arm::<C, 8, 4, 1, 5>(cells, size, pc, cell), // JMZ.F $, <
-        60 => arm::<C, 11, 6, 2, 3>(cells, size, pc, cell), // SEQ.I *, @
-        61 => arm::<C, 12, 6, 2, 3>(cells, size, pc, cell), // SNE.I *, @
-        62 => arm::<C, 12, 5, 2, 3>(cells, size, pc, cell), // SNE.X *, @
-        _ => arm::<C, 0, 4, 5, 1>(cells, size, pc, cell), // DAT.F <, $
+        0 => arm::<C, 1, 6, 1, 1>(cells, size, pc, cell, class), // MOV.I $, $
+        1 => arm::<C, 7, 1, 1, 1>(cells, size, pc, cell, class), // JMP.B $, $
+        2 => arm::<C, 1, 6, 1, 3>(cells, size, pc, cell, class), // MOV.I $, @
+        3 => arm::<C, 2, 2, 0, 1>(cells, size, pc, cell, class), // ADD.AB #, $
+        4 => arm::<C, 14, 1, 0, 1>(cells, size, pc, cell, class), // SPL.B #, $
+        5 => arm::<C, 7, 1, 1, 5>(cells, size, pc, cell, class), // JMP.B $, <
+        6 => arm::<C, 14, 1, 3, 1>(cells, size, pc, cell, class), // SPL.B @, $
+        7 => arm::<C, 1, 6, 6, 7>(cells, size, pc, cell, class), // MOV.I }, >
+        8 => arm::<C, 7, 1, 1, 4>(cells, size, pc, cell, class), // JMP.B $, {
+        9 => arm::<C, 2, 4, 1, 1>(cells, size, pc, cell, class), // ADD.F $, $
+        10 => arm::<C, 12, 6, 1, 1>(cells, size, pc, cell, class), // SNE.I $, $
+        11 => arm::<C, 1, 6, 1, 7>(cells, size, pc, cell, class), // MOV.I $, >
+        12 => arm::<C, 3, 2, 0, 1>(cells, size, pc, cell, class), // SUB.AB #, $
+        13 => arm::<C, 10, 4, 1, 5>(cells, size, pc, cell, class), // DJN.F $, <
+        14 => arm::<C, 14, 1, 1, 1>(cells, size, pc, cell, class), // SPL.B $, $
+        15 => arm::<C, 1, 6, 1, 5>(cells, size, pc, cell, class), // MOV.I $, <
+        16 => arm::<C, 3, 4, 1, 1>(cells, size, pc, cell, class), // SUB.F $, $
+        17 => arm::<C, 11, 6, 1, 1>(cells, size, pc, cell, class), // SEQ.I $, $
+        18 => arm::<C, 10, 4, 1, 7>(cells, size, pc, cell, class), // DJN.F $, >
+        19 => arm::<C, 1, 6, 4, 5>(cells, size, pc, cell, class), // MOV.I {, <
+        20 => arm::<C, 14, 1, 0, 7>(cells, size, pc, cell, class), // SPL.B #, >
+        21 => arm::<C, 1, 6, 5, 5>(cells, size, pc, cell, class), // MOV.I <, <
+        22 => arm::<C, 1, 6, 1, 2>(cells, size, pc, cell, class), // MOV.I $, *
+        23 => arm::<C, 0, 4, 1, 1>(cells, size, pc, cell, class), // DAT.F $, $
+        24 => arm::<C, 7, 1, 3, 1>(cells, size, pc, cell, class), // JMP.B @, $
+        25 => arm::<C, 1, 6, 5, 1>(cells, size, pc, cell, class), // MOV.I <, $
+        26 => arm::<C, 1, 2, 0, 1>(cells, size, pc, cell, class), // MOV.AB #, $
+        27 => arm::<C, 10, 1, 1, 0>(cells, size, pc, cell, class), // DJN.B $, #
+        28 => arm::<C, 8, 1, 1, 1>(cells, size, pc, cell, class), // JMZ.B $, $
+        29 => arm::<C, 14, 1, 1, 5>(cells, size, pc, cell, class), // SPL.B $, <
+        30 => arm::<C, 7, 1, 0, 3>(cells, size, pc, cell, class), // JMP.B #, @
+        31 => arm::<C, 1, 6, 0, 1>(cells, size, pc, cell, class), // MOV.I #, $
+        32 => arm::<C, 10, 1, 1, 1>(cells, size, pc, cell, class), // DJN.B $, $
+        33 => arm::<C, 1, 6, 3, 5>(cells, size, pc, cell, class), // MOV.I @, <
+        34 => arm::<C, 0, 4, 5, 5>(cells, size, pc, cell, class), // DAT.F <, <
+        35 => arm::<C, 14, 1, 3, 7>(cells, size, pc, cell, class), // SPL.B @, >
+        36 => arm::<C, 10, 1, 1, 5>(cells, size, pc, cell, class), // DJN.B $, <
+        37 => arm::<C, 9, 1, 1, 1>(cells, size, pc, cell, class), // JMN.B $, $
+        38 => arm::<C, 0, 4, 7, 1>(cells, size, pc, cell, class), // DAT.F >, $
+        39 => arm::<C, 0, 4, 0, 0>(cells, size, pc, cell, class), // DAT.F #, #
+        40 => arm::<C, 14, 1, 0, 5>(cells, size, pc, cell, class), // SPL.B #, <
+        41 => arm::<C, 14, 1, 0, 4>(cells, size, pc, cell, class), // SPL.B #, {
+        42 => arm::<C, 14, 1, 0, 6>(cells, size, pc, cell, class), // SPL.B #, }
+        43 => arm::<C, 14, 1, 0, 0>(cells, size, pc, cell, class), // SPL.B #, #
+        44 => arm::<C, 14, 1, 3, 5>(cells, size, pc, cell, class), // SPL.B @, <
+        45 => arm::<C, 14, 1, 3, 4>(cells, size, pc, cell, class), // SPL.B @, {
+        46 => arm::<C, 14, 1, 3, 6>(cells, size, pc, cell, class), // SPL.B @, }
+        47 => arm::<C, 1, 6, 0, 2>(cells, size, pc, cell, class), // MOV.I #, *
+        48 => arm::<C, 1, 6, 1, 6>(cells, size, pc, cell, class), // MOV.I $, }
+        49 => arm::<C, 1, 6, 1, 4>(cells, size, pc, cell, class), // MOV.I $, {
+        50 => arm::<C, 1, 6, 2, 7>(cells, size, pc, cell, class), // MOV.I *, >
+        51 => arm::<C, 1, 6, 4, 1>(cells, size, pc, cell, class), // MOV.I {, $
+        52 => arm::<C, 1, 6, 5, 4>(cells, size, pc, cell, class), // MOV.I <, {
+        53 => arm::<C, 1, 6, 7, 1>(cells, size, pc, cell, class), // MOV.I >, $
+        54 => arm::<C, 1, 6, 7, 6>(cells, size, pc, cell, class), // MOV.I >, }
+        55 => arm::<C, 10, 4, 1, 4>(cells, size, pc, cell, class), // DJN.F $, {
+        56 => arm::<C, 10, 4, 1, 6>(cells, size, pc, cell, class), // DJN.F $, }
+        57 => arm::<C, 7, 1, 3, 5>(cells, size, pc, cell, class), // JMP.B @, <
+        58 => arm::<C, 7, 1, 3, 7>(cells, size, pc, cell, class), // JMP.B @, >
+        59 => arm::<C, 8, 4, 1, 5>(cells, size, pc, cell, class), // JMZ.F $, <
+        60 => arm::<C, 11, 6, 2, 3>(cells, size, pc, cell, class), // SEQ.I *, @
+        61 => arm::<C, 12, 6, 2, 3>(cells, size, pc, cell, class), // SNE.I *, @
+        62 => arm::<C, 12, 5, 2, 3>(cells, size, pc, cell, class), // SNE.X *, @
+        _ => arm::<C, 0, 4, 5, 1>(cells, size, pc, cell, class), // DAT.F <, $
         // end of classes
     }
 }
 
 // Does what `execute_by_class` does for the further frequent instructions. A match
 // has at most 64 arms (docs/HOT_LOOP.md).
+#[tactic(auto, unfolding(crate::specs::Classes::class_of_key, crate::specs::Classes::class_from_32, crate::specs::Classes::class_from_64, crate::specs::Classes::class_from_96))]
 #[inline]
 fn execute_further<C: Store, const PLACE: u64>(
     cells: &mut C,
@@ -203,70 +205,70 @@ fn execute_further<C: Store, const PLACE: u64>(
 {
     match class {
         // table of further classes
-        64 => arm::<C, 1, 6, 0, 5>(cells, size, pc, cell), // MOV.I #, <
-        65 => arm::<C, 1, 6, 0, 7>(cells, size, pc, cell), // MOV.I #, >
-        66 => arm::<C, 1, 6, 4, 4>(cells, size, pc, cell), // MOV.I {, {
-        67 => arm::<C, 1, 6, 4, 7>(cells, size, pc, cell), // MOV.I {, >
-        68 => arm::<C, 1, 6, 3, 6>(cells, size, pc, cell), // MOV.I @, }
-        69 => arm::<C, 1, 6, 0, 6>(cells, size, pc, cell), // MOV.I #, }
-        70 => arm::<C, 1, 6, 7, 4>(cells, size, pc, cell), // MOV.I >, {
-        71 => arm::<C, 1, 6, 5, 6>(cells, size, pc, cell), // MOV.I <, }
-        72 => arm::<C, 1, 6, 2, 6>(cells, size, pc, cell), // MOV.I *, }
-        73 => arm::<C, 1, 6, 0, 4>(cells, size, pc, cell), // MOV.I #, {
-        74 => arm::<C, 1, 6, 7, 3>(cells, size, pc, cell), // MOV.I >, @
-        75 => arm::<C, 1, 6, 4, 6>(cells, size, pc, cell), // MOV.I {, }
-        76 => arm::<C, 1, 6, 3, 7>(cells, size, pc, cell), // MOV.I @, >
-        77 => arm::<C, 1, 6, 7, 5>(cells, size, pc, cell), // MOV.I >, <
-        78 => arm::<C, 1, 6, 6, 5>(cells, size, pc, cell), // MOV.I }, <
-        79 => arm::<C, 1, 6, 6, 1>(cells, size, pc, cell), // MOV.I }, $
-        80 => arm::<C, 1, 6, 6, 6>(cells, size, pc, cell), // MOV.I }, }
-        81 => arm::<C, 1, 6, 6, 4>(cells, size, pc, cell), // MOV.I }, {
-        82 => arm::<C, 1, 6, 7, 7>(cells, size, pc, cell), // MOV.I >, >
-        83 => arm::<C, 1, 6, 5, 7>(cells, size, pc, cell), // MOV.I <, >
-        84 => arm::<C, 1, 6, 3, 1>(cells, size, pc, cell), // MOV.I @, $
-        85 => arm::<C, 1, 6, 2, 1>(cells, size, pc, cell), // MOV.I *, $
-        86 => arm::<C, 7, 1, 1, 7>(cells, size, pc, cell), // JMP.B $, >
-        87 => arm::<C, 7, 1, 1, 6>(cells, size, pc, cell), // JMP.B $, }
-        88 => arm::<C, 7, 1, 0, 5>(cells, size, pc, cell), // JMP.B #, <
-        89 => arm::<C, 7, 1, 0, 4>(cells, size, pc, cell), // JMP.B #, {
-        90 => arm::<C, 7, 1, 0, 1>(cells, size, pc, cell), // JMP.B #, $
-        91 => arm::<C, 10, 4, 1, 1>(cells, size, pc, cell), // DJN.F $, $
-        92 => arm::<C, 10, 4, 1, 3>(cells, size, pc, cell), // DJN.F $, @
-        93 => arm::<C, 10, 1, 0, 5>(cells, size, pc, cell), // DJN.B #, <
-        94 => arm::<C, 10, 1, 1, 4>(cells, size, pc, cell), // DJN.B $, {
-        95 => arm::<C, 10, 1, 1, 6>(cells, size, pc, cell), // DJN.B $, }
-        96 => arm::<C, 10, 1, 1, 7>(cells, size, pc, cell), // DJN.B $, >
-        97 => arm::<C, 10, 1, 1, 3>(cells, size, pc, cell), // DJN.B $, @
-        98 => arm::<C, 7, 1, 0, 0>(cells, size, pc, cell), // JMP.B #, #
-        99 => arm::<C, 7, 1, 0, 2>(cells, size, pc, cell), // JMP.B #, *
-        100 => arm::<C, 7, 1, 0, 7>(cells, size, pc, cell), // JMP.B #, >
-        101 => arm::<C, 8, 4, 1, 2>(cells, size, pc, cell), // JMZ.F $, *
-        102 => arm::<C, 8, 4, 1, 3>(cells, size, pc, cell), // JMZ.F $, @
-        103 => arm::<C, 8, 4, 1, 7>(cells, size, pc, cell), // JMZ.F $, >
-        104 => arm::<C, 8, 1, 1, 4>(cells, size, pc, cell), // JMZ.B $, {
-        105 => arm::<C, 8, 1, 1, 5>(cells, size, pc, cell), // JMZ.B $, <
-        106 => arm::<C, 8, 1, 1, 2>(cells, size, pc, cell), // JMZ.B $, *
-        107 => arm::<C, 9, 1, 1, 2>(cells, size, pc, cell), // JMN.B $, *
-        108 => arm::<C, 9, 1, 1, 3>(cells, size, pc, cell), // JMN.B $, @
-        109 => arm::<C, 14, 1, 1, 4>(cells, size, pc, cell), // SPL.B $, {
-        110 => arm::<C, 14, 1, 1, 7>(cells, size, pc, cell), // SPL.B $, >
-        111 => arm::<C, 14, 1, 1, 6>(cells, size, pc, cell), // SPL.B $, }
-        112 => arm::<C, 14, 1, 0, 2>(cells, size, pc, cell), // SPL.B #, *
-        113 => arm::<C, 14, 1, 2, 1>(cells, size, pc, cell), // SPL.B *, $
-        114 => arm::<C, 14, 1, 2, 4>(cells, size, pc, cell), // SPL.B *, {
-        115 => arm::<C, 7, 1, 0, 6>(cells, size, pc, cell), // JMP.B #, }
-        116 => arm::<C, 2, 0, 0, 1>(cells, size, pc, cell), // ADD.A #, $
-        117 => arm::<C, 3, 0, 0, 1>(cells, size, pc, cell), // SUB.A #, $
-        118 => arm::<C, 2, 4, 0, 1>(cells, size, pc, cell), // ADD.F #, $
-        119 => arm::<C, 6, 0, 0, 1>(cells, size, pc, cell), // MOD.A #, $
-        120 => arm::<C, 3, 1, 1, 1>(cells, size, pc, cell), // SUB.B $, $
-        121 => arm::<C, 2, 5, 1, 1>(cells, size, pc, cell), // ADD.X $, $
-        122 => arm::<C, 3, 5, 1, 1>(cells, size, pc, cell), // SUB.X $, $
-        123 => arm::<C, 13, 2, 0, 1>(cells, size, pc, cell), // SLT.AB #, $
-        124 => arm::<C, 13, 0, 0, 1>(cells, size, pc, cell), // SLT.A #, $
-        125 => arm::<C, 11, 5, 1, 1>(cells, size, pc, cell), // SEQ.X $, $
-        126 => arm::<C, 12, 5, 1, 1>(cells, size, pc, cell), // SNE.X $, $
-        _ => arm::<C, 0, 4, 1, 5>(cells, size, pc, cell), // DAT.F $, <
+        64 => arm::<C, 1, 6, 0, 5>(cells, size, pc, cell, class), // MOV.I #, <
+        65 => arm::<C, 1, 6, 0, 7>(cells, size, pc, cell, class), // MOV.I #, >
+        66 => arm::<C, 1, 6, 4, 4>(cells, size, pc, cell, class), // MOV.I {, {
+        67 => arm::<C, 1, 6, 4, 7>(cells, size, pc, cell, class), // MOV.I {, >
+        68 => arm::<C, 1, 6, 3, 6>(cells, size, pc, cell, class), // MOV.I @, }
+        69 => arm::<C, 1, 6, 0, 6>(cells, size, pc, cell, class), // MOV.I #, }
+        70 => arm::<C, 1, 6, 7, 4>(cells, size, pc, cell, class), // MOV.I >, {
+        71 => arm::<C, 1, 6, 5, 6>(cells, size, pc, cell, class), // MOV.I <, }
+        72 => arm::<C, 1, 6, 2, 6>(cells, size, pc, cell, class), // MOV.I *, }
+        73 => arm::<C, 1, 6, 0, 4>(cells, size, pc, cell, class), // MOV.I #, {
+        74 => arm::<C, 1, 6, 7, 3>(cells, size, pc, cell, class), // MOV.I >, @
+        75 => arm::<C, 1, 6, 4, 6>(cells, size, pc, cell, class), // MOV.I {, }
+        76 => arm::<C, 1, 6, 3, 7>(cells, size, pc, cell, class), // MOV.I @, >
+        77 => arm::<C, 1, 6, 7, 5>(cells, size, pc, cell, class), // MOV.I >, <
+        78 => arm::<C, 1, 6, 6, 5>(cells, size, pc, cell, class), // MOV.I }, <
+        79 => arm::<C, 1, 6, 6, 1>(cells, size, pc, cell, class), // MOV.I }, $
+        80 => arm::<C, 1, 6, 6, 6>(cells, size, pc, cell, class), // MOV.I }, }
+        81 => arm::<C, 1, 6, 6, 4>(cells, size, pc, cell, class), // MOV.I }, {
+        82 => arm::<C, 1, 6, 7, 7>(cells, size, pc, cell, class), // MOV.I >, >
+        83 => arm::<C, 1, 6, 5, 7>(cells, size, pc, cell, class), // MOV.I <, >
+        84 => arm::<C, 1, 6, 3, 1>(cells, size, pc, cell, class), // MOV.I @, $
+        85 => arm::<C, 1, 6, 2, 1>(cells, size, pc, cell, class), // MOV.I *, $
+        86 => arm::<C, 7, 1, 1, 7>(cells, size, pc, cell, class), // JMP.B $, >
+        87 => arm::<C, 7, 1, 1, 6>(cells, size, pc, cell, class), // JMP.B $, }
+        88 => arm::<C, 7, 1, 0, 5>(cells, size, pc, cell, class), // JMP.B #, <
+        89 => arm::<C, 7, 1, 0, 4>(cells, size, pc, cell, class), // JMP.B #, {
+        90 => arm::<C, 7, 1, 0, 1>(cells, size, pc, cell, class), // JMP.B #, $
+        91 => arm::<C, 10, 4, 1, 1>(cells, size, pc, cell, class), // DJN.F $, $
+        92 => arm::<C, 10, 4, 1, 3>(cells, size, pc, cell, class), // DJN.F $, @
+        93 => arm::<C, 10, 1, 0, 5>(cells, size, pc, cell, class), // DJN.B #, <
+        94 => arm::<C, 10, 1, 1, 4>(cells, size, pc, cell, class), // DJN.B $, {
+        95 => arm::<C, 10, 1, 1, 6>(cells, size, pc, cell, class), // DJN.B $, }
+        96 => arm::<C, 10, 1, 1, 7>(cells, size, pc, cell, class), // DJN.B $, >
+        97 => arm::<C, 10, 1, 1, 3>(cells, size, pc, cell, class), // DJN.B $, @
+        98 => arm::<C, 7, 1, 0, 0>(cells, size, pc, cell, class), // JMP.B #, #
+        99 => arm::<C, 7, 1, 0, 2>(cells, size, pc, cell, class), // JMP.B #, *
+        100 => arm::<C, 7, 1, 0, 7>(cells, size, pc, cell, class), // JMP.B #, >
+        101 => arm::<C, 8, 4, 1, 2>(cells, size, pc, cell, class), // JMZ.F $, *
+        102 => arm::<C, 8, 4, 1, 3>(cells, size, pc, cell, class), // JMZ.F $, @
+        103 => arm::<C, 8, 4, 1, 7>(cells, size, pc, cell, class), // JMZ.F $, >
+        104 => arm::<C, 8, 1, 1, 4>(cells, size, pc, cell, class), // JMZ.B $, {
+        105 => arm::<C, 8, 1, 1, 5>(cells, size, pc, cell, class), // JMZ.B $, <
+        106 => arm::<C, 8, 1, 1, 2>(cells, size, pc, cell, class), // JMZ.B $, *
+        107 => arm::<C, 9, 1, 1, 2>(cells, size, pc, cell, class), // JMN.B $, *
+        108 => arm::<C, 9, 1, 1, 3>(cells, size, pc, cell, class), // JMN.B $, @
+        109 => arm::<C, 14, 1, 1, 4>(cells, size, pc, cell, class), // SPL.B $, {
+        110 => arm::<C, 14, 1, 1, 7>(cells, size, pc, cell, class), // SPL.B $, >
+        111 => arm::<C, 14, 1, 1, 6>(cells, size, pc, cell, class), // SPL.B $, }
+        112 => arm::<C, 14, 1, 0, 2>(cells, size, pc, cell, class), // SPL.B #, *
+        113 => arm::<C, 14, 1, 2, 1>(cells, size, pc, cell, class), // SPL.B *, $
+        114 => arm::<C, 14, 1, 2, 4>(cells, size, pc, cell, class), // SPL.B *, {
+        115 => arm::<C, 7, 1, 0, 6>(cells, size, pc, cell, class), // JMP.B #, }
+        116 => arm::<C, 2, 0, 0, 1>(cells, size, pc, cell, class), // ADD.A #, $
+        117 => arm::<C, 3, 0, 0, 1>(cells, size, pc, cell, class), // SUB.A #, $
+        118 => arm::<C, 2, 4, 0, 1>(cells, size, pc, cell, class), // ADD.F #, $
+        119 => arm::<C, 6, 0, 0, 1>(cells, size, pc, cell, class), // MOD.A #, $
+        120 => arm::<C, 3, 1, 1, 1>(cells, size, pc, cell, class), // SUB.B $, $
+        121 => arm::<C, 2, 5, 1, 1>(cells, size, pc, cell, class), // ADD.X $, $
+        122 => arm::<C, 3, 5, 1, 1>(cells, size, pc, cell, class), // SUB.X $, $
+        123 => arm::<C, 13, 2, 0, 1>(cells, size, pc, cell, class), // SLT.AB #, $
+        124 => arm::<C, 13, 0, 0, 1>(cells, size, pc, cell, class), // SLT.A #, $
+        125 => arm::<C, 11, 5, 1, 1>(cells, size, pc, cell, class), // SEQ.X $, $
+        126 => arm::<C, 12, 5, 1, 1>(cells, size, pc, cell, class), // SNE.X $, $
+        _ => arm::<C, 0, 4, 1, 5>(cells, size, pc, cell, class), // DAT.F $, <
         // end of further classes
     }
 }
