@@ -28,9 +28,10 @@ ENVIRONMENT = {name: value for name, value in os.environ.items() if name != "RT_
 
 
 def copy_tree(to, *left_out):
-    """Copies the tree without what was built in it and without the folders `left_out`."""
+    """Copies the tree without what was built in it and without the folders `left_out`. Links stay
+    links, which `rt ci` refuses."""
     ignored = shutil.ignore_patterns(".git", "out", "__pycache__", *left_out)
-    shutil.copytree(ROOT, to, ignore=ignored, dirs_exist_ok=True)
+    shutil.copytree(ROOT, to, symlinks=True, ignore=ignored, dirs_exist_ok=True)
 
 
 def begin(words, folder, **how):

@@ -4,17 +4,8 @@ import os, signal, sys
 
 def run(path):
     """Runs the command at this path. Until `run_tool` does, Ctrl-C ends it without a word."""
-    names = [os.path.basename(path)]
-    while os.path.islink(path):
-        path = os.path.join(os.path.dirname(path), os.readlink(path))
-        names.append(os.path.basename(path))
-    # A link to a command may have any name, so the last that is one of the commands counts.
-    commands = [name for name in names if name.startswith("cwtune-")
-                and os.path.lexists(os.path.join(os.path.dirname(path), name))]
-    if not commands:
-        sys.stderr.write("error: no command for authors is called %s\n" % names[0])
-        sys.exit(2)
-    name = commands[-1]
+    # A link to a command may have any name.
+    name = os.path.basename(os.path.realpath(path))
     if signal.getsignal(signal.SIGINT) == signal.default_int_handler:
         signal.signal(signal.SIGINT, signal.SIG_DFL)
     if sys.version_info < (3, 11):

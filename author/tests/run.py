@@ -47,7 +47,6 @@ RUN_PROGRAM = ["cwtune-adapt ../warriors/dwarf.red",
                "cwtune-warrior step.red --setting 3", "cwtune-vary ../warriors/dwarf.red step=4:5",
                "cwtune-seek --jobs=2 step.red schedule.csv ../warriors/dwarf.red",
                "cwtune-study step.red ../warriors/dwarf.red"]
-NO_COMMAND = "error: no command for authors is called {}\n"
 NO_PROGRAM = "no cwtune here or on the PATH: give --program FILE\n"
 COMMANDS = sorted(path.name for path in AUTHOR.glob("cwtune-*"))
 PICTURES = {
@@ -118,17 +117,12 @@ class Commands(Trial):
             self.same(words, (3, f"failed: {fault}\n"), (completed.returncode, completed.stderr))
 
     def test_link(self):
-        """Runs a command by links: of another name, of another command's name, of no command."""
         with tempfile.TemporaryDirectory() as folder:
-            for name, target, want in [
-                    ("numbers", "cwtune-series", (0, "")),
-                    ("cwtune-best", "cwtune-series", (0, "")),
-                    ("cwtune-none", "command", (2, NO_COMMAND.format("cwtune-none")))]:
+            for name in "numbers", "cwtune-best":
                 link = pathlib.Path(folder, name)
-                link.symlink_to(AUTHOR / target)
-                completed = subprocess.run([link, "1234", "25", "5"], capture_output=True,
-                                           text=True)
-                self.same(f"{name} -> {target}", want, (completed.returncode, completed.stderr))
+                link.symlink_to(AUTHOR / "cwtune-series")
+                completed = subprocess.run([link, "1234", "25", "5"], capture_output=True)
+                self.same(f"{name}, a link", (0, b""), (completed.returncode, completed.stderr))
 
     def test_closed(self):
         for name in COMMANDS:
