@@ -11,7 +11,8 @@ PATH = "/usr/local/sbin:/usr/local/bin:/usr/sbin:/usr/bin:/sbin:/bin"
 SSHD = shutil.which("sshd", path=PATH)
 SHELLS = {"tcsh": shutil.which("tcsh"), "fish": shutil.which("fish")}
 NAMES = ["good", "shared", "noexec", "silent", "dying", "dead", *SHELLS]
-# A directory that sshd wants to see if root runs it.
+# A directory that sshd wants to see at each login if root runs it. It stays, since other trials may
+# use it at the same time.
 SEPARATION = pathlib.Path("/run/sshd")
 # Templates of the files of sshd, ssh and Slurm, and what a login runs.
 CONFIGS = pathlib.Path(__file__).with_name("configs")
@@ -89,7 +90,6 @@ class SshHosts:
 
     def __init__(self, folder):
         self.folder, self.jobs = pathlib.Path(folder), {}
-        self.made_separation = False
 
     def __enter__(self):
         self.folder.mkdir()
@@ -98,9 +98,8 @@ class SshHosts:
                             self.folder / name], check=True)
         (self.folder / "login").write_text(config("login.sh", path=PATH))
         (self.folder / "authorized").write_text("".join(map(self.authorized, NAMES)))
-        if os.getuid() == 0 and not SEPARATION.exists():
-            SEPARATION.mkdir()
-            self.made_separation = True
+        if os.getuid() == 0:
+            SEPARATION.mkdir(exist_ok=True)
         ports = {"dead": free_port(), "dying": self.start_sshd("dying")}
         port = self.start_sshd("sshd")
         self.proxy = Proxy(port)
@@ -116,8 +115,6 @@ class SshHosts:
         for job in self.jobs.values():
             kill_all(job.pid)
             job.wait()
-        if self.made_separation:
-            SEPARATION.rmdir()
 
     def home(self, name):
         """Returns the home of a host. This one is called `here`."""
