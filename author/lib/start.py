@@ -11,10 +11,7 @@ def run(path):
     # A link to a command may have any name, so the last that is one of the commands counts.
     commands = [name for name in names if name.startswith("cwtune-")
                 and os.path.lexists(os.path.join(os.path.dirname(path), name))]
-    if not commands:
-        sys.stderr.write("error: no command for authors is called %s\n" % names[0])
-        sys.exit(2)
-    name = commands[-1]
+    name = (commands or ["cwtune"])[-1]
     if signal.getsignal(signal.SIGINT) == signal.default_int_handler:
         signal.signal(signal.SIGINT, signal.SIG_DFL)
     if sys.version_info < (3, 11):
@@ -23,8 +20,14 @@ def run(path):
         sys.exit(3)
     try:
         import importlib
-        from .endings import run_tool
+        from .endings import Fault, run_tool
     except (MemoryError, ImportError, OSError) as error:  # without memory it may be any of them
         sys.stderr.write("failed: %s\n" % (str(error) or "out of memory"))
         sys.exit(3)
-    run_tool(lambda: importlib.import_module("." + name[len("cwtune-"):], __package__).main())
+
+    def main():
+        if not commands:
+            raise Fault("no command for authors is called %s" % names[0], 2)
+        return importlib.import_module("." + name[len("cwtune-"):], __package__).main()
+
+    run_tool(main)

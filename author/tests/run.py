@@ -123,7 +123,8 @@ class Commands(Trial):
             for name, target, want in [
                     ("numbers", "cwtune-series", (0, "")),
                     ("cwtune-best", "cwtune-series", (0, "")),
-                    ("cwtune-none", "command", (2, NO_COMMAND.format("cwtune-none")))]:
+                    ("cwtune-none", "command", (2, NO_COMMAND.format("cwtune-none"))),
+                    ("cwtune-\x1bc", "command", (2, NO_COMMAND.format("cwtune-\\x1bc")))]:
                 link = pathlib.Path(folder, name)
                 link.symlink_to(AUTHOR / target)
                 completed = subprocess.run([link, "1234", "25", "5"], capture_output=True,
