@@ -8,12 +8,13 @@ to be compared with. The fights of a setting end once it is certain that it is n
 Prints the template with what it found as START. On standard error it says by how much its total
 exceeds START's, which is more than it gained: the total has picked it.
 """
-import math, pathlib, random, resource, sys, tempfile
+import math, pathlib, random, sys, tempfile
 from typing import NamedTuple
 
 from author.lib.endings import end_as, run_tool
 from author.lib.grid import Grid
 from author.lib.program import NO_CANDIDATE, Rules, program_of, reading_output, run_program
+from author.lib.race.fights import processor_seconds
 from author.lib.tuning_files import Fight, schedule_text
 from author.lib.words import add_files, add_program, module_parser, number_from
 
@@ -33,12 +34,6 @@ class Player(NamedTuple):
 
     share: float
     values: tuple
-
-
-def processor_seconds():
-    """Returns the processor seconds of this process and of the children that ended."""
-    return sum(sum(resource.getrusage(who)[:2])
-               for who in (resource.RUSAGE_SELF, resource.RUSAGE_CHILDREN))
 
 
 def schedule_of(position_dice, rounds, opponents):

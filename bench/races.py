@@ -32,7 +32,7 @@ COUNTS = re.compile(r"^Results: (\d+) (\d+) (\d+)$", re.M)
 SAID = re.compile(r"^over START: ([+-][0-9.]+)% \+- ([0-9.]+)", re.M)
 # The climb has no end by time: it is stopped at this part of its budget, and gives the best so far.
 CLIMB_PART = 0.97
-# It climbs in so many fights against each opponent, from this budget on in MANY.
+# The climb's fights against each opponent: FEW, and with a budget of LONG seconds or more MANY.
 FEW, MANY, LONG = 10, 20, 150
 # The first position of its fights, which the seed moves.
 FIRST_POSITION = 4320

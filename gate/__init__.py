@@ -1,7 +1,7 @@
 """What `make test` runs beside `rt ci`. At the top: `python3 -m gate.NAME`, with `--help` for more.
 
-Each module prints what failed, and as its last line `N passed, N failed`. Its exit status is 1 if
-something failed, or if nothing was tried.
+Each module but `answers` prints what failed, and as its last line `N passed, N failed`. Its exit
+status is 1 if something failed, or if nothing was tried.
 
 gate             runs all of it, on a copy of the tree
 answers          which answers the prover does without (run by hand)

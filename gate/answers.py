@@ -1,13 +1,14 @@
 """Looks which answers the prover does without, in crates/CRATE/proofs/.
 
 Takes every Answers.antt of a crate away, and checks the crate. What is proved all the same needs no
-answers: its file is named, and with --delete it stays away. All other files are put back. The
-search may take longer than an answer did, so look at what a check of the crate costs before and
-after.
+answers: its file is named, and with --delete it stays away. All other files are put back. All have
+to be committed, so that a check that is killed loses none. The search may take longer than an
+answer did, so look at what a check of the crate costs before and after.
 """
 import re, shutil, subprocess
 
 from author.lib.endings import Fault, run_tool
+from author.lib.program import output_of
 from author.lib.words import module_parser
 
 from .lib.running import ROOT
@@ -25,6 +26,8 @@ def function_of(crate, file):
 def without_answers(crate):
     """Returns the files of answers of the functions that are proved without them."""
     files = sorted(crate.glob("proofs/**/Answers.antt"))
+    if changed := files and output_of(["git", "status", "--porcelain", "--", *files], cwd=crate):
+        raise Fault(f"not committed: {changed.split()[1]}", 2)
     kept = {file: file.read_bytes() for file in files}
     try:
         for file in files:

@@ -130,15 +130,18 @@ def is_printed(expected, output):
 
 
 def typed(program, runs, folder):
-    """Types commands in a shell. Returns the output and the status of each, as far as it comes."""
+    """Types commands in a shell, for SECONDS at most. Returns the output and the status of each, as
+    far as it comes."""
     shell = "".join(f"{run.command}\necho \"{END} $?\"\n" for run in runs)
     path = f"{pathlib.Path(program).parent}:{ROOT / 'author'}:{os.environ['PATH']}"
-    try:
-        out = subprocess.run(["bash", "-c", shell], cwd=folder, env={**os.environ, "PATH": path},
-                             stdin=subprocess.DEVNULL, stdout=subprocess.PIPE,
-                             stderr=subprocess.STDOUT, encoding="utf-8", timeout=SECONDS).stdout
-    except subprocess.TimeoutExpired as late:
-        out = (late.stdout or b"").decode(errors="replace")
+    words = ["timeout", "--kill-after=5", str(SECONDS), "bash", "-c", shell]
+    with subprocess.Popen(words, cwd=folder, env={**os.environ, "PATH": path},
+                          stdin=subprocess.DEVNULL, stdout=subprocess.PIPE,
+                          stderr=subprocess.STDOUT, encoding="utf-8", errors="replace") as job:
+        try:
+            out = job.communicate()[0]
+        finally:
+            job.terminate()  # Ctrl-C does not reach what bash began
     parts = re.split(rf"{END} (\d+)\n", out)
     return list(zip(parts[::2], parts[1::2]))
 

@@ -5,12 +5,14 @@ Each module of `gate` that can be run has to be in the lists of gate.gate and of
 but for those that are run by hand.
 """
 import pathlib, re, sys, tempfile
+from unittest import mock
 
 import gate.lib
 from author.lib.endings import Fault, run_tool
 from author.lib.words import module_parser
 from pmars.compare import Programs
 
+from . import documents
 from .gate import EDITS, STEPS
 from .lib.running import ROOT, ran, ran_module
 from .lib.tally import compare, tally
@@ -55,6 +57,7 @@ def failing():
     said = "failed: stone.red: a search ended with status 1\n"
     yield compare(" ".join(words), (3, "", said), ran_module(*words))
     yield "a listing of pMARS that is refused", refused_listing()
+    yield "a command of a document that takes too long", left_running()
     yield from left_out()
     for text, said in CASES.items():
         yield compare(f"a case with {text!r}", (1, "", said), played(text))
@@ -85,6 +88,15 @@ def refused_listing():
             return [f"got {Programs(FAILING, '/bin/echo', folder).listing('')!r}"]
         except Fault:
             return []
+
+
+def left_running():
+    """Types a command that takes too long. Returns what is wrong, in a list."""
+    run = documents.Run("", "sleep 9 >/dev/null & echo $! >pid; wait", "")
+    with tempfile.TemporaryDirectory() as folder, mock.patch.object(documents, "SECONDS", 0.5):
+        documents.typed(FAILING, [run], folder)
+        pid = pathlib.Path(folder, "pid").read_text().strip()
+        return ["it goes on"] * pathlib.Path(f"/proc/{pid}/cwd").exists()
 
 
 def modules_of(rooms, text=""):

@@ -79,8 +79,8 @@ def progress(place):
 
 
 def seen(place, words, count):
-    """Runs with a terminal as standard error until it has shown so many progress lines, or the run
-    ends. Returns the lines, and the seconds that they took."""
+    """Runs with a terminal as standard error until it has shown `count` lines of progress, or the
+    run ends. Returns the lines, and the seconds that they took."""
     began, text, lines = time.monotonic(), b"", []
     with open_terminal() as (screen, program_end):
         process = place.start(words, stderr=program_end)

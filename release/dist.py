@@ -10,7 +10,7 @@ import contextlib, gzip, hashlib, pathlib, re, shutil, subprocess, tarfile, temp
 from typing import NamedTuple
 
 from author.lib.endings import Fault, run_tool
-from author.lib.program import BUILT
+from author.lib.program import BUILT, output_of
 from author.lib.words import module_parser
 from author.lib.writing import whole_file
 
@@ -36,7 +36,7 @@ Version: {version}
 Architecture: amd64
 Maintainer: the cwtune project
 Depends: libc6 (>= 2.34), python3 (>= 3.11)
-Suggests: parallel, python3-matplotlib
+Suggests: openssh-client, parallel, procps, python3-matplotlib, rsync
 Section: games
 Priority: optional
 Description: tunes Core War warriors, with a certificate of the answer
@@ -58,18 +58,10 @@ class Build(NamedTuple):
     proof: str
 
 
-def run(*words):
-    """Runs a command, which has to succeed. Returns what it prints."""
-    done = subprocess.run(words, stdin=subprocess.DEVNULL, capture_output=True, text=True)
-    if done.returncode != 0:
-        raise Fault(f"{' '.join(map(str, words))} ended with status {done.returncode}: "
-                    f"{done.stderr.strip()}", 3)
-    return done.stdout
-
-
 def proved():
     """Returns what was proved: the kit, and a line for each crate from its check."""
-    lines = [f"Proved with {run('rt', 'version').strip()}", f"program: SHA-256 {sha256(BUILT)}", ""]
+    kit = output_of(["rt", "version"]).strip()
+    lines = [f"Proved with {kit}", f"program: SHA-256 {sha256(BUILT)}", ""]
     for crate in re.findall(r"(?m)^(\w+)(?<!_tests):", (ROOT / "crates.txt").read_text()):
         done = subprocess.run(["rt", "check"], cwd=ROOT / "crates" / crate, capture_output=True,
                               text=True)
@@ -223,7 +215,7 @@ def debian(folder, build):
         (tree / "DEBIAN/prerm").write_text(DEBIAN_PRERM)
         (tree / "DEBIAN/prerm").chmod(0o755)
         package = folder / f"cwtune_{version}_amd64.deb"
-        run("dpkg-deb", "--root-owner-group", "--build", str(tree), str(package))
+        output_of(["dpkg-deb", "--root-owner-group", "--build", tree, package])
     return [package]
 
 

@@ -53,9 +53,10 @@ FILES = [
     Item("CERT.inputs", "Which inputs the certificate is for: rules, part, method, and the size "
          "and the SHA-256 digest of each file. The commands for authors read it; no check needs "
          "it"),
-    Item(f"/usr/share/{NAME}/examples", "Warriors, templates and scripts"),
-    Item(f"/usr/share/doc/{NAME}", "The documents: COMMANDS has every option and fault "
-         "line, FORMATS every format, REDCODE the language, USING how many fights a tuning needs"),
+    Item(f"share/{NAME}/examples", "Below the prefix, /usr in the package: warriors, templates and "
+         "scripts"),
+    Item(f"share/doc/{NAME}/docs", "Below it, too: COMMANDS has every option and fault line, "
+         "FORMATS every format, REDCODE the language, USING how many fights a tuning needs"),
 ]
 FAULTS = ("A refusal is a line `refused: ..` on standard error with the names of the fault, and "
           "the line or the record at fault. At a terminal, or with --explain, more lines say what "

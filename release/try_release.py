@@ -8,6 +8,7 @@ PATH the Debian package is left out.
 import contextlib, importlib, pathlib, re, shutil, subprocess, tarfile, tempfile
 
 from author.lib.endings import Fault, run_tool
+from author.lib.program import output_of
 from author.lib.words import program_word
 from gate.lib.tally import LeftOut, compare, tally
 
@@ -93,6 +94,8 @@ def trial_of_tar(work, build):
     if status:
         yield text
     yield from faults_of_use(tree)
+    yield from (f"no folder {item.term}" for item in manual.FILES
+                if "/" in item.term and not (tree / item.term).is_dir())
 
 
 def trial_of_install(work, build):
@@ -134,7 +137,7 @@ def trial_of_broken_install(work, build):
 
 def trial_of_faults(work, _):
     """Looks for licences where there are none, and runs a command that fails."""
-    for call, word in [(dist.licences, work), (dist.run, "false")]:
+    for call, word in [(dist.licences, work), (output_of, ["false"])]:
         with contextlib.suppress(Fault):
             call(word)
             yield f"{call.__name__} {word}: no fault"
@@ -159,9 +162,9 @@ def trial_of_builds(work, build):
 def trial_of_package(work, build):
     """Unpacks a Debian package of a program that was built before, and uses it."""
     [package] = dist.debian(work, dist.build_of(build.path, dist.sha256(build.path), None))
-    line = dist.run("dpkg-deb", "--field", str(package), "Description").splitlines()[-1]
+    line = output_of(["dpkg-deb", "--field", package, "Description"]).splitlines()[-1]
     yield from compare("what is proved", " Not proved here: the program was built before.", line)[1]
-    dist.run("dpkg-deb", "--extract", str(package), str(work / "system"))
+    output_of(["dpkg-deb", "--extract", package, work / "system"])
     yield from faults_of_use(work / "system/usr", dist.DEBIAN_ZSH)
 
 

@@ -2,7 +2,7 @@
 import math, pathlib, re
 
 from .endings import Fault
-from .pmars.tokens import NAME
+from .pmars.tokens import NAME, code_of
 
 BLANKS = b" \t\r"
 # A line of the author's text that `cwtune-vary` keeps in a template, and a slot in it (`slots`).
@@ -32,7 +32,8 @@ class Grid:
         self.start_values = tuple(start_values)
         if len(set(self.names)) < len(self.names):
             raise Fault(f"{path}: two range lines of one constant")
-        kept = [line.decode("latin-1") for line in self.lines if line.startswith(KEPT.encode())]
+        kept = [code_of(line.decode("latin-1").removeprefix(KEPT)) for line in self.lines
+                if line.startswith(KEPT.encode())]
         self.lists = {match[1]: match[2].split(",") for line in kept
                       for match in SLOT.finditer(line) if match[1] in self.names and match[2]}
         for name, values in zip(self.names, self.ranges):

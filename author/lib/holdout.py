@@ -29,7 +29,7 @@ from .words import (FILE_HELP, add_cwtune, add_files, add_number, add_shared, co
 from .writing import temporary_folder
 
 
-def output_of(*words):
+def printed_by(*words):
     """Runs the program, and returns what it prints. Its fault is this command's."""
     completed = run_program(*words)
     if completed.returncode != 0:
@@ -59,13 +59,13 @@ class Holdout:
         """Returns what a warrior makes as the only setting of a template, at the same positions as
         all others. `asm_words` are the words of `cwtune asm` for it."""
         args, rules = self.args, rules_of(self.args).words()
-        load_file = output_of(args.program, "asm", *EXPLAIN, *rules, *asm_words)
+        load_file = printed_by(args.program, "asm", *EXPLAIN, *rules, *asm_words)
         with temporary_folder() as folder:
             files = [pathlib.Path(folder, name) for name in ("t.red", "s.csv", "cert")]
             template, schedule, cert = files
             template.write_bytes(load_file)
             schedule.write_text(self.schedule())
-            output_of(args.program, "tune", *EXPLAIN, *rules, "--", *files, *args.opponents)
+            printed_by(args.program, "tune", *EXPLAIN, *rules, "--", *files, *args.opponents)
             points = tuning_files.Certificate(cert).points(0)
         rounds = args.rounds
         return FreshPoints([[points[opponent * rounds + index] for index in range(rounds)]

@@ -162,7 +162,7 @@ def draw_maps(plot, totals, x, y):
 
 
 def label_map(axes, template, x, y, held, inches):
-    """Labels a map, which is so many inches wide. `held` has the values of the other constants."""
+    """Labels a map of width `inches`. `held` has the values of the other constants."""
     names = template.names
     across, upwards = ([template.shown_value(names[constant], value)
                         for value in template.ranges[constant]] for constant in (x, y))

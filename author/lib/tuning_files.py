@@ -320,7 +320,8 @@ def schedule_text(fights):
 def read_fight(record):
     """Returns a fight, or raises a ValueError if the record is not one."""
     opponent, position, first, weight = record
-    if int(opponent) < 0 or first not in ("c", "o") or not 1 <= int(weight) <= MOST_WEIGHT:
+    if not (all(re.fullmatch("[0-9]{1,9}", word) for word in (opponent, position, weight))
+            and first in ("c", "o") and 1 <= int(weight) <= MOST_WEIGHT):
         raise ValueError
     return Fight(int(opponent), int(position), first, int(weight))
 

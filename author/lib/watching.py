@@ -36,10 +36,12 @@ PACE = Pace(0.5 if AT_TERMINAL else 15)
 def watched(items, count, what):
     """Yields the items, of which there are `count`, and now and then shows how many were."""
     shown = False
-    for index, item in enumerate(items):
-        if index % 1024 == 1023 and PACE.begins_pause():
-            (rewrite if AT_TERMINAL else tell)(f"{what}: {index + 1} of {count}")
-            shown = AT_TERMINAL
-        yield item
-    if shown:
-        rewrite()
+    try:
+        for index, item in enumerate(items):
+            if index % 1024 == 1023 and PACE.begins_pause():
+                (rewrite if AT_TERMINAL else tell)(f"{what}: {index + 1} of {count}")
+                shown = AT_TERMINAL
+            yield item
+    finally:
+        if shown:
+            rewrite()

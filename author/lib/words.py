@@ -1,5 +1,5 @@
 """Makes the parsers of the commands, with the files, options and numbers that several have."""
-import argparse, json, os, shutil, sys
+import argparse, json, os, re, shutil, sys
 
 from .endings import escaped
 from .program import BUILT, DEFAULT, HILLS, Rules, program_of
@@ -20,7 +20,7 @@ MEANING = {"core": "the core size", "cycles": "the most cycles of a fight",
 class Parser(argparse.ArgumentParser):
     """A parser to which names after `--` are files, also where files and options are mixed."""
 
-    # What stands before a name with a dash while argparse reads it. No word of a command has it.
+    # What is put before a name with a dash while argparse reads it. No word of a command has it.
     FENCE = "\0"
 
     def parse_args(self):
@@ -65,6 +65,8 @@ def number_from(low, high=None):
     limits = f"{low} or more" if high is None else f"{low} to {high}"
 
     def read(word):
+        if not re.fullmatch("[+-]?[0-9]+", word):
+            raise ValueError
         number = int(word)
         if number < low or high is not None and number > high:
             raise argparse.ArgumentTypeError(f"{word} is not {limits}")
@@ -149,5 +151,5 @@ def add_cwtune(parser, of_tuning=False):
     add_hill(group, "the rules of the tuning, else 94nop" if of_tuning else "94nop")
     whose = "that of the tuning" if of_tuning else "that of the hill"
     for name, number in Rules()._asdict().items():
-        group.add_argument(f"--{name}", type=int, metavar="N",
+        group.add_argument(f"--{name}", type=number_from(0), metavar="N",
                            help=f"{MEANING[name]} [default: {whose}, else {number}]")

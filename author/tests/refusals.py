@@ -44,6 +44,8 @@ NOT_SCHEDULES = {
     "first-z.csv": b"opponent,position,first\n0,3670,z\n",
     "10001-fights.csv": b"opponent,position,first\n" + b"0,3670,c\n" * 10001,
     "opponent-below-0.csv": b"opponent,position,first\n-1,3670,c\n",
+    "position-below-0.csv": b"opponent,position,first\n0,-3670,c\n",
+    "position-3_670.csv": b"opponent,position,first\n0,3_670,c\n",
 }
 NOT_CERTIFICATES = {
     "fight-below-0.cert": b"cwcert,1,1\nbest,0,3\ncap,0,-1:3\n",
@@ -149,6 +151,7 @@ WRONG_WORDS = [
         ("step.cert schedule.csv --top x", "argument --top: invalid number value: 'x'")]),
     *usage_errors("cwtune-series", [
         ("1234 -5 -2", "argument ROUNDS: -5 is not 1 to 10000"),
+        ("1234 1_0 2", "argument ROUNDS: invalid number value: '1_0'"),
         ("1234 5 65", "argument OPPONENTS: 65 is not 1 to 64"),
         ("1234 5 2 --core 70000", "argument --core: 70000 is not 8 to 65535"),
         ("1234 5 2 --distance 0", "argument --distance: 0 is not 1 to 32767"),
@@ -158,7 +161,8 @@ WRONG_WORDS = [
                               "'nano', 'lp')")]),
     *usage_errors("cwtune-holdout two.red more-than-the-best.cert x.red", [
         ("--rounds 10001", "--rounds 10001 against 1 opponent: more than 10000 fights"),
-        ("--distance 4001", "--distance is more than half of --core")]),
+        ("--distance 4001", "--distance is more than half of --core"),
+        ("--core 8_000", "argument --core: invalid number value: '8_000'")]),
     *usage_errors("cwtune-landscape", [
         ("stone.red all-fights.cert x.png --axes STEP,STEP",
          "--axes takes two of the constants STEP, FIRST, as in A,B"),

@@ -161,7 +161,8 @@ class Reporting(Trial):
         race = REPORTS["a race"]
         luck = f"{17.25 - race['gain']['percent']:.1f} of these were luck."
         self.says(race, "1513 of the template's 134,421 settings raced, in 51,234 fights.", luck)
-        self.says(race, "Nothing better than START was found.", gain=None)
+        self.says(race, "No fights were left to measure the gain. Keep START.", gain=None)
+        self.says(race, "Nothing better than START was found.", gain=None, winner=race["start"])
         self.says(REPORTS["a race and a box"], "Proved: the first 10 of the 243 settings around "
                   "the race's winner, of which 31 do not assemble, in 96 fights each.",
                   "none of them was better")

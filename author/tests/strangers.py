@@ -5,6 +5,7 @@ from unittest import mock
 
 from author.lib import writing
 from author.lib.endings import quoted
+from author.lib.spread.hosts import HostJobs
 from gate.lib import play
 
 from .origins import note
@@ -53,8 +54,8 @@ class Finder:
 sys.meta_path.insert(0, Finder())
 start.run("cwtune-files")
 """
-READ = """from author.lib import files, watching; import sys
-watching.PACE.pause = 0; sys.argv = ['f', 'big.cert']; files.main()
+READ = """from author.lib import endings, files, watching; import sys
+watching.PACE.pause = 0; sys.argv = ['f', 'big.cert']; endings.run_tool(files.main)
 """
 # Runs a command for a user without a home.
 HOMELESS = """import os, pwd; from author.lib import start
@@ -229,14 +230,16 @@ class Memory(Trial):
         completed = python(READ, cwd=self.folder)
         self.same("how far it is", (0, "rows of big.cert: 1024 of 10000"), (
             completed.returncode, completed.stderr.splitlines()[0]))
+        self.write("big.cert", self.read("big.cert") + b"x\n")
         with play.open_terminal() as (screen, program_end):
             fcntl.ioctl(program_end, termios.TIOCSWINSZ, struct.pack("4H", 9, 20, 0, 0))
             python(READ, cwd=self.folder, capture_output=False, stdout=subprocess.DEVNULL,
                    stderr=program_end)
             program_end.close()
             lines = play.shown(screen).decode().split("\r")
-        self.same("a terminal's line is cut to its width, and cleared", (
-            "rows of big.cert: 1\x1b[K", "\x1b[K"), (lines[1], lines[-1]))
+        self.same("a terminal's line is cut to its width, and cleared before a fault", (
+            "rows of big.cert: 1\x1b[K", "\x1b[Krefused: big.cert: not a certificate\n"), (
+                lines[1], lines[-1]))
 
 
 class Endings(Trial):
@@ -310,6 +313,17 @@ echo $$ >> {self.folder}/pids; exec sleep 99""")
                           "cwtune-spread --anew --all --jobs=1 t.red s.csv CERT dat.red"]:
                 self.same(f"{signal_number.name} of {words}", (status, True, []),
                           self.ended_by(signal_number, words))
+
+    def test_no_guard(self):
+        """Starts GNU parallel, but cannot start its guard."""
+        self.write_program("parallel", "exec /bin/sleep 99")
+        jobs = object.__new__(HostJobs)
+        jobs.folder = mock.Mock(path=self.folder, file=lambda *_: self.folder)
+        with (mock.patch.dict(os.environ, {"PATH": str(self.folder)}),
+              contextlib.suppress(FileNotFoundError)):
+            jobs.start([], subprocess.DEVNULL, subprocess.DEVNULL)
+        jobs.stop()
+        self.same("GNU parallel is ended", -signal.SIGKILL, jobs.parallel.returncode)
 
     def test_signals_in_open(self):
         os.mkfifo(self.folder / "pipe")

@@ -247,6 +247,14 @@ class Studying(StudyTrial):
         self.same("one setting", "the winner is START: nothing better was found",
                   self.study("one.red", "all").out.splitlines()[-3])
 
+    def test_no_fights_left(self):
+        """Makes a study whose race, in which START alone is bad, leaves no fights for the gain."""
+        self.write("k.red", ";@tune K 0 20 1 5\nJMP K==5\n")
+        status, out, _ = self.study("--exact=9", "--fights=1000", "k.red", "all", "all")
+        report, line = self.report("k"), out.splitlines()[-3]
+        self.same("no gain is measured", (0, "keep START: no fights were left", False, None), (
+            status, line[:31], report["winner"]["values"] == {"K": 5}, report["gain"]))
+
     def test_opens(self):
         """Makes a study of a warrior with places of several kinds, in which settings race."""
         words = ["--exact=9", "--fights=2000", "w.red", "all", "STEP=1:9:2", "aim=7,-3,0",
@@ -343,6 +351,7 @@ class StudyRefused(StudyTrial):
         self.write("no-start.red", ";@tune K 1 2 1 2\nMOV 0, 1\nDAT 1/(K-2)\n")
         self.write("three-words.red", ";@tune K 1 2\n")
         self.write("long.red", "DAT 0\n" * 6)
+        self.write("K", "named as a constant\n")
         before = sorted(os.listdir(self.folder))
         no_program = Refusal("cwtune-study --program=none t.red all", 3,
                              f"failed: {self.folder}/none: No such file or directory")

@@ -6,7 +6,7 @@ from .trial import SECONDS, Refusal, Trial, command, refusals_of, usage_errors
 TEXT = """;redcode-94
 ;name Two Numbers
 ; STEP is not read here
-STEP EQU 5 ; of the bombs
+STEP EQU 5 ; was [STEP:44]
 far: equ (-20)
 both EQU STEP+1
         MOV  bomb, @bomb
@@ -188,6 +188,8 @@ class Varying(Trial):
         self.write("two.red", text)
         self.same("one constant", (0, template, "note: 3 settings\n"),
                   self.opened("two.red", "STEP=1:9:4"))
+        self.same("no slot is in a comment", "t.red: template of 3 settings, constants STEP\n",
+                  self.call("cwtune-files t.red").out)
         self.same("two constants", (
             0, template.replace("far: equ (-20)", FAR), "note: 15 settings\n"),
             self.opened("two.red", "far=-30:10:10", "STEP=1:9:4"))

@@ -5,8 +5,8 @@ ROOT = pathlib.Path(__file__).resolve().parents[2]
 
 
 def side_by_side(call, jobs):
-    """Returns what a call returns for each job, in a list. All processors are used."""
-    with concurrent.futures.ThreadPoolExecutor(os.cpu_count()) as pool:
+    """Returns what a call returns for each job, in a list. Uses all processors that it may."""
+    with concurrent.futures.ThreadPoolExecutor(len(os.sched_getaffinity(0))) as pool:
         return list(pool.map(call, jobs))
 
 

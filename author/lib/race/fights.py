@@ -26,13 +26,17 @@ END_PART, END_SECONDS = 0.01, 0.4
 WITH_PARENT = ["setpriv", "--pdeathsig", "KILL", "--"] if shutil.which("setpriv") else []
 
 
+def processor_seconds():
+    """Returns the processor seconds of this process and of the children that ended."""
+    return sum(sum(resource.getrusage(who)[:2])
+               for who in (resource.RUSAGE_SELF, resource.RUSAGE_CHILDREN))
+
+
 def clock():
     """Returns the seconds that --minutes counts. Measurements set CWTUNE_CLOCK=processor, since
     elapsed time says little on a busy machine."""
-    if os.environ.get("CWTUNE_CLOCK") == "processor":
-        return sum(sum(resource.getrusage(who)[:2])
-                   for who in (resource.RUSAGE_SELF, resource.RUSAGE_CHILDREN))
-    return time.monotonic()
+    of_processor = os.environ.get("CWTUNE_CLOCK") == "processor"
+    return processor_seconds() if of_processor else time.monotonic()
 
 
 class Budget(NamedTuple):

@@ -8,7 +8,7 @@ No name of the user's is in a word that GNU parallel or a shell reads: the names
 the pieces are fixed, jobs of this host have its path in their environment, and the hosts are read
 from a copy of their file. What is for all pieces, as that copy, has the number 0 in its name.
 """
-import contextlib, hashlib, os, pathlib, re, shlex, shutil, socket, subprocess, sys, tarfile
+import contextlib, hashlib, os, pathlib, re, shlex, shutil, signal, socket, subprocess, sys, tarfile
 
 from ..endings import Fault, escaped, tell
 from ..watching import rewrite
@@ -118,6 +118,7 @@ class HostJobs:
         ssh = f"{os.environ.get('PARALLEL_SSH', 'ssh')} {SSH_OPTIONS}"
         environment = {**os.environ, "PARALLEL_SHELL": "/bin/sh", "PARALLEL_SSH": ssh,
                        "CWTUNE_SPREAD_FOLDER": str(self.folder.path)}
+        self.parallel = self.guard = None
         self.parallel = subprocess.Popen(
             ["parallel", "--will-cite", "--tmpdir", ".", "--sshloginfile",
              self.folder.file(0, "hosts").name, *options], cwd=self.folder.path, env=environment,
@@ -223,10 +224,13 @@ class HostJobs:
         """Ends GNU parallel and all that it runs here, and so what it runs on hosts."""
         if not self.parallel:
             return
-        if self.parallel.poll() is not None:
-            self.guard.kill()
-        self.guard.stdin.close()
-        self.guard.wait()
+        if self.guard:
+            if self.parallel.poll() is not None:
+                self.guard.kill()
+            self.guard.stdin.close()
+            self.guard.wait()
+        else:  # it could not be started
+            os.killpg(self.parallel.pid, signal.SIGKILL)
         self.parallel.wait()
         temporary = pathlib.Path(os.path.expanduser("~/.parallel/tmp"))
         for left in temporary.glob(f"{socket.gethostname()}-{self.parallel.pid}-*"):

@@ -10,8 +10,8 @@ better half more, and so on; the winner is the one with the most points. It and 
 fights for the gain.
 
 In a larger template settings race: many play a few fights and the better ones more, at new
-positions in each heat. The winner and START play fights that picked nothing for the gain. If it
-gains, the settings around it are tuned, and the first ten of them play against it.
+positions in each heat. For the gain the winner and START then play other fights, which picked
+nothing. If it gains, the settings around it are tuned, and the first ten of them play against it.
 
 FOLDER gets winner.red, report.html, report.json, the template, what was played, and log.txt with
 the commands. After Ctrl-C or a crash repeat the command, and it goes on. A folder made of other
@@ -182,12 +182,15 @@ def print_raced(report):
 def print_end(folder, report):
     gain = report["gain"]
     print_raced(report) if report["race"] else print_tuned(report)
-    if gain and report["winner"]["values"] != report["start"]["values"]:
+    if report["winner"]["values"] == report["start"]["values"]:
+        print("the winner is START: nothing better was found")
+    elif gain is None:
+        print("keep START: no fights were left to measure the gain: give more --fights or "
+              "--minutes")
+    else:
         print(f"over START: {gain_text(gain)}")
         if gain["words"] != GAIN:
             print("keep START: these fights show no gain of winner.red")
-    else:
-        print("the winner is START: nothing better was found")
     for name in ["winner.red", "report.html"]:
         print(os.path.join(folder.given_path, name))
 

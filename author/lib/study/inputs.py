@@ -65,9 +65,10 @@ def sort_words(parser, args):
 def is_range(word):
     """Returns whether a word is meant to be PLACE=VALUES: no file has its name, nor looks so."""
     place, equals, _ = word.partition("=")
-    path = word.rpartition("=")[0]
+    path, _, weight = word.rpartition("=")
+    is_weighted = weight.isdecimal() and os.path.exists(path)
     return (equals and "/" not in place and not place.endswith(".red")
-            and not os.path.exists(word) and not os.path.exists(path))
+            and not os.path.exists(word) and not is_weighted)
 
 
 def opponents_named(parser, word):

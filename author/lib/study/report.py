@@ -49,7 +49,9 @@ def opening(report):
     start, winner, gain = report["start"], report["winner"], report["gain"]
     title = f"<h1>{escaped(report['title'])}</h1>"
     if gain is None:
-        return [title, paragraph("Nothing better than START was found.", "lead")]
+        sentence = ("Nothing better than START was found." if start["values"] == winner["values"]
+                    else "No fights were left to measure the gain. Keep START.")
+        return [title, paragraph(sentence, "lead")]
     more = "more" if gain["percent"] >= 0 else "less"
     sentence = (
         f"In {integer(winner['fresh']['fights'])} fresh fights the winner made "
@@ -197,7 +199,7 @@ def totals_table(box, is_small):
         heads = [escaped(" / ".join(names)), *map(escaped, ranges[1])]
         rows = [[escaped(value), *map(integer, row)] for value, row in zip(ranges[0], totals)]
     note = paragraph(f"{DASH}: the setting does not assemble.", "soft")
-    return folded("The totals as a table", table("Tuned totals of the box", heads, rows)
+    return folded("The totals as a table", table("Tuned totals", heads, rows)
                   + note * (len(box.known_totals()) < box.count()))
 
 
@@ -210,7 +212,7 @@ def effects(report):
         f"<figure>{picture}</figure>"
         for picture in charts.draw_effects(of_constants, report["winner"]["values"], lists))
     pieces = ["<h3>What each constant does</h3>", paragraph(
-        "The mean tuned total of each value, over all settings of the box that have it, with its "
+        "The mean tuned total of each value, over all tuned settings that have it, with its "
         f"standard error. A filled mark is the winner's value. {ERROR_NOTE}"),
         f'<div class="charts">{pictures}</div>']
     rows = [[escaped(effect["name"]), *value_cells(report, {effect["name"]: value}),
@@ -311,7 +313,7 @@ def commands(lines):
 
 
 def making(report):
-    heads = ["constant", "lowest", "highest", "step", "START", "winner", "values in the box"]
+    heads = ["constant", "lowest", "highest", "step", "START", "winner", "tuned values"]
     rows = [constant_row(constant, lists_of(report).get(constant["name"]))
             for constant in report["constants"]]
     return section("How it was made", facts(report),
