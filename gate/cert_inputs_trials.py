@@ -104,6 +104,19 @@ def kept(place):
     os.link(place.folder / "imp.red", place.inputs_path)
     yield compare("a file of the tuning stays", end(2, err=NAMED), place.run(TUNE))
     place.remove_inputs()
+    cert = place.folder / "CERT"
+    place.inputs_path.symlink_to(cert)
+    yield compare("a link to CERT, which is to come, stays", (good, True),
+                  (place.run(TUNE), place.inputs_path.is_symlink()))
+    cert.touch()
+    yield compare("a link to CERT is refused", end(2, err=NAMED), place.run(TUNE))
+    cert.unlink()
+    place.remove_inputs()
+    cert.symlink_to(place.inputs_path)
+    yield compare("CERT that leads to CERT.inputs stays there",
+                  end(0, REPORT, files={"CERT.inputs": inputs.FILES["imps.cert"]}),
+                  place.run(TUNE))
+    cert.unlink()
 
 
 def unwritable(place):

@@ -55,6 +55,12 @@ class Spreading(SpreadTrial):
             begun.unlink()
             self.clear()
 
+    def test_link_to_cert(self):
+        """Tunes where a link CERT.inputs leads to CERT, which is to come."""
+        (self.folder / "CERT.inputs").symlink_to("CERT")
+        status = self.spread("--parts=2", *DECOY).status
+        self.same("CERT is accepted", (0, 0), (status, self.check(DECOY)))
+
     def test_other_inputs(self):
         reversed_opponents = [*DECOY[:3], *reversed(OPPONENTS)]
         self.unfinished()

@@ -227,10 +227,12 @@ def finish(args, folder, progress, notes):
 
 
 def write_inputs(args):
-    """Writes CERT.inputs beside a regular CERT; if that fails, removes an older one."""
-    if not os.path.isfile(args.cert):
-        return
+    """Writes CERT.inputs beside a regular CERT, but not over CERT, to which a link of that name may
+    lead; if that fails, removes an older one."""
     name = f"{args.cert}{cert_inputs.SUFFIX}"
+    if (not os.path.isfile(args.cert)
+            or os.path.exists(name) and os.path.samefile(name, args.cert)):
+        return
     files = [args.template, args.schedule, *args.opponents]
     try:
         text = cert_inputs.text_of(version_of(args.program), rules_of(args), method_of(args),

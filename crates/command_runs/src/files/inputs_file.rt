@@ -4,6 +4,7 @@
 
 use crate::files::digest::Digested;
 use crate::files::replacing::replacement_at;
+use crate::files::same_file::is_file_at;
 use command_words::{TuneWords, VERSION};
 use std::alloc::{AllocError, Global};
 use std::fs::Metadata;
@@ -28,7 +29,8 @@ pub(crate) struct Tuning<'a> {
     pub(crate) method: Method,
 }
 
-// Writes CERT.inputs. If that fails, removes an older one, which is of another certificate.
+// Writes CERT.inputs, but not over CERT, to which a link of that name may lead now. If that fails,
+// removes an older one, which is of another certificate.
 pub(crate) fn write_inputs<R: Files + Copy>(
     rt: R,
     alloc: Global,
@@ -36,11 +38,25 @@ pub(crate) fn write_inputs<R: Files + Copy>(
     cert: &Digested,
     name: &str,
 ) -> io::Result<()> {
+    if is_same_file(&rt, tuning.words.cert, name) {
+        return Err(io::Error::from(io::ErrorKind::AlreadyExists));
+    }
     let written = replace_inputs(rt, alloc, tuning, cert, name);
     if written.is_err() && is_file(&rt, name) {
         let _ = fs::remove_file(&rt, name);
     }
     written
+}
+
+// Returns whether two names lead to one file.
+fn is_same_file<F: Files>(rt: &F, one: &str, other: &str) -> bool {
+    let Ok(found) = fs::metadata(rt, one) else {
+        return false;
+    };
+    match is_file_at(rt, other, &found) {
+        Ok(is_same) => is_same,
+        Err(_) => false,
+    }
 }
 
 fn replace_inputs<R: Files + Copy>(
