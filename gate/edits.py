@@ -58,12 +58,16 @@ class Edit:
 
     def __init__(self, source, crate):
         self.name, self.source, self.pairs = source.stem, source, []
-        fields = dict.fromkeys(["function", "file", "breaks", "old"], "")
-        for line in source.read_text("utf-8").split("\n"):
+        fields = dict.fromkeys(["function", "file", "breaks", "old", "new"], "")
+        for line in source.read_text("utf-8").removesuffix("\n").split("\n"):
             key, _, value = line.partition(":")
+            if key not in fields:
+                raise Fault(f"{source}: a line of no meaning: {line}")
             fields[key] = value.removeprefix(" ")
             if key == "new":
                 self.pairs.append((fields["old"], fields["new"]))
+        if not self.pairs:
+            raise Fault(f"{source}: no line `new:`")
         self.breaks, path, file = fields["breaks"], fields["function"], fields["file"]
         self.function = crate.functions.get(path)
         if not self.function or self.function.file != file:

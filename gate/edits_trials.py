@@ -78,7 +78,8 @@ class Room:
         """Runs Python, with the kit on the PATH. Returns the status and the lines."""
         kit, cache = self.folder / "kit", self.folder / "cache"
         done = subprocess.run(
-            [sys.executable, *words], cwd=self.folder / "tree", stdout=subprocess.PIPE, text=True,
+            [sys.executable, *words], cwd=self.folder / "tree", stdout=subprocess.PIPE,
+            stderr=subprocess.STDOUT, text=True,
             env={**os.environ, "PATH": f"{kit}:{os.environ['PATH']}", "XDG_CACHE_HOME": str(cache)})
         return done.returncode, done.stdout.split("\n")[:-1]
 
@@ -100,6 +101,20 @@ def kept(room):
         yield compare(f"a round,{before or ' anew'}",
                       f"low, round 1: 1 edits,{before} 0 refused by a proof file",
                       room.run("-m", "gate.edits")[1][0])
+
+
+def malformed(room):
+    """Has edits that lack a line, or have one of no meaning, which are refused before a check."""
+    edit = "tree/crates/low/must-fail/malformed.edit"
+    for text, fault in [
+            ("function: low::first\nfile: src/lib.rt\nold:     1\n", "no line `new:`"),
+            (FILES["tree/crates/low/must-fail/wrong.edit"] + "break: 1\n",
+             "a line of no meaning: break: 1")]:
+        room.write(edit, text)
+        status, lines = room.run("-m", "gate.edits")
+        yield compare(fault, (1, [fault]), (status, [line.rpartition(".edit: ")[2]
+                                                     for line in lines]))
+    (room.folder / edit).unlink()
 
 
 def gates(room):
@@ -157,6 +172,7 @@ def trials():
         room = Room(name)
         yield from kept(room)
         yield from verdicts(room)
+        yield from malformed(room)
         yield from gates(room)
     yield from beside()
 
