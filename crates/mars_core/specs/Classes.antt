@@ -17,7 +17,7 @@ first_of_further = 64
 abbrev pub first_of_modes : ℕ
 first_of_modes = 128
 
--- A class fits a byte, of which no class has the values from 192.
+-- A class fits a byte. The values from 192 on are not classes.
 abbrev pub class_count : ℕ
 class_count = 256
 

@@ -16,8 +16,8 @@ use rc_instr::{Instruction, OutOfMemory};
 use std::alloc::Global;
 use std::mem;
 
-/// A store of cells as a turn uses it: it reads and replaces cells, and marks and counts those that
-/// have to be set to empty the store again.
+/// A store of cells as a turn uses it: cells are read and replaced. The store marks and counts
+/// those that have to be set to empty it again.
 ///
 /// Contracts see a list of instructions, a list that says of each cell whether it is marked, and a
 /// number, the marks. Addresses count from 0.
@@ -85,8 +85,8 @@ pub trait Cells: Store {
         ensures marked { Self.marked self.new ≡ Self.marked other.now }
         ensures marks { Self.marks self.new ≡ Self.marks other.now };
 
-    /// Alternates turns, `mine` first, until a queue is empty or `cycles` are over. Returns the
-    /// number of turns, each of which adds at most 3 to the marks.
+    /// Alternates turns, `mine` first, until a queue is empty or `cycles`, at most `STRETCH`, are
+    /// over. Returns the number of turns, each of which adds at most 3 to the marks.
     fn alternate(
         &mut self,
         mine: &mut Self::Queue,

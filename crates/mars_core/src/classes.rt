@@ -9,6 +9,7 @@ pub(crate) const FIRST_OF_FURTHER: u64 = 64;
 // Classes below this one are frequent instructions; the others say modes, and nothing else.
 pub(crate) const FIRST_OF_MODES: u64 = 128;
 
+// A class fits a byte. The values from 192 on are not classes.
 pub(crate) const CLASS_COUNT: u64 = 256;
 
 // Returns the class of a key.

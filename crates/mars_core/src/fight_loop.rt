@@ -8,8 +8,8 @@ use crate::snapshot::Snapshot;
 use crate::tasks::{STRETCH, Tasks};
 use crate::turn::next_turn;
 
-// Alternates turns, `mine` first, until a queue is empty or `cycles` are over. Returns the cells,
-// both queues and the number of turns.
+// Alternates turns, `mine` first, until a queue is empty or `cycles`, at most `STRETCH`, are over.
+// Returns the cells, both queues and the number of turns.
 //
 // The loop is a function of its own: after a return in the same function, the compiler would take
 // the loop to be rare, and leave calls in it.

@@ -14,8 +14,8 @@ use crate::packed_cells::PackedCells;
 use crate::side::Side;
 use rc_instr::Warrior;
 
-/// States that a fight has exactly one outcome: the computed one is the only one that the rule
-/// allows.
+/// States that a fight has exactly one outcome: `IsOutcome` holds of the computed one, and of no
+/// other.
 pub fn a_fight_has_one_outcome()
     ensures { (limit : ℕ) (start : State) (first : Side) (cycles : ℕ) (o : Outcome)
         → (IsOutcome limit start first cycles o) ↔ (o ≡ outcome_of limit start first cycles) }

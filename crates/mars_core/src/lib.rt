@@ -2,7 +2,7 @@
 //!
 //! The core is a ring of cells with addresses from 0. Only making an arena takes memory.
 //!
-//! Callers use `arena`. The rules of a step are in `number`, `operand`, `pairs` and `effect`, over
+//! Callers use `arena`. What a step does is in `number`, `operand`, `pairs` and `effect`, over
 //! any store of cells. `turn`, `arm` and `general` lead from a cell to its code, `fight_loop`
 //! alternates turns, and `snapshot` ends a tie early. `cell` has the trait of a cell, `cells` that
 //! of a store and the plain cells; `packed_cells` are a store of `packed` words. `codes` has the

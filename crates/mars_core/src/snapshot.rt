@@ -95,8 +95,8 @@ impl<C: Cells> Snapshot<C> {
     }
 
     // Takes the state after `cycles` cycles, in place of the one taken before, if that is due and
-    // both sides have few tasks. A state taken after n cycles is kept up to cycle 4n, so that
-    // longer and longer periods are found; up to 2n would mean more states to copy.
+    // both sides have few tasks. A state taken after n cycles is kept at least up to cycle 4n, so
+    // that longer and longer periods are found; up to 2n would mean more states to copy.
     pub(crate) fn renew(&mut self, cells: &C, mine: &C::Queue, theirs: &C::Queue, cycles: u32)
         requires size { length (C.items cells.now) ≡ length self.old.core }
         requires cycles { cycles ≤ MOST_CYCLES }

@@ -74,8 +74,8 @@ pub(crate) fn next_turn<C: Store, const PLACE: u64>(
 
 // Executes the instruction at `pc`, which is `cell`, by its class (1994 draft).
 //
-// A test comes before each match: the compiler takes the last arm of a match to be rare, and would
-// inline nothing below it.
+// A test comes before each match. As one arm of 65 the rest would seem too rare to the compiler to
+// be inlined (docs/HOT_LOOP.md).
 #[inline(always)]
 fn execute<C: Store, const PLACE: u64>(
     cells: &mut C,
@@ -185,8 +185,8 @@ fn execute_by_class<C: Store>(
     }
 }
 
-// Does what `execute_by_class` does for the further frequent instructions. A match
-// has at most 64 arms (docs/HOT_LOOP.md).
+// Does what `execute_by_class` does for the further frequent instructions. With 64 in each match
+// the test before it costs no compare (docs/HOT_LOOP.md).
 #[tactic(auto, unfolding(crate::specs::Classes::class_of_key, crate::specs::Classes::class_from_32, crate::specs::Classes::class_from_64, crate::specs::Classes::class_from_96))]
 #[inline]
 fn execute_further<C: Store, const PLACE: u64>(

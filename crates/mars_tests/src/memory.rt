@@ -218,7 +218,7 @@ fn schedule_read(alloc: Global, text: &[u8]) -> Result<String, Fail> {
 }
 
 #[test]
-fn a_schedule_is_read(rt: HostRuntime) -> Result<(), Fail> {
+fn schedules_are_read_or_refused(rt: HostRuntime) -> Result<(), Fail> {
     for case in &SCHEDULES {
         assert_eq!(rt;
             schedule_read(rt.alloc(), case.text)?.as_str(),

@@ -49,7 +49,7 @@ pub enum AsmKind {
 pub struct AsmFault {
     /// The line of the source, from 1; 0 for `Warrior`, `TextTooLong` and `OutOfMemory`.
     pub line: u64,
-    /// The reason.
+    /// The kind of the fault.
     pub kind: AsmKind,
 }
 
@@ -103,7 +103,7 @@ pub(crate) fn of_expansion(fault: ExpandFault) -> AsmFault
     }
 }
 
-// Wraps the reason why code is not a warrior, which has no line.
+// Wraps the fault of code that is not a warrior, which has no line.
 pub(crate) fn of_warrior(error: WarriorError) -> AsmFault
     ensures { result ≡ at_line 0 (Warrior error) }
 {

@@ -49,7 +49,7 @@ abbrev pub entry_of : {A : Type 0} → List (List ℕ × A) → List ℕ → Opt
 entry_of [] name = None
 entry_of (e ∷ table) name = if bytes_eq name e.0 then Some e.1 else entry_of table name
 
--- The value of a name in a count: a constant or a predefined name.
+-- The value of a name that is given: of a constant, or else of a predefined name.
 unfoldable pub given_names : Table → RulesView → List ℕ → Option ℤ
 given_names constants rules name = option_or (entry_of constants name) (entry_of (predefined rules) name)
 

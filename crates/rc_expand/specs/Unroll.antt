@@ -63,8 +63,8 @@ is_bare_rof raw = not raw.spoiled && ((length raw.labels == 0) && (length raw.re
 abbrev pub rof_check : RawLine → Step
 rof_check rof u = if is_bare_rof rof then Ok u else Err (at_line rof.number BadDirective)
 
--- Refuses an EQU line in a block, and a spoiled line, which has a name to which a ninth counter was
--- joined. FOR and ROF have checks of their own.
+-- Refuses an EQU line in a block, and a spoiled line, which has a name to which a ninth counter
+-- would be joined. FOR and ROF have checks of their own.
 abbrev pub word_check : (line : ℕ) → RawWord → (in_block spoiled : Bool) → Result (Unit {0}) ExpandFault
 word_check line word.Equ true s = Err (at_line line BadDirective)
 word_check line _ b s = if s then Err (at_line line BadDirective) else Ok tt

@@ -22,8 +22,10 @@ use std::alloc::Global;
 /// `&`. EQU lines are dropped, and EQU names are replaced by their tokens. (FOR, ROF, EQU and `&`
 /// are from pMARS.)
 ///
-/// Refuses the first fault of these checks. Each is made over all lines before the next begins, the
-/// last two over the lines in the order in which they are unrolled:
+/// # Errors
+///
+/// The first fault of these checks. Each is made over all lines before the next begins, the last
+/// two over the lines in the order in which they are unrolled:
 ///
 /// - `Text`: a byte or a decimal that is not a token, up to the line with END.
 /// - The first FOR nested more than 8 deep (`ForTooDeep`) or ROF without a FOR (`RofWithoutFor`);
@@ -32,10 +34,10 @@ use std::alloc::Global;
 ///   before EQU, or whose name is taken: a constant, a predefined name or an earlier EQU name.
 /// - While blocks are unrolled: `BadDirective` for a ninth counter joined to a name, a counter that
 ///   is not a plain name, an EQU in a block, or, after the lines of its block, a ROF with labels or
-///   tokens beside it; `DuplicateName` for a counter that is taken (if it is an EQU name, at the
-///   later of the two lines); `EquTooDeep`, `TooManyTokens` or `CountRefused` for a count that
-///   cannot be replaced, has no value or is above 4096; `TooManyLines` for more than 4096 lines and
-///   copies.
+///   tokens beside it; `DuplicateName` for a counter that is a constant, a predefined name, an EQU
+///   name (at the later of the two lines) or the counter of an enclosing block; `EquTooDeep`,
+///   `TooManyTokens` or `CountRefused` for a count that cannot be replaced, has no value or is
+///   above 4096; `TooManyLines` for more than 4096 lines and copies.
 /// - In each unrolled line, first `DuplicateName`: a label or an EQU name that is defined before,
 ///   or is a constant or a predefined name; then, whichever is met first, `EquTooDeep`: EQU names
 ///   nested more than 16 deep; or `TooManyTokens`: more than 4096 tokens or EQU replacements in a

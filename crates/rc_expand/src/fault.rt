@@ -52,7 +52,7 @@ pub enum ExpandKind {
 pub struct ExpandFault {
     /// The line, from 1 in the whole source; 0 if out of memory.
     pub line: u64,
-    /// The reason.
+    /// The kind of the fault.
     pub kind: ExpandKind,
 }
 

@@ -30,7 +30,7 @@ rules_of r = do
 abbrev pub is_below : (m : ℕ) → Instruction → Bool
 is_below m i = nat_lt i.a_number m && nat_lt i.b_number m
 
--- Code and a start as a warrior under the rules, or the first reason against it.
+-- Code and a start as a warrior under the rules, or its first fault.
 unfoldable pub warrior_of : RulesView → WarriorView → Result WarriorView WarriorError
 warrior_of r w = do
   _ ← check (nat_lt 0 (length w.code)) Empty

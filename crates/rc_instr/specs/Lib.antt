@@ -1,6 +1,6 @@
 -- A warrior is code and a start, and its load file is the one spelling of it: equal files, equal
--- warriors. Rules are five numbers within limits; code that breaks them is refused for the first
--- reason that applies. An outlet is a writer that gives up for good at its first failure.
+-- warriors. Rules are five numbers within limits; code that breaks them is refused with its first
+-- fault. An outlet is a writer that gives up for good at its first failure.
 pub mod Results
 pub mod Instruction
 pub mod DefaultModifier

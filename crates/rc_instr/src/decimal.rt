@@ -1,4 +1,4 @@
-//! Decimals in texts: 0 to 4294967295 without leading zeros, or 1 to 9 digits of any kind.
+//! Decimals in texts: 0 to 4294967295 without leading zeros, or 1 to 9 digits with or without them.
 ghost use Rattle.std.specs.Prelude.{◌≡◌, ℕ, ◌<◌, ◌≤◌, ◌^◌, true, List, ◌++◌, length, IfSome, IsSomeAnd, Some, take_while};
 ghost use Rattle.std.specs.Char.{is_ascii_digit};
 ghost use Rattle.std.specs.Fmt.{decimal};

@@ -64,7 +64,7 @@ pub enum Modifier {
 pub enum Mode {
     /// `#`: the instruction's own cell.
     Immediate,
-    /// `$`: the cell that is the operand's number of cells after the instruction's own.
+    /// `$`: the cell at the instruction's own address plus the operand's number.
     Direct,
     /// `*`: through the A-number of that cell.
     AIndirect,

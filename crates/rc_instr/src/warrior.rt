@@ -64,7 +64,7 @@ impl Model for Warrior {
     ghost invariant = { λ w. IsWarrior (warrior_view w.code.items w.start) };
 }
 
-/// Why code is not a warrior under the rules: the first reason in this order.
+/// Why code is not a warrior under the rules: the first fault in this order.
 #[derive(Clone, Copy, Debug, PartialEq, Eq, Error)]
 pub enum WarriorError {
     /// The code has no instruction.
@@ -81,13 +81,13 @@ pub enum WarriorError {
     NumberTooLarge,
 }
 
-/// The code that was refused, handed back, and the reason.
+/// The code that was refused, handed back, and its fault.
 #[derive(Debug, Drop, Error)]
 #[error("{error}")]
 pub struct Refused {
     /// The code as it was given.
     pub code: Code,
-    /// The first reason.
+    /// The first fault.
     pub error: WarriorError,
 }
 
@@ -144,7 +144,7 @@ impl Warrior {
         self.start
     }
 
-    // Returns the first reason why `code` and `start` are not a warrior, in the order of
+    // Returns the first fault of `code` and `start` as those of a warrior, in the order of
     // `WarriorError`.
     #[tactic(auto, unfolding(crate::specs::Checks::warrior_of))]
     fn refusal_of(code: &[Instruction], start: u32, rules: &Rules) -> Option<WarriorError>

@@ -1,4 +1,4 @@
-//! Calls that take no memory, where none is to be had.
+//! Calls that take no memory, when none is left.
 //!
 //! `make test` also runs these tests with every request for memory refused that comes after
 //! `use_up` (gate/refuse/growth.py). They then end at their last line, which makes a request.

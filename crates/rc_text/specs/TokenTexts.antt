@@ -1,4 +1,4 @@
--- The text of a token: it spells the token, and no longer token begins at its place.
+-- The text of a token: it spells the token, and no longer token begins at its first byte.
 use Rattle.std.specs.Prelude.{◌≡◌, ◌<◌, ◌≤◌, ◌+◌, ◌==◌, ℕ, suc, Bool, true, false, ◌||◌, List, [], ◌∷◌, length, take, slice_range, Option, Some, None, is_some, if◌then◌else◌, codes}
 use Rattle.std.specs.Char.{is_ascii_digit}
 use Rattle.std.specs.List.{list_all}

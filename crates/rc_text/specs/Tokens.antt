@@ -1,4 +1,5 @@
--- The tokens of a text, with the words and signs of the 1994 draft, and `;assert` as one token.
+-- The tokens of a text: names, decimals, signs (Signs.antt says whose), line ends, and `;assert` as
+-- one token.
 use Rattle.std.specs.Prelude.{◌≤◌, ◌<◌, ◌≡◌, Result, Ok, Err, ℕ, zero, suc, Bool, true, false, not, ◌&&◌, ◌==◌, ◌+◌, ◌-◌, ◌^◌, nat_lt, List, [], ◌∷◌, slice_index, take, drop, Option, Some, None, if◌then◌else◌, codes}
 use Rattle.std.specs.Char.{is_ascii_digit}
 use Rattle.std.specs.List.{prefix_len}

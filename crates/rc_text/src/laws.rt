@@ -10,14 +10,14 @@ ghost use Rattle.rc_text.specs.Grammar.{Tree, IsGrammatical, spelling_of};
 ghost use Rattle.rc_text.specs.Values.{Meaning, Outcome, IsValue, IsEvalFault, HasOutcome};
 ghost use Rattle.rc_text.specs.Reading.{evaluation_of};
 
-/// Each token of a text is spelled by its bytes and is the longest at its place. Its line is 1 plus
+/// Each token of a text is spelled by its bytes and is the longest from there. Its line is 1 plus
 /// the number of line feeds before it.
 pub fn tokens_stand_in_the_text()
     ensures { (text : List ℕ) → All (StandsIn text) (tokens_of text).tokens }
 {}
 
-/// Only blanks and comments lie between the header and the first token, between tokens, and from
-/// the last to the end of the text or the fault that ends them. Their spans are in order.
+/// The spans of the tokens are in order. Only blanks and comments lie between the header and the
+/// first token, between tokens, and after the last one, up to the end of the text or a fault.
 pub fn tokens_skip_blanks_and_comments()
     ensures order { (text : List ℕ) → InOrder (header_of text).bytes (length text) (tokens_of text).tokens }
     ensures gaps { (text : List ℕ) → OnlyGapsBetween text true (header_of text).bytes (tokens_of text).tokens (tokens_of text).ending }

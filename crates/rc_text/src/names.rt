@@ -4,7 +4,7 @@ ghost use Rattle.rc_text.specs.Symbols.{name_of};
 
 use crate::token::Token;
 
-/// A finite map from names to numbers, such as labels to their addresses.
+/// What gives the names in an expression their values, such as labels their addresses.
 pub trait Names {
     ghost meaning: { Self → List ℕ → Option ℤ };
 

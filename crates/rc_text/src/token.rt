@@ -67,7 +67,7 @@ pub enum Kind {
     Name,
     /// Decimal digits, with their value.
     Number(u32),
-    /// A sign, the longest at its place.
+    /// A sign, the longest from its first byte.
     Sign(Sign),
     /// `;assert`, in any case, if it comes first on its line and a blank follows.
     Assert,

@@ -73,7 +73,7 @@ impl<'a> Records<'a> {
         }
     }
 
-    // Marks the text as ended, so that the reader is not called again.
+    // Ends the records.
     fn end(&mut self)
         ensures { self.new ≡ [] }
     {

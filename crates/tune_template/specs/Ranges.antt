@@ -60,8 +60,8 @@ name_checked names Reserved name = Err ReservedName
 name_checked names Predefined name = Err ReservedName
 name_checked names Free name = if is_among names name then Err DuplicateName else Ok tt
 
--- The span of the next constant, from the five words of a range line. A word that is not a decimal
--- is reported first, then the name's fault, then the span's.
+-- The span of the next constant, from the five words of a range line. A faulty number is reported
+-- first, then the name's fault, then the span's.
 unfoldable pub span_of_words : List (List ℕ) → (name low high step start : List ℕ) → Result Span TemplateKind
 span_of_words names name low high step start = do
   least ← ok_or (signed_number low) BadLine

@@ -144,7 +144,7 @@ fn check_name(names: &[Vec<u8>], name: &[u8]) -> Result<(), TemplateKind>
     }
 }
 
-// Makes the span of a line. Refuses a word that is not a decimal before a bad name.
+// Makes the span of a line. Refuses a faulty number before a faulty name.
 #[tactic(auto, unfolding(crate::specs::Ranges::span_of_words))]
 fn span_of_words(names: &[Vec<u8>], words: &Words) -> Result<Span, TemplateKind>
     ensures span { let w = words.now in result ≡ span_of_words (map (λ n. n.items) names.now) w.name.now w.low.now w.high.now w.step.now w.start.now }
