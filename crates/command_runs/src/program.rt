@@ -43,8 +43,8 @@ const LETTERS_AFTER: &str =
 ///   overwritten either. If a setting was found and the certificate cannot be written, a line
 ///   `found: ..` names the setting.
 /// - `check`: checks the rules, reads the template, the schedule, the certificate and the
-///   opponents, and writes the line of the verdict, on all rows or on a share. With `--keep` or
-///   `--floor` it writes the lines of the judgement.
+///   opponents, and writes the line of the verdict, on all rows or on a share, and with `--keep`
+///   above 1 a line for each setting of the ranking.
 /// - `--help`, `help`: writes the help text. `--version`: writes the version.
 ///
 /// A text may have at most 1073741824 bytes. Writes to `err` a line `refused: ..` for an input that

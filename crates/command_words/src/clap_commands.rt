@@ -139,7 +139,7 @@ pub(crate) fn tune_command<'a>(alloc: Global) -> Result<Command<'a>, AllocError>
     with_files(
         alloc,
         command,
-        "File to write the certificate to; an older certificate is replaced at the end, and no other text",
+        "File to write the certificate to; an older certificate there is replaced at the end, and a file with any other text is refused",
     )
 }
 

@@ -72,7 +72,7 @@ pub(crate) const CHECK_FLOOR: NumberOption = NumberOption {
 
 pub(crate) const TUNE_KEEP: NumberOption = NumberOption {
     name: "keep",
-    help: "How many settings to find, the best, the second best and so on, 1 to 1000; above 1 each has a line `rank ..` after the report [default: 1]",
+    help: "How many settings to find, the best, the second best and so on, 1 to 1000; above 1 the report ends with a line `rank ..` for each [default: 1]",
     why: "a number from 1 to 1000 is wanted",
 };
 

@@ -149,14 +149,14 @@ pub(crate) fn line_at(text: &[u8], index: u64) -> &[u8] {
 }
 
 // Writes the front of a line without the carriage return at its end, and `..` if it is longer. If
-// the front has any other byte that would steer a terminal, it is not shown.
+// the front has anything else that would steer a terminal, it is not shown.
 fn tell_shown<V: Write>(err: &mut Outlet<V>, line: &[u8]) {
     let line = match line.strip_suffix(b"\r") {
         Some(front) => front,
         None => line,
     };
     let front = front_of(line);
-    if !front.iter().all(can_be_shown) {
+    if !front.iter().all(can_be_shown) || has_c1_control(front) {
         tell(err, &["(a terminal cannot show it)"]);
         return;
     }
@@ -168,6 +168,19 @@ fn tell_shown<V: Write>(err: &mut Outlet<V>, line: &[u8]) {
 
 fn can_be_shown(byte: &u8) -> bool {
     *byte == b'\t' || (*byte >= b' ' && *byte != 127)
+}
+
+// Returns whether a text has one of the controls U+0080 to U+009F, which UTF-8 spells C2 80 to
+// C2 9F.
+fn has_c1_control(text: &[u8]) -> bool {
+    let mut last: u8 = 0;
+    for byte in text {
+        if last == 0xc2 && *byte >> 5 == 4 {
+            return true;
+        }
+        last = *byte;
+    }
+    false
 }
 
 // Returns the first characters of a line, at most `MOST_SHOWN` bytes.

@@ -32,7 +32,8 @@ pub record AreInputs (i : InputsView) : Type 0 where
   pub fights : All (IsFight i.rules (length i.opponents)) i.schedule
   pub part : IsPart i.part (setting_count i.template)
 
--- The settings that are searched: the part's, in order. A setting's index is its place among these.
+-- The settings that are searched: the part's, in order. A setting's index counts from 0
+-- among these.
 unfoldable pub settings_of : InputsView → List (List ℤ)
 settings_of i = part_of i.part (vectors_of i.template.ranges.spans)
 

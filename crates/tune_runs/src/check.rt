@@ -1,4 +1,4 @@
-//! A check: from texts and a certificate to the line of the verdict.
+//! A check: from texts and a certificate to the line of the verdict, and those of the ranking.
 ghost use Rattle.std.specs.Prelude.{◌≡◌, ◌≢◌, None, Some, true, false, IfErr};
 ghost use Rattle.std.specs.Option.{option_map};
 ghost use Rattle.tune_runs.specs.Runs.{IsRun, Returns};

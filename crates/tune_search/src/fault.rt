@@ -1,11 +1,11 @@
-//! Why a search ends without an answer.
+//! Why a search fails.
 ghost use Rattle.std.specs.Prelude.{◌≡◌};
 ghost use Rattle.tune_search.specs.declared.fault.SearchFault.TheVariants.{OutOfMemory};
 
 use std::alloc::{AllocError, AllocFailed};
 use thiserror::Error;
 
-/// Why a search ends without an answer.
+/// Why a search fails.
 #[derive(Clone, Copy, Debug, PartialEq, Eq, Error)]
 pub enum SearchFault {
     /// No setting assembles.

@@ -1,4 +1,5 @@
-//! The command `check`: from texts and a certificate to the lines of the judgement.
+//! The command `check`: from texts and a certificate to the verdict, and the ranking if it is
+//! asked for.
 ghost use Rattle.std.specs.Prelude.{◌≡◌, false};
 ghost use Rattle.std.specs.Option.{option_map};
 ghost use Rattle.tune_cert.specs.Shares.{share_part};

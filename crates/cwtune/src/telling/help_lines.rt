@@ -15,7 +15,6 @@ use std::io::Write;
 pub(crate) fn tell_help<V: Write>(
     err: &mut Outlet<V>,
     alloc: Global,
-    file: &str,
     text: &[u8],
     line: &[u8],
     kind: AsmKind,
@@ -29,8 +28,8 @@ pub(crate) fn tell_help<V: Write>(
     if let Some(help) = help_of(kind, &line_of(alloc, line)) {
         tell(err, &["  help: ", help, "\n"]);
         if is_of_pmars(kind) {
-            let way = "  help: or rewrite what pMARS takes: cwtune-adapt ";
-            tell(err, &[way, file, " > adapted.red\n"]);
+            let way = "  help: or rewrite what pMARS takes: cwtune-adapt FILE > adapted.red\n";
+            tell(err, &[way]);
         }
     }
 }

@@ -65,7 +65,7 @@ pub(crate) fn tell_asm<V: Write>(
     if fault.kind == AsmKind::Expand(ExpandKind::DuplicateName) && is_of_label(alloc, line) {
         tell(err, &["  a word that is not an opcode is a label\n"]);
     }
-    tell_help(err, alloc, file, text, line, fault.kind);
+    tell_help(err, alloc, text, line, fault.kind);
 }
 
 // Returns whether the name at fault in a line is a label: it is neither an EQU name nor a counter.
@@ -101,10 +101,9 @@ pub(crate) fn tell_template<V: Write>(
             tell_fault(err, alloc, fault.kind);
             tell_neighbours(err, line);
         }
-        TemplateKind::TooManyConstants => tell_broken_limit(
+        TemplateKind::TooManyConstants => tell(
             err,
-            "a template has at most 8 constants",
-            9,
+            &["  a template has at most 8 constants; this line has the ninth\n"],
         ),
         TemplateKind::TooManyVectors => tell_settings(err, settings_up_to(alloc, text, fault.line)),
         TemplateKind::TextTooLong => tell_text_length(err, text),
