@@ -41,7 +41,7 @@ Section: games
 Priority: optional
 Description: tunes Core War warriors, with a certificate of the answer
  Finds the values of a warrior's constants that make the most points against given opponents, and
- writes a certificate that a separate checker accepts exactly if the answer is right.
+ writes a certificate; a separate checker accepts it only if the answer is right.
  {proof}
 """
 # Python leaves these beside the commands' modules. dpkg does not know of them, so a package removes
@@ -59,7 +59,7 @@ class Build(NamedTuple):
 
 
 def proved():
-    """Returns what was proved: the kit, and a line for each crate from its check."""
+    """Returns what was proved: the kit, and a line of its check for each crate that is no test."""
     kit = output_of(["rt", "version"]).strip()
     lines = [f"Proved with {kit}", f"program: SHA-256 {sha256(BUILT)}", ""]
     for crate in re.findall(r"(?m)^(\w+)(?<!_tests):", (ROOT / "crates.txt").read_text()):
@@ -79,10 +79,11 @@ def sha256(path):
 def build_of(built, digest, proof):
     """Returns what is packed: the program built here, or the one of --built, which has to have the
     digest. `proof` is the path of --proved, which has to be about this program."""
-    if not (built or BUILT).is_file():
-        raise Fault("the program is not built (`make build` builds it)" if not built
-                    else f"no program {built}", 2)
+    if built and not built.is_file():
+        raise Fault(f"no program {built}", 2)
     if not built:
+        if not BUILT.is_file():
+            raise Fault("the program is not built (`make build` builds it)", 2)
         return Build(BUILT, proved())
     if sha256(built) != digest:
         raise Fault(f"{built} has the SHA-256 digest {sha256(built)}, and --digest is another", 2)
@@ -245,7 +246,7 @@ def uninstall(prefix):
     try:
         placed = (prefix / INSTALLED).read_text("utf-8").splitlines()
     except FileNotFoundError:
-        raise Fault(f"cwtune is not installed below {prefix}") from None
+        raise Fault(f"cwtune is not installed below {prefix}", 2) from None
     for cache in CACHES:
         shutil.rmtree(prefix / cache, ignore_errors=True)
     for path in reversed(placed):

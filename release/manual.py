@@ -51,8 +51,8 @@ FILES = [
          "also TEMPLATE, SCHEDULE or an OPPONENT, or a text that is not a certificate, is not "
          "overwritten"),
     Item("CERT.inputs", "Which inputs the certificate is for: rules, part, method, and the size "
-         "and the SHA-256 digest of each file. The commands for authors read it; no check needs "
-         "it"),
+         "and the SHA-256 digest of each file. The commands for authors read it, and `check`, to "
+         "say after a rejection which inputs differ. No verdict depends on it"),
     Item(f"share/{NAME}/examples", "Below the prefix, /usr in the package: warriors, templates and "
          "scripts"),
     Item(f"share/doc/{NAME}/docs", "Below it, too: COMMANDS has every option and fault line, "
@@ -196,15 +196,15 @@ def author_man_page(command, version):
 def bash_completion(name, parts):
     """Returns the lines of the completion of a command for bash. `parts` has the help and the
     options after each first word, or after '' if they are those of the whole command."""
-    function, first = "_" + name.replace("-", "_"), "" if "" in parts else "$COMP_CWORD -eq 1 || "
+    function, is_whole = "_" + name.replace("-", "_"), "" in parts
     lines = [f"# Completes the words of {name} in bash.", f"{function}() {{",
              "    local word=${COMP_WORDS[COMP_CWORD]} options=", "    COMPREPLY=()",
              "    case ${COMP_WORDS[1]} in",
              *(f'        {part or "*"}) options="{words_of(options)}" ;;'
                for part, (_, options) in parts.items()), "    esac"]
-    if first:
+    if not is_whole:
         lines.append(f'    [[ $COMP_CWORD -eq 1 ]] && options="{" ".join(parts)} --help --version"')
-    return [*lines, f"    if [[ {first}$word == -* ]]; then",
+    return [*lines, f"    if [[ {'' if is_whole else '$COMP_CWORD -eq 1 || '}$word == -* ]]; then",
             '        COMPREPLY=($(compgen -W "$options" -- "$word"))', "    fi", "}",
             "# With nothing to choose from, bash completes names of files.",
             f"complete -o default -F {function} {name}"]

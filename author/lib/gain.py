@@ -46,12 +46,15 @@ class FreshPoints(NamedTuple):
                            self.opponent_weights)
 
     def __str__(self):
-        """Returns the points and their percentage, or the percentage alone if weights differ."""
-        numbers = self.numbers()
-        percentage = f"{numbers['percent']:.1f}% +- {numbers['error']:.1f}"
-        if len(set(self.opponent_weights)) != 1:
-            return percentage
-        return f"{numbers['points']} of {3 * numbers['fights']} ({percentage})"
+        return fresh_text(self.numbers(), self.opponent_weights)
+
+
+def fresh_text(numbers, weights):
+    """Returns the points and their percentage, or the percentage alone if weights differ."""
+    percentage = f"{numbers['percent']:.1f}% +- {numbers['error']:.1f}"
+    if len(set(weights)) != 1:
+        return percentage
+    return f"{numbers['points']} of {3 * numbers['fights']} ({percentage})"
 
 
 def gain_of(points, weights):

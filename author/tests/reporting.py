@@ -1,8 +1,8 @@
 """Makes pages of reports, and reads them as a browser would."""
-import copy, html.parser, re
+import contextlib, copy, html.parser, io, re
 from xml.etree import ElementTree
 
-from author.lib.study import charts, maps, page as pieces
+from author.lib.study import charts, maps, page as pieces, print_fresh
 from author.lib.study.report import html_of
 
 from .report_samples import HOSTILE, REPORTS
@@ -69,13 +69,13 @@ def missing(report, words):
              for number in re.findall(r"-?[0-9][0-9,]*(?:\.[0-9]+)?", words)}
     # The effects of one constant are its landscape.
     left_out = ["ranking"] + ["effects"] * (len(report["effects"]) == 1)
+    weighted = ["points"] * (len({one["weight"] for one in report["opponents"]}) > 1)
     # The page has neither how a box was tuned, nor its greatest total; a weight of 1 goes unsaid.
-    left_out += ["blocks", "seconds", "weight"] + ["schedule"] * bool(report["race"])
-    if report["box"] and report["box"]["replaces"]:
-        left_out.append("rise")
+    left_out += ["blocks", "seconds", "weight", *weighted] + ["schedule"] * bool(report["race"])
+    left_out += ["rise"] * bool(report["box"] and report["box"]["replaces"])
     # Of the ranking the page shows the sums.
     expected = {*numbers_of(report, left_out),
-                *numbers_of(report.get("ranking", []), ["opponents"])}
+                *numbers_of(report.get("ranking", []), ["opponents", *weighted])}
     return [f"{number} is not on the page" for number in sorted(expected - shown)]
 
 
@@ -163,11 +163,17 @@ class Reporting(Trial):
         self.says(race, "1513 of the template's 134,421 settings raced, in 51,234 fights.", luck)
         self.says(race, "No fights were left to measure the gain. Keep START.", gain=None)
         self.says(race, "Nothing better than START was found.", gain=None, winner=race["start"])
-        self.says(REPORTS["a race and a box"], "Proved: the first 10 of the 243 settings around "
-                  "the race's winner, of which 31 do not assemble, in 96 fights each.",
-                  "none of them was better")
-        self.says(REPORTS["a race and a box that was checked"], "accepted best 7 total 99",
-                  "took its place")
+        self.says(REPORTS["a race and a box"], "Tuned, and not checked: the first 10 of the 243 "
+                  "settings around the race's winner, of which 31 do not assemble, in 96 fights "
+                  "each.", "none of them was better")
+        self.says(REPORTS["a race and a box that was checked"], "Proved: the first 10 of the 243",
+                  "accepted best 7 total 99", "took its place")
+        self.says(REPORTS["one setting"], "fresh points", "percent points fights", "may be luck.")
+        # With different weights the points would not fit the percent.
+        self.says(report, "fresh fights 3200 3200 fresh percent", "tuned total percent fights")
+        with contextlib.redirect_stdout(io.StringIO()) as out:
+            print_fresh("START", start, report)
+        self.same("points with weights", False, " of " in out.getvalue())
 
     def test_lists(self):
         """Makes pages of constants that are indices of lists: no page shows an index."""

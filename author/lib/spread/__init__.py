@@ -125,7 +125,7 @@ def check(args, setting_count, notes, cert):
 
 @contextlib.contextmanager
 def explaining_stop(folder, progress):
-    """Says after Ctrl-C what is done, once: an interrupt with words has passed such a block."""
+    """Says after Ctrl-C what is done, unless the interrupt has a word: an inner block said it."""
     try:
         yield
     except KeyboardInterrupt as stop:

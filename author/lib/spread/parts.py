@@ -6,9 +6,9 @@ candidate, and the digest of the certificate: the part is done if the certificat
 
 START of a part is the setting in it that is the fewest steps from START of the template.
 
-The floor of a part is the best of the totals that are known when it begins, with --keep K the K-th
-best of them, or one more if the setting with this total comes before the part. If none of its
-settings reaches its floor, its report and its certificate say so.
+A part has a floor unless --all is given, or fewer than K totals are known when it begins (K of
+--keep, or 1): the K-th best of these totals, or one more if the setting with this total comes
+before the part. If no setting reaches the floor, the part's report and its certificate say so.
 """
 import contextlib, dataclasses, os, pathlib, re, subprocess
 from typing import Annotated, NamedTuple

@@ -46,7 +46,7 @@ def add_search(parser):
     methods.add_argument("--all", action="store_true",
                          help="play every fight of every setting, as `cwtune tune --all`")
     add_number(methods, "--cache", "N", 4096, "how many settings are remembered in each part",
-               low=0)  # which `cwtune` refuses
+               low=0)  # `cwtune` refuses 0, with its own words
 
 
 def add_check(parser):

@@ -22,7 +22,7 @@ Example: cwtune-study --minutes 10 my.red opponents/ STEP=5:7995:10 GATE=-3500:-
 import contextlib, json, os, pathlib, sys
 
 from ..endings import tell
-from ..gain import GAIN, gain_text
+from ..gain import GAIN, fresh_text, gain_text
 from ..grid import Grid
 from ..program import Rules, rules_of
 from ..race import Contender
@@ -41,7 +41,7 @@ from .result import raced_numbers, tuned_numbers
 
 
 class Study:
-    """A study: its words, inputs and folder. A stage of an exact tuning is a method."""
+    """A study: its words, inputs and folder, and what the stages of both kinds run."""
 
     def __init__(self, args, inputs):
         self.args, self.inputs = args, inputs
@@ -148,10 +148,10 @@ class Study:
 
 
 def print_fresh(name, player, report):
-    fresh, values = player["fresh"], shown_values(report, player["values"])
+    values = shown_values(report, player["values"])
     constants = " ".join(f"{constant}={value}" for constant, value in values.items())
-    print(f"fresh: {name}: {fresh['points']} of {3 * fresh['fights']} ({fresh['percent']:.1f}% "
-          f"+- {fresh['error']:.1f}) {constants}")
+    weights = [opponent["weight"] for opponent in report["opponents"]]
+    print(f"fresh: {name}: {fresh_text(player['fresh'], weights)} {constants}")
 
 
 def print_tuned(report):

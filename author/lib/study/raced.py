@@ -17,9 +17,9 @@ from ..tuning_files import Template, schedule_text
 from ..writing import temporary_folder
 from .fresh import FIRST_HEAT_PLAYERS
 
-# The budget, if a box may follow the race. Which part is used when the race ends, when the best of
-# the box's first is picked, and when it was compared with the race's winner. The box itself takes
-# at most BOX_PART.
+# If a box may follow the race: the parts of the budget that are used up when the race ends, when
+# the best of the box's first is picked, and when it was compared with the race's winner. The box
+# itself takes at most BOX_PART.
 RACE_ENDS, CHALLENGED, COMPARED, BOX_PART = 0.78, 0.90, 0.95, 0.10
 # The fewest fights against each opponent in which a box is tuned.
 LEAST_ROUNDS = 5

@@ -84,7 +84,8 @@ def raced_items(report):
     if box:
         checked = f": <code>{escaped(box['check'])}</code>" if box["check"] else ""
         left_out = f", of which {integer(box['refused'])} do not assemble" * bool(box["refused"])
-        yield (f"<strong>Proved:</strong> the first {integer(box['first'])} of the "
+        word = "Proved" if box["check"] else "Tuned, and not checked"
+        yield (f"<strong>{word}:</strong> the first {integer(box['first'])} of the "
                f"{integer(box['settings'])} settings around the race's winner{left_out}, in "
                f"{integer(box['schedule']['fights'])} fights each{checked}. In other fights "
                + ("one of them was better than the race's winner, and took its place."
@@ -111,6 +112,11 @@ def value_cells(report, values):
     return map(escaped, shown_values(report, values).values())
 
 
+def fresh_counts(report):
+    """Returns what is counted of fresh fights: points only if all opponents count the same."""
+    return ["points"] * (len({one["weight"] for one in report["opponents"]}) == 1) + ["fights"]
+
+
 def comparison(report):
     start, winner = sides = report["start"], report["winner"]
     rows = list(map(list, zip(map(escaped, winner["values"]),
@@ -125,9 +131,9 @@ def comparison(report):
         notes = [paragraph(f"The winner is setting {escaped(winner['setting'])}, of rank "
                            f"{escaped(winner['rank'])} in the tuning.", "soft")]
     if report["gain"]:
-        rows += [["fresh fights", *(integer(side["fresh"]["fights"]) for side in sides)],
-                 ["fresh points", *(integer(side["fresh"]["points"]) for side in sides)],
-                 ["fresh percent", *(fresh_percent(side["fresh"]) for side in sides)]]
+        rows += [[f"fresh {key}", *(integer(side["fresh"][key]) for side in sides)]
+                 for key in reversed(fresh_counts(report))]
+        rows.append(["fresh percent", *(fresh_percent(side["fresh"]) for side in sides)])
     return section("START and the winner",
                    table("Values and fights", ["", START, WINNER], rows), *notes)
 
@@ -175,8 +181,8 @@ def landscape(report):
     if all(opponent["weight"] == 1 for opponent in report["opponents"]):
         schedule = (report["box"] if report["race"] else report)["schedule"]
         luck = LUCK_OF_FIGHT * math.sqrt(schedule["fights"])
-        notes.insert(0, f"Luck alone moves a total by about {luck:.0f} points, so squares that "
-                     "differ by less may be equal, and a stripe may be one lucky value.")
+        notes.insert(0, f"Luck alone moves a total by about {luck:.0f} points, so totals that "
+                     "differ by less may be equal, and one that stands out may be luck.")
     tuned = "all settings" if not report["race"] else "the settings around the race's winner"
     return section("Landscape", paragraph(f"Totals of {tuned}, in the fights of the schedule."),
                    f"<figure>{picture}</figure>",
@@ -230,12 +236,12 @@ def ranking_row(report, ranked, is_winner):
     return [escaped(ranked["rank"]) + (f" {WINNER}" if is_winner else ""),
             escaped(ranked["setting"]), *value_cells(report, ranked["values"]),
             integer(ranked["tuned"]), fresh_percent(fresh),
-            *(integer(fresh and fresh[key]) for key in ("points", "fights"))]
+            *(integer(fresh and fresh[key]) for key in fresh_counts(report))]
 
 
 def ranking(report):
-    names, first = list(report["winner"]["values"]), report["ranking"]
-    heads = ["rank", "setting", *map(escaped, names), "tuned total", "percent", "points", "fights"]
+    names, first, counts = list(report["winner"]["values"]), report["ranking"], fresh_counts(report)
+    heads = ["rank", "setting", *map(escaped, names), "tuned total", "percent", *counts]
     marked = [index for index, ranked in enumerate(first)
               if ranked["setting"] == report["winner"]["setting"]]
     rows = [ranking_row(report, ranked, index in marked) for index, ranked in enumerate(first)]
@@ -243,7 +249,7 @@ def ranking(report):
                    paragraph("In order of the tuned total. In fresh fights the better half went on "
                              "each time, so some played more of them than others.", "soft"),
                    table("The first of the ranking", heads, rows, marked=marked,
-                         groups=[("", 3 + len(names)), ("in fresh fights", 3)]))
+                         groups=[("", 3 + len(names)), ("in fresh fights", 1 + len(counts))]))
 
 
 def finalists(report):
