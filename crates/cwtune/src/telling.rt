@@ -72,11 +72,6 @@ pub(crate) fn tell_fault<V: Write, D: Display + Drop>(
     }
 }
 
-// Writes a line of an explanation.
-pub(crate) fn tell_explanation<V: Write>(err: &mut Outlet<V>, line: &str) {
-    tell(err, &["  ", line, "\n"]);
-}
-
 // Writes the line of a text with its file and its number, from 1, or the file alone for line 0.
 pub(crate) fn tell_source<V: Write>(err: &mut Outlet<V>, file: &str, text: &[u8], number: u64) {
     if number == 0 {
@@ -142,21 +137,15 @@ fn records_of(line: &[u8]) -> u64 {
 
 // Returns the line at an index, from 0, or nothing if the text has fewer.
 pub(crate) fn line_at(text: &[u8], index: u64) -> &[u8] {
-    match text.split(is_line_feed).nth(index as usize) {
-        Some(line) => line,
-        None => b"",
-    }
+    text.split(is_line_feed).nth(index as usize).unwrap_or(b"")
 }
 
 // Writes the front of a line without the carriage return at its end, and `..` if it is longer. If
 // the front has anything else that would steer a terminal, it is not shown.
 fn tell_shown<V: Write>(err: &mut Outlet<V>, line: &[u8]) {
-    let line = match line.strip_suffix(b"\r") {
-        Some(front) => front,
-        None => line,
-    };
+    let line = line.strip_suffix(b"\r").unwrap_or(line);
     let front = front_of(line);
-    if !front.iter().all(can_be_shown) || has_c1_control(front) {
+    if !can_be_shown(front) {
         tell(err, &["(a terminal cannot show it)"]);
         return;
     }
@@ -166,21 +155,18 @@ fn tell_shown<V: Write>(err: &mut Outlet<V>, line: &[u8]) {
     }
 }
 
-fn can_be_shown(byte: &u8) -> bool {
-    *byte == b'\t' || (*byte >= b' ' && *byte != 127)
-}
-
-// Returns whether a text has one of the controls U+0080 to U+009F, which UTF-8 spells C2 80 to
-// C2 9F.
-fn has_c1_control(text: &[u8]) -> bool {
+// Returns whether nothing in a text steers a terminal. UTF-8 spells the controls U+0080 to U+009F as
+// C2 80 to C2 9F.
+fn can_be_shown(text: &[u8]) -> bool {
     let mut last: u8 = 0;
     for byte in text {
-        if last == 0xc2 && *byte >> 5 == 4 {
-            return true;
+        let is_below = *byte < b' ' && *byte != b'\t';
+        if is_below || *byte == 127 || (last == 0xc2 && *byte >> 5 == 4) {
+            return false;
         }
         last = *byte;
     }
-    false
+    true
 }
 
 // Returns the first characters of a line, at most `MOST_SHOWN` bytes.
@@ -191,10 +177,7 @@ fn front_of(line: &[u8]) -> &[u8] {
             end = end.saturating_sub(1);
         }
     }
-    match line.get(..end) {
-        Some(front) => front,
-        None => line,
-    }
+    line.get(..end).unwrap_or(line)
 }
 
 // Returns whether the byte at `index` continues a character of UTF-8.

@@ -50,11 +50,8 @@ pub(crate) fn write_inputs<R: Files + Copy>(
 
 // Returns whether two names lead to one file.
 fn is_same_file<F: Files>(rt: &F, one: &str, other: &str) -> bool {
-    let Ok(found) = fs::metadata(rt, one) else {
-        return false;
-    };
-    match is_file_at(rt, other, &found) {
-        Ok(is_same) => is_same,
+    match fs::metadata(rt, one) {
+        Ok(found) => is_file_at(rt, other, &found).unwrap_or(false),
         Err(_) => false,
     }
 }

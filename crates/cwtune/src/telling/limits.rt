@@ -20,27 +20,17 @@ use tune_template::{Template, TemplateFault, TemplateKind};
 
 // Writes the limit that raw rules break, and the number that breaks it.
 pub(crate) fn tell_rules<V: Write>(err: &mut Outlet<V>, raw: RawRules, error: RulesError) {
-    tell_broken_limit(err, rules_limit(error), u64::from(rules_number(raw, error)));
-}
-
-fn rules_limit(error: RulesError) -> &'static str {
-    match error {
-        RulesError::Core => "the core size is 8 to 65535",
-        RulesError::Cycles => "the cycles are 1 to 1000000",
-        RulesError::Tasks => "the tasks are 1 to 8000",
-        RulesError::Length => "the length is 1 to 200",
-        RulesError::Distance => "the distance is from the length to half of the core size",
-    }
-}
-
-fn rules_number(raw: RawRules, error: RulesError) -> u32 {
-    match error {
-        RulesError::Core => raw.core,
-        RulesError::Cycles => raw.cycles,
-        RulesError::Tasks => raw.tasks,
-        RulesError::Length => raw.length,
-        RulesError::Distance => raw.distance,
-    }
+    let (limit, number) = match error {
+        RulesError::Core => ("the core size is 8 to 65535", raw.core),
+        RulesError::Cycles => ("the cycles are 1 to 1000000", raw.cycles),
+        RulesError::Tasks => ("the tasks are 1 to 8000", raw.tasks),
+        RulesError::Length => ("the length is 1 to 200", raw.length),
+        RulesError::Distance => (
+            "the distance is from the length to half of the core size",
+            raw.distance,
+        ),
+    };
+    tell_broken_limit(err, limit, u64::from(number));
 }
 
 // Writes the line of a text at which it does not assemble, and why.
@@ -105,16 +95,15 @@ pub(crate) fn tell_template<V: Write>(
             err,
             &["  a template has at most 8 constants; this line has the ninth\n"],
         ),
-        TemplateKind::TooManyVectors => tell_settings(err, settings_up_to(alloc, text, fault.line)),
+        TemplateKind::TooManyVectors => tell_number(
+            err,
+            "  a template has at most 1000000 settings; up to this line there are ",
+            settings_up_to(alloc, text, fault.line),
+            "\n",
+        ),
         TemplateKind::TextTooLong => tell_text_length(err, text),
         kind => tell_fault(err, alloc, kind),
     }
-}
-
-// Writes how many settings a template may have, and how many this one has up to a line.
-fn tell_settings<V: Write>(err: &mut Outlet<V>, settings: u64) {
-    let limit = "  a template has at most 1000000 settings; up to this line there are ";
-    tell_number(err, limit, settings, "\n");
 }
 
 // Counts the settings of the range lines up to a line. The last of them is the first with which

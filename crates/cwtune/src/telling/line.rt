@@ -30,10 +30,7 @@ fn code_of(line: &[u8]) -> &[u8] {
         Some(rest) if is_assertion(rest) => rest,
         _ => line,
     };
-    match line.split(is_semicolon).next() {
-        Some(code) => code,
-        None => b"",
-    }
+    line.split(is_semicolon).next().unwrap_or(b"")
 }
 
 fn is_assertion(comment: &[u8]) -> bool {
@@ -50,10 +47,7 @@ fn is_between_words(byte: &u8) -> bool {
 
 // Returns the front of a line, up to the first sign that labels do not have.
 pub(crate) fn before_signs(line: &[u8]) -> &[u8] {
-    match line.split(ends_labels).next() {
-        Some(front) => front,
-        None => line,
-    }
+    line.split(ends_labels).next().unwrap_or(line)
 }
 
 fn ends_labels(byte: &u8) -> bool {
@@ -61,10 +55,7 @@ fn ends_labels(byte: &u8) -> bool {
 }
 
 fn before_dot(word: &[u8]) -> &[u8] {
-    match word.split(|byte| *byte == b'.').next() {
-        Some(front) => front,
-        None => word,
-    }
+    word.split(|byte| *byte == b'.').next().unwrap_or(word)
 }
 
 impl<'a> Line<'a> {

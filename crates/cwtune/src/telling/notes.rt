@@ -30,16 +30,12 @@ pub(crate) fn tell_template_notes<V: Write>(
 pub(crate) fn tell_idle<V: Write>(err: &mut Outlet<V>, opponents: &[String], fights: &[Fight]) {
     let mut index: u32 = 0;
     for name in opponents {
-        if !has_fight(fights, index) {
+        if !fights.iter().any(|fight| fight.opponent == index) {
             tell_number(err, "  no fight names opponent ", u64::from(index), ", ");
             tell(err, &[name.as_str(), "\n"]);
         }
         index = index.saturating_add(1);
     }
-}
-
-fn has_fight(fights: &[Fight], opponent: u32) -> bool {
-    fights.iter().any(|fight| fight.opponent == opponent)
 }
 
 // Writes the lines of a template that look like range lines and are not.
@@ -110,7 +106,7 @@ fn is_token(text: &[u8], name: &[u8]) -> bool {
     for _token in 0..text.len() {
         match lexer.next_token() {
             Ok(Some(token)) => {
-                if is_at(text, token.lo, token.hi, name) {
+                if text.get(token.lo..token.hi) == Some(name) {
                     return true;
                 }
             }
@@ -119,11 +115,4 @@ fn is_token(text: &[u8], name: &[u8]) -> bool {
         }
     }
     false
-}
-
-fn is_at(text: &[u8], lo: usize, hi: usize, name: &[u8]) -> bool {
-    match text.get(lo..hi) {
-        Some(word) => word == name,
-        None => false,
-    }
 }

@@ -3,7 +3,7 @@ ghost use Rattle.std.specs.Prelude.{◌≡◌, ◌<◌, ◌≤◌, ◌/◌, code
 
 use crate::telling::notes::{tell_idle, tell_lost_ranges, tell_template_notes, tell_unused};
 use crate::telling::refusal::explain;
-use crate::telling::{tell_error, tell_explanation, tell_number};
+use crate::telling::{tell_error, tell_number};
 use command_runs::{Finding, Refused, Witness, tell};
 use command_words::TuneWords;
 use rc_instr::Outlet;
@@ -114,7 +114,10 @@ impl<C: Clock, V: Write> Progress<C, V> {
         self.shown = Some(now);
         let millis = millis_between(self.began, now);
         match self.style {
-            Style::Log => self.log_line(millis),
+            Style::Log => {
+                self.tell_standing(millis);
+                tell(&mut self.err, &["\n"]);
+            }
             _ => self.draw_line(millis),
         }
     }
@@ -125,11 +128,6 @@ impl<C: Clock, V: Write> Progress<C, V> {
         tell(&mut self.err, &["\r\x1b[?7l"]);
         self.tell_standing(millis);
         tell(&mut self.err, &["\x1b[K\x1b[?7h"]);
-    }
-
-    fn log_line(&mut self, millis: u64) {
-        self.tell_standing(millis);
-        tell(&mut self.err, &["\n"]);
     }
 
     // Writes percent, settings, fights, fights a second, the best setting, and the time left.
@@ -218,7 +216,7 @@ impl<C: Clock, V: Write> Witness for Progress<C, V> {
         }
         tell(&mut self.err, &[OTHER_INPUTS]);
         for line in lines {
-            tell_explanation(&mut self.err, line.as_str());
+            tell(&mut self.err, &["  ", line.as_str(), "\n"]);
         }
     }
 

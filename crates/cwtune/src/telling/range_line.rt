@@ -55,7 +55,16 @@ pub(crate) fn tell_neighbours<V: Write>(err: &mut Outlet<V>, line: &[u8]) {
         return;
     };
     match (below, above) {
-        (Some(below), Some(above)) => tell_two(err, below, above),
+        (Some(below), Some(above)) => {
+            tell(
+                err,
+                &[
+                    "  help: the nearest values are ",
+                    Buffer::new().format(below),
+                ],
+            );
+            tell(err, &[" and ", Buffer::new().format(above), "\n"]);
+        }
         (Some(nearest), None) | (None, Some(nearest)) => {
             tell(
                 err,
@@ -68,17 +77,6 @@ pub(crate) fn tell_neighbours<V: Write>(err: &mut Outlet<V>, line: &[u8]) {
         }
         (None, None) => {}
     }
-}
-
-fn tell_two<V: Write>(err: &mut Outlet<V>, below: i64, above: i64) {
-    tell(
-        err,
-        &[
-            "  help: the nearest values are ",
-            Buffer::new().format(below),
-        ],
-    );
-    tell(err, &[" and ", Buffer::new().format(above), "\n"]);
 }
 
 // Returns the values next to START, below and above it. `None` if a word is not a number.

@@ -4,11 +4,10 @@ use crate::telling::limits::{tell_asm, tell_positions, tell_rules, tell_schedule
 use crate::telling::{tell_broken_limit, tell_greatest};
 use command_runs::{Refused, tell, tell_asm_names};
 use command_words::{DuelWords, TuneWords};
-use rc_asm::AsmFault;
 use rc_instr::Outlet;
 use std::alloc::Global;
 use std::io::Write;
-use tune_runs::{DuelTexts, RawRules, RunFault, TuneTexts};
+use tune_runs::{DuelTexts, RunFault, TuneTexts};
 use tune_template::Template;
 
 // Writes what helps with a fault, if anything does. If no setting assembles, explains the fault of
@@ -21,7 +20,11 @@ pub(crate) fn explain<V: Write>(
     setting: u32,
 ) {
     match refused {
-        Refused::Rules(raw) => explain_rules(err, *raw, fault),
+        Refused::Rules(raw) => {
+            if let RunFault::Rules(error) = fault {
+                tell_rules(err, *raw, error);
+            }
+        }
         Refused::Warrior { rules, file, text } => match fault {
             RunFault::Asm(fault) => tell_asm(err, alloc, rules, file, text, fault),
             _ => explain_template(err, alloc, file, text, fault),
@@ -31,12 +34,6 @@ pub(crate) fn explain<V: Write>(
         Refused::Tuning { words, texts } => {
             explain_tuning(err, alloc, words, texts, fault, setting);
         }
-    }
-}
-
-fn explain_rules<V: Write>(err: &mut Outlet<V>, raw: RawRules, fault: RunFault) {
-    if let RunFault::Rules(error) = fault {
-        tell_rules(err, raw, error);
     }
 }
 
@@ -127,9 +124,8 @@ fn explain_setting<V: Write>(
     if setting >= template.count() {
         return;
     }
-    let fault: AsmFault = match template.instance(alloc, setting, texts.rules) {
-        Ok(_) => return,
-        Err(fault) => fault,
+    let Err(fault) = template.instance(alloc, setting, texts.rules) else {
+        return;
     };
     tell(err, &["  one of the settings:"]);
     tell_asm_names(err, fault);
