@@ -25,6 +25,7 @@ impl Model for Code {
 }
 
 impl Code {
+    /// Makes code of instructions.
     pub fn from_vec(instructions: Vec<Instruction>) -> Code
         ensures { result ≡ instructions.items }
     {

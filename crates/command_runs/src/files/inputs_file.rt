@@ -70,7 +70,7 @@ fn replace_inputs<R: Files + Copy>(
     replacement.finish()
 }
 
-// Out of line, so that the hot loop begins at a multiple of 32 (docs/HOT_LOOP.md, "To move it").
+// Out of line, which moves the hot loop (docs/HOT_LOOP.md, "To move it").
 #[inline(never)]
 fn is_file<F: Files>(rt: &F, name: &str) -> bool {
     match fs::metadata(rt, name) {
