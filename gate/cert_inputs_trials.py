@@ -3,7 +3,7 @@
 Its text is compared with one that is made from the words and the files; nothing else of a run may
 depend on it.
 """
-import os, pathlib, tempfile
+import os, pathlib, signal, tempfile
 
 from author.lib.endings import run_tool
 from author.lib.program import version_of
@@ -11,7 +11,7 @@ from author.lib.words import program_word
 
 from .lib import cert_inputs, inputs
 from .lib.inputs import RULES
-from .lib.play import Place, end, report
+from .lib.play import SECONDS, Place, end, report
 from .lib.tally import compare, tally
 
 FILES = inputs.files("dat.red", "imp.red", "both.csv", "first.csv", "imps.red", "step.red",
@@ -28,6 +28,11 @@ HOLDS = ("  a certificate holds only for its own template, schedule, opponents i
          "part\n")
 SAME = ("  all of these are the tuning's, so its --keep or --floor was another, or the certificate "
         "itself is wrong\n")
+TAKEN = "error: CERT is also another file of this command, and is not overwritten: CERT\n"
+# A tuning of a fifth of a second.
+SLOW = {"slow.red": ";@tune K 1 200 1 1\nJMP 0, <K\n",
+        "slow.csv": "opponent,position,first\n0,4000,c\n"}
+TUNE_SLOWLY = ["tune", "--progress", "slow.red", "slow.csv", "CERT", "imp.red"]
 KIND = "error: CERT.inputs is a text of another kind, and is not overwritten: CERT.inputs\n"
 NAMED = "error: CERT.inputs is also a file of this command, and is not overwritten: CERT.inputs\n"
 
@@ -37,7 +42,7 @@ class TuningPlace(Place):
 
     def __init__(self, program, folder, version):
         wide = {"wide.csv": "opponent,position,first\n0,100,c\n"}
-        super().__init__(program, folder, FILES | wide)
+        super().__init__(program, folder, FILES | SLOW | wide)
         self.version, self.inputs_path = version, self.folder / "CERT.inputs"
 
     def inputs(self, words):
@@ -129,6 +134,30 @@ def unwritable(place):
                   place.run(words))
 
 
+def meanwhile(place):
+    """Has files come while a tuning runs, and standard output go to CERT."""
+    for name, text, status in [("CERT", b"a text\n", 3), ("CERT.inputs", b"a text\n", 0),
+                               ("CERT.unfinished-1", b"", 0)]:
+        for one in "CERT", "CERT.inputs":
+            (place.folder / one).unlink(missing_ok=True)
+        with place.start(TUNE_SLOWLY) as process:
+            line = process.stderr.readline()
+            process.send_signal(signal.SIGSTOP)
+            place.write(name, text)
+            process.send_signal(signal.SIGCONT)
+            err = process.communicate(timeout=SECONDS)[1]
+        yield compare(f"{name} comes meanwhile", (True, status, status == 3, text),
+                      (line.startswith(b"0% "), process.returncode, b"\nfound: " in err,
+                       place.read(name)))
+        cert = place.read("CERT") or b""
+        yield compare(f"{name} comes meanwhile: CERT", status == 0, cert.startswith(b"cwcert,"))
+    place.remove_inputs()
+    for name in "CERT", "CERT.unfinished-1":
+        (place.folder / name).unlink()
+    with open(place.folder / "CERT", "wb") as file:
+        yield compare("standard output is CERT", end(2, err=TAKEN), place.run(TUNE, stdout=file))
+
+
 def checks(place):
     """Checks with other inputs, at a terminal."""
     place.remove_inputs()
@@ -169,6 +198,14 @@ def rejections(place):
     yield compare("a wrong certificate with its digest", HOLDS + SAME, place.at_terminal(check))
     place.remove_inputs()
     yield compare("without CERT.inputs", unknown.format("cannot be read"), place.at_terminal(check))
+    os.mkfifo(place.inputs_path)
+    yield compare("a FIFO", unknown.format("cannot be read"), place.at_terminal(check))
+    place.remove_inputs()
+    place.write("CERT.inputs", said.replace(b"inputs 1", b"inputs 2"))
+    yield compare("another form", unknown.format("is of another form"), place.at_terminal(check))
+    place.write("CERT.inputs", said.replace(*digests).replace(b"rules 16", b"rules \x1b[2J"))
+    yield compare("rules that would steer a terminal", HOLDS + "  rules 16 20 4 4 4, and the "
+                  "tuning had rules of another form\n", place.at_terminal(check))
     tail = [*RULES, "tail.red", *TUNE[-4:]]
     place.run(["tune", *tail], keep=True)
     yield compare("a ranking that the tuning did not find",
@@ -183,7 +220,7 @@ def main():
     with tempfile.TemporaryDirectory() as folder:
         place = TuningPlace(program, pathlib.Path(folder), version_of(program))
         return tally([*texts(place), *replaced(place), *kept(place), *unwritable(place),
-                      *checks(place), *rejections(place)])
+                      *meanwhile(place), *checks(place), *rejections(place)])
 
 
 if __name__ == "__main__":

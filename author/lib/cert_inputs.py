@@ -79,9 +79,8 @@ def is_file(path, digest):
 
 def settle(args):
     """Fills in the rules and the files that were not given, from CERT.inputs, and refuses those
-    given that differ from it. Returns why CERT.inputs could not be used, or an empty text. Words
-    that a command does not have, or for which no file is found, are left alone. A certificate that
-    is not there ends the command."""
+    given that differ from it. Returns why CERT.inputs could not be used, or an empty text. A file
+    that is not where it was stays None. A certificate that is not there ends the command."""
     os.stat(args.cert)
     inputs = read(args.cert)
     if getattr(args, "hill", None):

@@ -126,12 +126,22 @@ def words_of(error):
         return f"{words} took more than {error.timeout:.0f} seconds"
     if isinstance(error, OSError):
         # A copy names two files; the second is the one that is written.
-        name = error.filename2 or error.filename or "standard output"
-        return f"{os.fsdecode(name) if isinstance(name, bytes) else name}: {error.strerror}"
+        name = error.filename2 or error.filename or lost_stream()
+        shown_name = f"{os.fsdecode(name) if isinstance(name, bytes) else name}: " if name else ""
+        return shown_name + (error.strerror or str(error))
     frame = traceback.extract_tb(error.__traceback__)[-1]
     return (f"{type(error).__name__} in {pathlib.Path(frame.filename).name}, line {frame.lineno}: "
             f"{' '.join(str(error).split())[:200]} (a fault of this command: with "
             "CWTUNE_TRACEBACK=1 it says more)")
+
+
+def lost_stream():
+    """Returns `standard output` if what was written there is lost, else an empty text."""
+    try:
+        sys.stdout.flush()
+    except OSError:
+        return "standard output"
+    return ""
 
 
 def say(word, message, status):
@@ -150,8 +160,8 @@ def note(text):
 
 
 def tell(line):
-    """Writes a line on standard error as it is."""
-    print(line, file=sys.stderr, flush=True)
+    """Writes a line on standard error, escaped."""
+    print(escaped(line), file=sys.stderr, flush=True)
 
 
 def status_of(returncode):

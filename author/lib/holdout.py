@@ -26,7 +26,7 @@ from .program import EXPLAIN, rules_of, run_program
 from .series import refuse_distance, refuse_fights
 from .words import (FILE_HELP, add_cwtune, add_files, add_number, add_shared, command_parser,
                     counted, print_json)
-from .writing import temporary_folder
+from .writing import temporary_folder, write_bytes
 
 
 def printed_by(*words):
@@ -63,8 +63,8 @@ class Holdout:
         with temporary_folder() as folder:
             files = [pathlib.Path(folder, name) for name in ("t.red", "s.csv", "cert")]
             template, schedule, cert = files
-            template.write_bytes(load_file)
-            schedule.write_text(self.schedule())
+            write_bytes(template, load_file)
+            write_bytes(schedule, self.schedule().encode())
             printed_by(args.program, "tune", *EXPLAIN, *rules, "--", *files, *args.opponents)
             points = tuning_files.Certificate(cert).points(0)
         rounds = args.rounds

@@ -22,12 +22,12 @@ from .gain import gain_numbers, gain_of, gain_text
 from .grid import Grid
 from .program import assemble_bytes, load_file_of, rules_of
 from .race import Race
-from .race.fights import Arena
+from .race.fights import Arena, NoRecords
 from .race.words import add_budget, budget_of
 from .tuning_files import MOST_SETTINGS, weights_by_opponent
 from .words import (add_cwtune, add_files, add_number, add_shared, command_parser, number_from,
                     print_json)
-from .writing import temporary_folder
+from .writing import temporary_folder, write_bytes
 
 
 def print_outcome(grid, outcome, weights):
@@ -90,7 +90,7 @@ def readable_opponents(args, paths, folder):
     for index, (path, text, is_adapted) in enumerate(adapted_opponents(args, paths)):
         if is_adapted:
             path = pathlib.Path(folder, f"opponent{index}.red")
-            path.write_bytes(text)
+            write_bytes(path, text)
         yield path
 
 
@@ -98,7 +98,7 @@ def seek(args, grid, opponents, weights):
     """Races. Returns the winner's values and the outcome; after Ctrl-C the best so far and None."""
     with (temporary_folder() as folder,
           Arena(args, budget_of(args), grid, list(readable_opponents(args, opponents, folder)),
-                weights, [], folder) as arena):
+                weights, NoRecords(), folder) as arena):
         race = Race(grid, arena, args.seed)
         try:
             outcome = race.run()

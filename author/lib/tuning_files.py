@@ -336,5 +336,6 @@ def exactness_text(exact, wanted):
     """Returns a text that says how many of the first `wanted` of a ranking are exact."""
     shown = "the first of the ranking is exact" if exact == 1 else (
         f"the first {exact} of the ranking are exact")
+    kept = min(wanted, MOST_KEPT)
     return shown if exact >= wanted else (
-        f"only {shown}; cwtune tune --keep {wanted} makes the first {wanted} exact")
+        f"only {shown}; cwtune tune --keep {kept} makes the first {kept} exact")

@@ -72,7 +72,7 @@ def number_from(low, high=None):
             raise argparse.ArgumentTypeError(f"{word} is not {limits}")
         return number
 
-    read.__name__ = "number"
+    read.__name__ = "number"  # argparse says: invalid number value
     return read
 
 

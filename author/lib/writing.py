@@ -93,12 +93,18 @@ def remove_unlocked(path):
             os.close(descriptor)
 
 
+def write_bytes(path, text):
+    """Writes a file. A fault names it, also if the disk is full."""
+    with naming(path):
+        pathlib.Path(path).write_bytes(text)
+
+
 @contextlib.contextmanager
 def temporary_file(name, text):
     """Gives a block the path of a file with a text, in a folder that is made for it."""
     with temporary_folder() as folder:
         path = pathlib.Path(folder, pathlib.Path(name).name)
-        path.write_bytes(text)
+        write_bytes(path, text)
         yield str(path)
 
 

@@ -191,11 +191,6 @@ class Reporting(Trial):
         self.says(report, "PLACE is held at v6013", "START is not in this picture: STEP v3005")
 
     def test_landscapes(self):
-        plain_list = {"axes": ["K"], "values": [[1, 2, 3]], "totals": [5, None, 7]}
-        spellings = [plain_list, plain_list | {"totals": [[5], [None], [7]]},
-                     plain_list | {"totals": [[5, None, 7]]}]
-        self.same("totals of one constant", 3 * [[[5, None, 7]]],
-                  [maps.read_landscape(spelling, {}).totals for spelling in spellings])
         landscape = maps.Landscape(["A", "B"], [[1, 2, 3], [4, 5]],
                                    [[1, 2], [3, None], [None, None]], {})
         step, thin = maps.thinned(landscape, 2)

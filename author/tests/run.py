@@ -13,12 +13,13 @@ import os, pathlib, re, shutil, signal, subprocess, sys, tempfile, unittest
 
 from author.lib.endings import run_tool
 from author.lib.words import add_built, module_parser
+from author.lib.writing import write_bytes
 
 from . import (adapting, clusters, hosts, landscapes, merging, origins, own_folders, racing,
                refusals, reporting, sharing, spreading, strangers, study_hosts, studying, varying,
                warriors)
-from .trial import (AUTHOR, SECONDS, TUNING, Trial, command, name_of, play, python_with_matplotlib,
-                    run)
+from .trial import (AUTHOR, SECONDS, TUNING, Trial, came_of, command, name_of, play,
+                    python_with_matplotlib, run)
 
 MODULES = [warriors, varying, adapting, racing, origins, landscapes, refusals, strangers,
            own_folders, studying, spreading, merging, sharing, hosts, study_hosts, clusters,
@@ -115,6 +116,13 @@ class Commands(Trial):
             completed = subprocess.run(words, shell=True, cwd=TUNING, capture_output=True,
                                        text=True, timeout=SECONDS)
             self.same(words, (3, f"failed: {fault}\n"), (completed.returncode, completed.stderr))
+        words = f"{AUTHOR}/cwtune-warrior --program={self.program} step.red --setting=0"
+        completed = subprocess.run(["sh", "-c", f"ulimit -f 0; exec {words}"], cwd=TUNING,
+                                   capture_output=True, text=True, timeout=SECONDS)
+        self.same("no room for temporary files", (3, "failed: No usable temporary directory"),
+                  (completed.returncode, completed.stderr[:37]))
+        self.same("a full disk", "/dev/full: No space left on device",
+                  came_of(write_bytes, "/dev/full", b"x"))
 
     def test_link(self):
         with tempfile.TemporaryDirectory() as folder:

@@ -86,6 +86,13 @@ class Spreading(SpreadTrial):
         self.same("--anew begins again", (0, False, 0),
                   (status, (self.folder / "CERT.parts").exists(),
                    self.check(reversed_opponents)))
+        (self.folder / "CERT").unlink()
+        self.write_program("changing", f"echo >>{self.folder}/decoy.red\n"
+                           f"exec {self.program} \"$@\"")
+        self.same("a template that is changed meanwhile is refused", (
+            3, "", "failed: an input was changed while the parts ran: change it back and repeat "
+            "the command, or give --anew to begin again\n", None), (
+                *self.spread("--program=./changing", *DECOY), self.read("CERT")))
 
     def test_damaged_parts(self):
         unbroken = self.found(DECOY, self.spread("--jobs=1", *TWELVE))

@@ -120,6 +120,9 @@ class Strangers(Trial):
             Refusal("cwtune-spread --merge=1 t.red s.csv CERT dat.red", 3, "failed: no result for "
                     "part 1 of 1 (CERT.1.report is cut, or not there)")])
         name = f"no{ESCAPE}.red"
+        self.same("a folder of such a name", (0, False), (
+            (end := self.call(f"{STUDY} t.red dat.red --out", f"{name}.study")).status,
+            "\x1b" in end.out + end.err))
         for words in ["cwtune-files", "cwtune-landscape t.red CERT.1"]:
             result = self.call(words, name)
             self.same(f"{words} of a name", (True, False), (

@@ -24,7 +24,9 @@ class StudyTrial(Trial):
     """A trial of `cwtune-study`, with a template, a warrior and a folder of opponents."""
 
     FILES = {"t.red": TEMPLATE, "w.red": WARRIOR, "p.red": PLANE,
-             **{f"all/{name}": text for name, text in OPPONENTS.items()}}
+             **{f"all/{name}": text for name, text in OPPONENTS.items()},
+             # What is no opponent, though its name ends with `.red`.
+             "all/.#dat.red": "an editor's\n", "all/old.red/dat.txt": "in a folder\n"}
     # The words of a study that is made before the trial, if any.
     STUDIED = ()
 

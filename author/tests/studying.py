@@ -4,6 +4,8 @@ and gives it other inputs, other folders and wrong words.
 import fcntl, json, os, random, shutil, signal, subprocess, time
 
 from author.lib import grid, tuning_files
+from author.lib.study.raced import is_replaced
+from author.lib.study.result import Box
 
 from .study_trial import FEW, OPPONENTS, PLANE, TEMPLATE, WARRIOR, StudyTrial
 from .trial import AUTHOR, SECONDS, SEED, Refusal, refusals_of, usage_errors, wait_until
@@ -254,6 +256,36 @@ class Studying(StudyTrial):
         report, line = self.report("k"), out.splitlines()[-3]
         self.same("no gain is measured", (0, "keep START: no fights were left", False, None), (
             status, line[:31], report["winner"]["values"] == {"K": 5}, report["gain"]))
+
+    def test_certified_box(self):
+        """Certifies a box with more fights than the race has, and then has another setting of it
+        take the place of the race's winner."""
+        self.write("q.red", PLANE.replace("JMP  -2", ";@tune K -4 -2 1 -2\n        JMP  K"))
+        words = ["--exact=27", "--rounds=50", "--fights=2000", "--certify", "q.red", "all"]
+        status, folder = self.study(*words).status, self.folder / "q.study"
+        stages = self.mark("q")["stages"]
+        challenge, winner = stages["challenge"]["result"], stages["race"]["result"]["winner"]
+        self.same("fights are left to compare the box with the winner", (0, 4050, True), (
+            status, stages["box"]["result"]["fights"], bool(challenge["compared"][0])))
+        settings = tuning_files.Template(folder / "box.red").values_of_settings
+        other = next(values for values in settings if values[2] != winner[2])
+        challenge |= {"best": other, "points": [["3"] * 3, ["0"] * 3]}
+        self.mark("q", stages={name: stage for name, stage in stages.items()
+                               if name not in ("winner", "report")})
+        status, report = self.study(*words).status, self.report("q")
+        self.same("the page shows the totals around the new winner", (
+            0, True, Box(folder).landscape(settings.index(other))),
+            (status, report["box"]["replaces"], report["landscape"]))
+        self.same("whether a box has a better setting", [None, None, False, True], [
+            is_replaced({"compared": compared, "points": points}, [1])
+            for compared, points in [([[], []], None), ([["3" * 9], ["0" * 9]], None),
+                                     ([["0"], ["3"]], None), ([["3"], ["0"]], [["3"], ["0"]])]])
+
+    def test_default_seed(self):
+        """Makes a study in a core in which 4321 would begin a series at one position alone."""
+        self.study("--core=400", "--distance=100", "t.red", "all/dat.red")
+        lines = self.read("t.study/schedule.csv").decode().split()[1:]
+        self.same("positions differ", 3, len({line.split(",")[1] for line in lines}))
 
     def test_opens(self):
         """Makes a study of a warrior with places of several kinds, in which settings race."""

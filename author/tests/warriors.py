@@ -198,6 +198,8 @@ class Warriors(Trial):
 
     def test_ranks(self):
         """Plays fresh fights of exact ranks, and of one that a dropped setting may come before."""
+        self.same("more than can be kept", "only the first of the ranking is exact; cwtune tune "
+                  "--keep 1000 makes the first 1000 exact", tuning_files.exactness_text(1, 2000))
         self.write("s.csv", FIGHT + "0,4100,c\n0,4200,o\n")
         fresh = "cwtune-holdout --rounds 20 --schedule s.csv t.red cert imp.red"
         for options, names, last_line in [

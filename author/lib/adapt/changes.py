@@ -67,7 +67,7 @@ class Changes:
         return not change.readings or len(change.readings) == self.read_counts[change.index]
 
     def add(self, at, root, new, note):
-        """Adds a change of the columns `root`. `at` is an `At`, or what has the same."""
+        """Adds a change of the columns `root`. `at` has an index and a reading."""
         new = Traced.new(new) if isinstance(new, str) else new
         change = self.found.setdefault((at.index, *root, new and new.text),
                                        Change(at.index, *root, new, note))

@@ -32,7 +32,8 @@ class TooMuch(Exception):
 
 
 class State(enum.IntEnum):
-    """What was read of a line. In VALUE and START a value goes on; START is of a pseudo-opcode."""
+    """What was read of a line, in this order: up to LABELS no opcode. In VALUE and START a value
+    goes on; START is of a pseudo-opcode."""
 
     WRONG, NOTHING, LABELS, VALUE, CODE, START, BLOCK, END_OF_BLOCK = range(-1, 7)
 
@@ -123,8 +124,9 @@ class Code(NamedTuple):
 
 
 class PmarsText:
-    """A text as pMARS reads it. `code` has its instructions, `blocks` the blocks that are open.
-    Without `gives_up` any number of warnings is taken."""
+    """A text as pMARS reads it. `code` has its instructions, `blocks` the blocks that are open, and
+    `dropping` is how many of these are dropped. `at` is the line that is read, and `reading` counts
+    readings of lines. Without `gives_up` any number of warnings is taken."""
 
     def __init__(self, lines, rules, constants, finder, gives_up=True):
         self.lines, self.rules, self.finder, self.gives_up = lines, rules, finder, gives_up

@@ -146,7 +146,8 @@ class Parser:
 
 
 class ParserThere(Parser):
-    """Reads an expression as pMARS does, with its way to group operators."""
+    """Reads an expression as pMARS does, which after a tighter operator may group to the right:
+    `5 - 2*3 + 4` is `5 - (2*3 + 4)`."""
 
     # The operator at which an inner call stopped, for an outer one to go on with.
     saved = ""

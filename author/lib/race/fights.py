@@ -13,6 +13,7 @@ from ..program import NO_CANDIDATE, reading_output, rules_of
 from ..tuning_files import Fight, schedule_text
 from ..watching import Pace
 from ..words import counted
+from ..writing import write_bytes
 from .hosts import Hosts, points_of
 
 # The blocks of one process, so that a long heat runs on several processors.
@@ -104,14 +105,14 @@ class Processes:
         for first in range(0, len(blocks), BLOCKS_OF_PROCESS):
             path = self.folder / f"{first}.csv"
             fights = itertools.chain(*blocks[first:first + BLOCKS_OF_PROCESS])
-            path.write_text(schedule_text(fights))
+            write_bytes(path, schedule_text(fights).encode())
             yield path
 
     def templates_of(self, settings):
         """Writes a template for each setting. Yields its path."""
         for index, values in enumerate(settings):
             path = self.folder / f"{index}.red"
-            path.write_bytes(self.grid.alone(values))
+            write_bytes(path, self.grid.alone(values))
             yield path
 
     def words(self, program, template, schedule, opponents):
@@ -137,6 +138,13 @@ class Processes:
             raise fault_of(subprocess.CompletedProcess(words, process.returncode, stdout, stderr))
         with reading_output(self.args.program, "tune"):
             return points_of(stdout.split(b"\n", 3)[2], len(self.opponents)), seconds
+
+
+class NoRecords(list):
+    """Keeps nothing of what was played: that of a day would fill the memory."""
+
+    def append(self, _):
+        pass
 
 
 class Arena:
@@ -215,12 +223,14 @@ class Arena:
         """Returns a text per contender and block, a digit per opponent; None for a contender
         that does not assemble."""
         settings = [list(contender.values) for contender in contenders]
-        if not self.is_recorded():
+        if self.is_recorded():
+            record = self.records[self.record_count]
+        else:
             points = (self.hosts.take(settings, blocks)
                       or self.processes.play(settings, blocks, self.tell_progress))
-            self.records.append({"settings": settings, "points": points,
-                                 "seconds": round(self.elapsed(), 3)})
-        record, plays = self.records[self.record_count], len(settings) * len(blocks)
+            record = {"settings": settings, "points": points, "seconds": round(self.elapsed(), 3)}
+            self.records.append(record)
+        plays = len(settings) * len(blocks)
         if record["settings"] != settings or not all(
                 points is None or [*map(len, points)] == [len(self.opponents)] * len(blocks)
                 for points in record["points"]):

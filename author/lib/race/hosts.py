@@ -11,6 +11,7 @@ from ..program import reading_output
 from ..spread.hosts import HostJobs, read_hosts
 from ..spread.jobs import ended
 from ..tuning_files import MOST_FIGHTS, schedule_text
+from ..writing import write_bytes
 from . import SETTINGS_AT_ONCE
 
 # Hosts play what takes longer than that here; for one of their processors it is a piece.
@@ -58,7 +59,7 @@ class PiecesFolder:
         sources = {"cwtune": arena.args.program, "race_job": SCRIPT, **opponents}
         for name, source in sources.items():
             shutil.copy(source, self.path / name)
-        (self.path / "t.red").write_bytes(b"\n".join(arena.grid.lines))
+        write_bytes(self.path / "t.red", b"\n".join(arena.grid.lines))
         self.opponents, self.copies = list(opponents), [*self.path.iterdir()]
 
     def file(self, number, kind):
@@ -67,13 +68,14 @@ class PiecesFolder:
     def prepare(self, number):
         """Writes the settings of a piece, as scripts for sed, and the schedule of its blocks."""
         piece, grid = self.pieces[number], self.arena.grid
-        with self.file(number, "settings").open("wb") as file:
-            for values in piece.settings:
-                lines = grid.alone(values).split(b"\n")
-                file.write(b";".join(b"%ds/.*/%s/" % (index + 1, lines[index])
+        scripts = []
+        for values in piece.settings:
+            lines = grid.alone(values).split(b"\n")
+            scripts.append(b";".join(b"%ds/.*/%s/" % (index + 1, lines[index])
                                      for index in grid.line_indices) + b"\n")
         fights = (fight for block in piece.blocks for fight in block)
-        self.file(number, "csv").write_text(schedule_text(fights))
+        write_bytes(self.file(number, "settings"), b"".join(scripts))
+        write_bytes(self.file(number, "csv"), schedule_text(fights).encode())
 
     def words(self, number):
         name = f"{number}.{self.pid}"

@@ -4,6 +4,7 @@ from typing import Annotated, TypedDict
 
 from ..endings import Fault
 from ..schema import Malformed, from_json
+from ..writing import naming
 
 # More than a line has.
 MOST_RECORD_BYTES = 1 << 20
@@ -44,6 +45,7 @@ class Journal(list):
             raise self.fault(fault) from None
 
     def append(self, record):
-        super().append(record)
-        self.file.write(json.dumps(record, separators=(",", ":")).encode() + b"\n")
-        self.file.flush()
+        """Writes a record. It is not kept in memory, since nothing reads it again."""
+        with naming(self.shown):
+            self.file.write(json.dumps(record, separators=(",", ":")).encode() + b"\n")
+            self.file.flush()

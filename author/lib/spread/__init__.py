@@ -199,6 +199,7 @@ def refuse_ranking(args, cert):
 def finish(args, folder, progress, notes):
     """Puts the parts together, writes CERT and prints the report. Returns the status."""
     parts, whole = progress.done(), folder.whole()
+    folder.refuse_changed_inputs()
     if not any(part.report for part in parts):  # no setting assembles, and `tune` says so
         folder.clean_up()
         completed = run(args, "tune", args.cert, f"--part=1/{folder.piece_count}",

@@ -143,6 +143,12 @@ class SpreadFolder(Pieces, OwnFolder):
     def copies_fingerprint(self):
         return self.fingerprint(lambda copy: self.sha256(copy.name))
 
+    def refuse_changed_inputs(self):
+        """Refuses inputs that were changed while the pieces ran."""
+        if self.inputs_fingerprint() != self.copies_fingerprint():
+            raise Fault(f"an input was changed while the {self.PIECE}s ran: change it back and "
+                        "repeat the command, or give --anew to begin again", 3)
+
     def fingerprint(self, digest_of_copy):
         """Returns a value for each kind of input that the pieces depend on."""
         digests = {}

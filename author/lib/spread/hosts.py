@@ -10,7 +10,7 @@ from a copy of their file. What is for all pieces, as that copy, has the number 
 """
 import contextlib, hashlib, os, pathlib, re, shlex, shutil, signal, socket, subprocess, sys, tarfile
 
-from ..endings import Fault, escaped, tell
+from ..endings import Fault, tell
 from ..watching import rewrite
 from ..writing import naming
 
@@ -82,7 +82,7 @@ def tell_left_out(reasons):
     for line in lines:
         if sys.stderr.isatty():  # which may show the progress
             rewrite()
-        tell(escaped(line))
+        tell(line)
 
 
 class HostJobs:

@@ -128,8 +128,3 @@ class Shares(SpreadFolder):
     def result(self, number):
         text = self.read_done(number)
         return text and verdict_in(text, number, self.piece_count, self.keep)
-
-    def refuse_changed_inputs(self):
-        """Refuses a certificate or another input that was changed while it was checked."""
-        if self.inputs_fingerprint() != self.copies_fingerprint():
-            raise Fault("an input was changed during the check: repeat it with --anew", 3)

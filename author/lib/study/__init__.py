@@ -21,7 +21,7 @@ Example: cwtune-study --minutes 10 my.red opponents/ STEP=5:7995:10 GATE=-3500:-
 """
 import contextlib, json, os, pathlib, sys
 
-from ..endings import tell
+from ..endings import escaped, tell
 from ..gain import GAIN, fresh_text, gain_text
 from ..grid import Grid
 from ..program import Rules, rules_of
@@ -104,7 +104,8 @@ class Study:
 
     def go(self):
         args, stage = self.args, self.folder.stage
-        warrior = ["warrior.red"] if args.ranges else []
+        warrior = ["warrior.red"] * bool(args.ranges)
+        warrior += ["original.red"] * (self.inputs.original != self.inputs.warrior)
         stage("inputs", self.copy_inputs, "template.red", "start.red", *warrior, *self.opponents)
         grid = Grid(self.folder.path / "template.red")
         results = self.tune(grid) if grid.count() <= args.exact else RaceOfStudy(self, grid).go()
@@ -168,8 +169,10 @@ def print_raced(report):
     race, box = report["race"], report["box"]
     print(f"race: {race['settings']} of {report['settings']} settings in {race['fights']} fights")
     if box:
+        words = {True: "one of them is better", False: "none of them is better",
+                 None: "no fights were left to compare them with it"}
         print(f"box: {box['settings']} settings around the race's winner, "
-              + ("one of them is better" if box["replaces"] else "none of them is better"))
+              f"{words[box['replaces']]}")
     if report["gain"]:
         print_fresh("winner", report["winner"], report)
         print_fresh("START", report["start"], report)
@@ -192,7 +195,7 @@ def print_end(folder, report):
         if gain["words"] != GAIN:
             print("keep START: these fights show no gain of winner.red")
     for name in ["winner.red", "report.html"]:
-        print(os.path.join(folder.given_path, name))
+        print(escaped(os.path.join(folder.given_path, name)))
 
 
 def make_parser():

@@ -11,6 +11,7 @@ from ..program import EXPLAIN, rules_of, run_program
 from ..series import refuse_distance, refuse_fights, refuse_seed
 from ..tuning_files import MOST_OPPONENTS, MOST_WEIGHT
 from ..writing import temporary_file
+from .fresh import seed_of
 
 # The options that a study depends on.
 OPTIONS = ["rounds", "seed", "exact", "box", "fresh", "fights", "minutes", "certify"]
@@ -30,7 +31,7 @@ class Inputs(NamedTuple):
         options = {f"--{name}": getattr(args, name) for name in OPTIONS}
         return json.loads(json.dumps({
             "program": sha256_of_text(pathlib.Path(args.program).read_bytes()),
-            "template": [sha256_of_text(self.warrior), sha256_of_text(self.template)],
+            "template": [*map(sha256_of_text, (self.original, self.warrior, self.template))],
             "opponents": [[name, sha256_of_text(text)] for name, text in self.opponents],
             "weights": [pair for pair in enumerate(args.weights) if pair[1] != 1],
             "rules": rules_of(args)._asdict(), **options}))
@@ -96,10 +97,13 @@ def weights_of(parser, opponents, by_kind):
 def paths_of(word):
     if not os.path.isdir(word):
         return [word]
-    names = sorted(name for name in os.listdir(word) if name.endswith(".red"))
-    if not names:
+    # As a shell takes *.red: without hidden files, such as an editor's.
+    names = sorted(name for name in os.listdir(word)
+                   if name.endswith(".red") and not name.startswith("."))
+    paths = [path for name in names if not os.path.isdir(path := os.path.join(word, name))]
+    if not paths:
         raise Fault(f"{word}: no file *.red in this folder", 2)
-    return [os.path.join(word, name) for name in names]
+    return paths
 
 
 def settle_options(parser, args):
@@ -107,8 +111,8 @@ def settle_options(parser, args):
     rules = rules_of(args)
     refuse_distance(parser, rules)
     if args.seed is None:
-        low = rules.distance
-        args.seed = low + (4321 - low) % (rules.core - 2 * low + 1)
+        args.seed = 4321
+        args.seed = seed_of(args, 0)
     refuse_seed(parser, "--seed", args.seed, rules)
     refuse_fights(parser, "--rounds", args.rounds, len(args.opponents))
     refuse_fights(parser, "--fresh", args.fresh, len(args.opponents))

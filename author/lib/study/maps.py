@@ -60,14 +60,6 @@ class Landscape(NamedTuple):
         return sum(map(len, self.totals))
 
 
-def read_landscape(landscape, lists):
-    """Reads the landscape of a report, whose totals of one constant may be lists or numbers."""
-    names, ranges, totals = (landscape[key] for key in ("axes", "values", "totals"))
-    if len(names) == 1:
-        totals = [[total for row in totals for total in (row if isinstance(row, list) else [row])]]
-    return Landscape(names, ranges, totals, lists)
-
-
 def greatest(totals):
     return max((total for total in totals if total is not None), default=None)
 

@@ -109,15 +109,17 @@ class RaceOfStudy:
         folder.log_note("box.red and schedule.csv: the settings around the winner, and fights", 0)
         words = ["--all", "--check"] if self.args.certify else [f"--keep={CHALLENGERS[0]}"]
         tuned = self.study.tune_box(*words)
-        # Which fights a search plays depends on --jobs, so the budget is charged with all.
+        # Which fights a search plays depends on --jobs, so the budget is charged with all. Those of
+        # --certify are beyond it: they could leave none to compare the box with the winner.
+        certify = self.args.certify
         return {"settings": settings, "blocks": rounds, "fights": tuned["fights"],
-                "charged": settings * rounds * len(self.study.opponents),
-                "seconds": time.monotonic() - began_at,
-                "check": tuned["check"] if self.args.certify else None}
+                "charged": 0 if certify else settings * rounds * len(self.study.opponents),
+                "seconds": 0.0 if certify else time.monotonic() - began_at,
+                "check": tuned["check"] if certify else None}
 
     def challenge(self, race, box):
         """Has the first of the box play against the winner. Returns the best; the points of both in
-        other fights; and, if it is better, its and START's in further ones."""
+        other fights; and, if it is better and fights are left, its and START's in further ones."""
         winner, box_of = tuple(race["winner"]), Template(self.folder.path / "box.red")
         first = [box_of.values_of_settings[setting] for setting in self.study.first_settings()]
         others = [values for values in first if values != winner]
@@ -130,11 +132,21 @@ class RaceOfStudy:
             points = (contest.measure(best, self.grid.start_values, 1)
                       if gains(compared, self.args.weights) else None)
             self.folder.log_note("the first of the box against the race's winner", arena.seconds)
-        return {"best": best, "compared": compared, "points": points}
+        return {"best": best, "compared": compared,
+                "points": points if points and points[0] else None}
 
     def write_winner(self, winner):
         self.folder.write("found.red", self.grid.alone(winner))
         self.study.write_winner("start", "found.red")
+
+
+def is_replaced(challenge, weights):
+    """Returns whether the best of the box took the place of the race's winner. None if fights to
+    compare them, or then to measure its gain, were not left."""
+    if challenge["points"]:
+        return True
+    compared = challenge["compared"]
+    return None if not compared[0] or gains(compared, weights) else False
 
 
 def gains(points, weights):

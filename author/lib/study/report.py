@@ -76,6 +76,13 @@ def tuned_items(report):
            "here.")
 
 
+# What came of the box, by whether one of its settings replaces the race's winner.
+OF_BOX = {
+    True: "In other fights one of them was better than the race's winner, and took its place.",
+    False: "In other fights none of them was better than the race's winner.",
+    None: "No fights were left to compare them with the race's winner."}
+
+
 def raced_items(report):
     race, box, gain = report["race"], report["box"], report["gain"]
     yield (f"<strong>Measured:</strong> the winner. {integer(race['settings'])} of the template's "
@@ -87,9 +94,8 @@ def raced_items(report):
         word = "Proved" if box["check"] else "Tuned, and not checked"
         yield (f"<strong>{word}:</strong> the first {integer(box['first'])} of the "
                f"{integer(box['settings'])} settings around the race's winner{left_out}, in "
-               f"{integer(box['schedule']['fights'])} fights each{checked}. In other fights "
-               + ("one of them was better than the race's winner, and took its place."
-                  if box["replaces"] else "none of them was better than the race's winner."))
+               f"{integer(box['schedule']['fights'])} fights each{checked}. "
+               f"{OF_BOX[box['replaces']]}")
     if gain and race["rise"] is not None and not (box and box["replaces"]):
         yield (f"<strong>Luck:</strong> in the fights that picked it, the winner was "
                f"{decimal(race['rise'])} percentage points over START; "
@@ -165,7 +171,8 @@ def opponents(report):
 
 
 def landscape(report):
-    box = maps.read_landscape(report["landscape"], lists_of(report))
+    names, ranges, totals = (report["landscape"][key] for key in ("axes", "values", "totals"))
+    box = maps.Landscape(names, ranges, totals, lists_of(report))
     start_values, winner_values = (report[side]["values"] for side in ("start", "winner"))
     is_small = box.count() <= MOST_CELLS
     step, picture = maps.draw_landscape(box, start_values, winner_values, is_small)

@@ -7,6 +7,7 @@ from ..grid import Grid
 from ..program import rules_of, run_program
 from ..tuning_files import Certificate, Template, read_schedule
 from .fresh import START
+from .raced import is_replaced
 
 FILES = ["template.red", "schedule.csv", "box.red", "best.cert", "winner.red"]
 
@@ -136,7 +137,8 @@ def raced_numbers(study, results):
     if numbers:
         box = Box(folder)
         numbers = {**numbers, "refused": box.refused(), "first": box.ranking.exact,
-                   "replaces": bool(results["challenge"]["points"]), "schedule": box.schedule}
+                   "replaces": is_replaced(results["challenge"], study.args.weights),
+                   "schedule": box.schedule}
     winner_values = dict(zip(grid.names, results["winner"]))
     report = common_numbers(study, grid, box, winner_values, results["points"])
     finalists = [{**one, "values": dict(zip(grid.names, one["values"]))}
@@ -145,6 +147,6 @@ def raced_numbers(study, results):
     report |= {"race": {"settings": race["settings"], "fights": race["fights"], "rise": rise,
                         "finalists": finalists}, "box": numbers, "landscape": None, "effects": []}
     if box and numbers["check"]:
-        middle = box.template.values_of_settings.index(tuple(race["winner"]))
-        report |= {"landscape": box.landscape(middle), "effects": box.effects()}
+        winner = box.template.values_of_settings.index(tuple(results["winner"]))
+        report |= {"landscape": box.landscape(winner), "effects": box.effects()}
     return report

@@ -52,7 +52,11 @@ fn run<R: Read, W: Write, V: Write>(
         return program::program(rt, rt.alloc(), words, input, out, err);
     }
     invite(rt, words, at_terminal);
-    let mut progress = Progress::new(rt.alloc(), rt, Outlet::new(rt.stderr()), style, explains);
+    let shown = Outlet::new(rt.stderr());
+    let has_share = words
+        .iter()
+        .any(|word| word.as_str().starts_with("--share"));
+    let mut progress = Progress::new(rt.alloc(), rt, shown, style, explains, has_share);
     let host = Host {
         rt,
         alloc: rt.alloc(),

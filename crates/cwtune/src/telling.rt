@@ -76,11 +76,16 @@ pub(crate) fn tell_fault<V: Write, D: Display + Drop>(
 pub(crate) fn tell_source<V: Write>(err: &mut Outlet<V>, file: &str, text: &[u8], number: u64) {
     if number == 0 {
         tell(err, &["  ", file, "\n"]);
-        return;
+    } else {
+        tell_line(err, file, number, line_at(text, number - 1));
     }
+}
+
+// Writes a line of a text with its file and its number, from 1.
+pub(crate) fn tell_line<V: Write>(err: &mut Outlet<V>, file: &str, number: u64, line: &[u8]) {
     tell(err, &["  ", file]);
     tell_number(err, ", line ", number, ": ");
-    tell_shown(err, line_at(text, number - 1));
+    tell_shown(err, line);
     tell(err, &["\n"]);
 }
 

@@ -177,7 +177,7 @@ fn open_checked<R: Files + Copy>(rt: R, alloc: Global, name: &str) -> io::Result
     match fs::metadata(&rt, name) {
         Ok(found) => open_found(rt, alloc, name, &found),
         Err(error) if error.kind() == io::ErrorKind::NotFound => {
-            let replacement = replacement_at(rt, alloc, name, None)?;
+            let replacement = replacement_at(rt, alloc, Written::Cert, name, None)?;
             Ok(CertFile::new(FileKind::Regular(RegularFile::new(replacement))))
         }
         Err(error) => Err(error),
@@ -197,7 +197,7 @@ fn open_found<R: Files + Copy>(
         return Ok(CertFile::new(FileKind::Stream(file)));
     }
     drop(file);
-    let replacement = replacement_at(rt, alloc, name, Some(found.mode()))?;
+    let replacement = replacement_at(rt, alloc, Written::Cert, name, Some(found.mode()))?;
     Ok(CertFile::new(FileKind::Regular(RegularFile::new(replacement))))
 }
 

@@ -17,6 +17,11 @@ const CERT_BEGINNING: &[u8] = b"cwcert,";
 
 const INPUTS_BEGINNING: &[u8] = b"cwtune inputs";
 
+// The files to which the report and the lines of faults go.
+const STANDARD_OUTPUT: &str = "/proc/self/fd/1";
+
+const STANDARD_ERROR: &str = "/proc/self/fd/2";
+
 // A file that a tuning writes.
 #[derive(Clone, Copy, PartialEq, Eq)]
 pub(crate) enum Written {
@@ -27,7 +32,7 @@ pub(crate) enum Written {
 // Why a file is not written.
 #[derive(Drop)]
 pub(crate) enum Barred<'a> {
-    // It is the file of another word.
+    // It is the file of another word, or of a standard stream.
     Named,
     // It has a text that does not begin as its own kind does.
     OtherText,
@@ -53,17 +58,30 @@ pub(crate) fn check_old<'a, F: Files>(
     if is_other_file(rt, words, written, &found)? {
         return Err(Barred::Named);
     }
-    if found.len() == 0 {
-        return Ok(());
-    }
-    match begins_as(rt, alloc, written, name) {
-        Ok(true) => Ok(()),
-        Ok(false) => Err(Barred::OtherText),
+    match has_other_text(rt, alloc, written, name) {
+        Ok(false) => Ok(()),
+        Ok(true) => Err(Barred::OtherText),
         Err(error) => Err(Barred::Unread { name, error }),
     }
 }
 
-// Returns whether another word is a name of the file that was found. CERT is one for CERT.inputs.
+// Returns whether `name` is a regular file with a text that does not begin as its kind does.
+pub(crate) fn has_other_text<F: Files>(
+    rt: &F,
+    alloc: Global,
+    written: Written,
+    name: &str,
+) -> io::Result<bool> {
+    match fs::metadata(rt, name) {
+        Ok(found) if found.is_file() && found.len() > 0 => {
+            Ok(!begins_as(rt, alloc, written, name)?)
+        }
+        _ => Ok(false),
+    }
+}
+
+// Returns whether another word is a name of the file that was found, or a standard stream goes to
+// it. CERT is another word for CERT.inputs.
 fn is_other_file<'a, F: Files>(
     rt: &F,
     words: &'a TuneWords<'_>,
@@ -74,6 +92,9 @@ fn is_other_file<'a, F: Files>(
         return Ok(true);
     }
     if written == Written::Inputs && is_name_of(rt, words.cert, found)? {
+        return Ok(true);
+    }
+    if is_name_of(rt, STANDARD_OUTPUT, found)? || is_name_of(rt, STANDARD_ERROR, found)? {
         return Ok(true);
     }
     for name in words.opponents.as_slice() {

@@ -3,6 +3,7 @@
 //! it.
 
 use crate::files::digest::Digested;
+use crate::files::guard::{Written, has_other_text};
 use crate::files::replacing::replacement_at;
 use crate::files::same_file::is_file_at;
 use command_words::{TuneWords, VERSION};
@@ -29,8 +30,8 @@ pub(crate) struct Tuning<'a> {
     pub(crate) method: Method,
 }
 
-// Writes CERT.inputs, but not over CERT, to which a link of that name may lead now. If that fails,
-// removes an older one, which is of another certificate.
+// Writes CERT.inputs, but not over CERT, to which a link of that name may lead now, nor over a text
+// of another kind. If that fails, removes an older one, which is of another certificate.
 pub(crate) fn write_inputs<R: Files + Copy>(
     rt: R,
     alloc: Global,
@@ -42,7 +43,8 @@ pub(crate) fn write_inputs<R: Files + Copy>(
         return Err(io::Error::from(io::ErrorKind::AlreadyExists));
     }
     let written = replace_inputs(rt, alloc, tuning, cert, name);
-    if written.is_err() && is_file(&rt, name) {
+    let is_other = has_other_text(&rt, alloc, Written::Inputs, name).unwrap_or(true);
+    if written.is_err() && is_file(&rt, name) && !is_other {
         let _ = fs::remove_file(&rt, name);
     }
     written
@@ -65,14 +67,14 @@ fn replace_inputs<R: Files + Copy>(
 ) -> io::Result<()> {
     let text = inputs_text(&rt, alloc, tuning, cert)?;
     let mode = mode_of(&rt, name)?;
-    let mut replacement = replacement_at(rt, alloc, name, mode)?;
+    let mut replacement = replacement_at(rt, alloc, Written::Inputs, name, mode)?;
     replacement.write(text.as_slice())?;
     replacement.finish()
 }
 
 // Out of line, which moves the hot loop (docs/HOT_LOOP.md, "To move it").
 #[inline(never)]
-fn is_file<F: Files>(rt: &F, name: &str) -> bool {
+pub(crate) fn is_file<F: Files>(rt: &F, name: &str) -> bool {
     match fs::metadata(rt, name) {
         Ok(found) => found.is_file(),
         Err(_) => false,

@@ -1,7 +1,7 @@
 //! Which inputs of a rejected certificate differ from those of its tuning, as CERT.inputs says.
 
 use crate::files::digest::Digested;
-use crate::files::inputs_file::{digest_word, name_beside, part_word, rules_word};
+use crate::files::inputs_file::{digest_word, is_file, name_beside, part_word, rules_word};
 use crate::files::reading::read_file;
 use command_words::TuneWords;
 use std::alloc::{AllocError, Global};
@@ -32,11 +32,25 @@ pub(crate) fn differences<F: Files>(
         lines: Vec::new(alloc),
         compared: 0,
     };
-    match read_file(rt, alloc, name.as_str()) {
-        Ok(text) => comparison.compare(name.as_str(), text.as_slice(), cert)?,
-        Err(_) => comparison.add_unknown(name.as_str(), "cannot be read")?,
+    match read_regular(rt, alloc, name.as_str()) {
+        Some(text) => comparison.compare(name.as_str(), text.as_slice(), cert)?,
+        None => comparison.add_unknown(name.as_str(), "cannot be read")?,
     }
     Ok(comparison.lines)
+}
+
+// Reads a regular file. Another one, as a FIFO, could keep a check waiting for ever.
+fn read_regular<F: Files>(rt: &F, alloc: Global, name: &str) -> Option<Vec<u8>> {
+    if is_file(rt, name) {
+        read_file(rt, alloc, name).ok()
+    } else {
+        None
+    }
+}
+
+// Returns whether a byte may be in the rules or a part.
+fn is_of_numbers(byte: &u8) -> bool {
+    byte.is_ascii_digit() || *byte == b' ' || *byte == b'/'
 }
 
 // The inputs of a check beside those of the tuning.
@@ -56,6 +70,9 @@ impl Comparison<'_> {
         let Ok(text) = str::from_utf8(text) else {
             return self.add_unknown(name, "is not UTF-8");
         };
+        if !text.starts_with("cwtune inputs 1\n") {
+            return self.add_unknown(name, "is of another form");
+        }
         let digest = digest_word(self.alloc, &Digested::of(cert))?;
         let wanted = format!(in self.alloc; "cert {}", digest.as_str())?;
         if !text.lines().any(|line| line == wanted.as_str()) {
@@ -102,7 +119,13 @@ impl Comparison<'_> {
         if said == now {
             return Ok(());
         }
-        let line = format!(in self.alloc; "{what} {now}, and the tuning had {what} {said}")?;
+        // The file may be a stranger's, and its text may steer a terminal.
+        let shown = if said.as_bytes().iter().all(is_of_numbers) {
+            said
+        } else {
+            "of another form"
+        };
+        let line = format!(in self.alloc; "{what} {now}, and the tuning had {what} {shown}")?;
         self.add(line)
     }
 

@@ -1,6 +1,7 @@
 //! Replaces a file whole or not at all: a new text goes to a file beside it, piece by piece; at the
 //! end this file is flushed to the disk and renamed.
 
+use crate::files::guard::{Written, has_other_text};
 use std::alloc::Global;
 use std::fs::{OpenFile, OpenOptions, Permissions};
 use std::io::Write;
@@ -19,6 +20,8 @@ const MOST_NAMES: u32 = 1000;
 #[derive(Drop)]
 pub(crate) struct Replacement<R: Files> {
     rt: R,
+    alloc: Global,
+    written: Written,
     // The name of the file, links followed.
     name: PathBuf,
     // The name of the unfinished file, beside it. The text is there until it is whole.
@@ -35,6 +38,7 @@ pub(crate) struct Replacement<R: Files> {
 pub(crate) fn replacement_at<R: Files + Copy>(
     rt: R,
     alloc: Global,
+    written: Written,
     name: &str,
     mode: Option<u32>,
 ) -> io::Result<Replacement<R>> {
@@ -45,6 +49,8 @@ pub(crate) fn replacement_at<R: Files + Copy>(
     let beside = unused_name(&rt, alloc, name.as_str(), mode)?;
     Ok(Replacement {
         rt,
+        alloc,
+        written,
         name,
         beside,
         mode,
@@ -58,7 +64,7 @@ impl<R: Files> Replacement<R> {
     pub(crate) fn write(&mut self, piece: &[u8]) -> io::Result<()> {
         let mut file = match self.file.take() {
             Some(file) => file,
-            None => create(&self.rt, self.beside.as_str(), self.mode)?,
+            None => self.create()?,
         };
         let written = file.write_all(piece);
         if written.is_ok() {
@@ -67,6 +73,18 @@ impl<R: Files> Replacement<R> {
             self.remove_beside();
         }
         written
+    }
+
+    // Makes the unfinished file, under another name if this one was taken meanwhile.
+    fn create(&mut self) -> io::Result<R::File> {
+        match create(&self.rt, self.beside.as_str(), self.mode) {
+            Err(error) if error.kind() == io::ErrorKind::AlreadyExists => {
+                let name = self.name.as_str();
+                self.beside = unused_name(&self.rt, self.alloc, name, self.mode)?;
+                create(&self.rt, self.beside.as_str(), self.mode)
+            }
+            created => created,
+        }
     }
 
     // Flushes the unfinished file to the disk and renames it to `name`. If that fails, removes it.
@@ -82,8 +100,12 @@ impl<R: Files> Replacement<R> {
         named
     }
 
+    // Renames the file, unless a text of another kind came to `name` meanwhile.
     fn name_file(&self, file: &R::File) -> io::Result<()> {
         file.sync_all()?;
+        if has_other_text(&self.rt, self.alloc, self.written, self.name.as_str())? {
+            return Err(io::Error::from(io::ErrorKind::AlreadyExists));
+        }
         fs::rename(&self.rt, self.beside.as_str(), self.name.as_str())
     }
 

@@ -89,7 +89,7 @@ fn help_of_expansion(kind: ExpandKind, line: &Line<'_>) -> Option<&'static str> 
 fn help_of_directive(line: &Line<'_>) -> Option<&'static str> {
     match (line.position(b"equ"), line.position(b"rof")) {
         (Some(0), _) => Some(
-            "an EQU has one line here: write its other lines at each use of the name",
+            "an EQU has a name and one line here: write its other lines at each use of the name",
         ),
         (Some(1), _) => Some("move the EQU before the FOR of the block"),
         (Some(_), _) => Some("write an EQU line for each name"),
@@ -151,7 +151,7 @@ fn tell_byte<V: Write>(err: &mut Outlet<V>, line: &[u8]) {
         b'\x0c' => tell(err, &["a form feed\n  help: write a space\n"]),
         b'=' => tell(
             err,
-            &["`=`\n  help: write `NAME EQU VALUE` for each value\n"],
+            &["`=`\n  help: `NAME EQU VALUE` gives a name a value, and `==` compares\n"],
         ),
         b' '..=b'~' => {
             tell_name(err, &[byte]);

@@ -1,6 +1,6 @@
 //! A line of Redcode as explanations look at it: its words, without its comment.
 
-use crate::telling::is_semicolon;
+use crate::telling::{is_line_feed, is_semicolon};
 use rc_text::{Lexer, NameClass, is_blank, is_same_word, name_class};
 use std::alloc::Global;
 
@@ -92,17 +92,8 @@ impl<'a> Line<'a> {
         }
     }
 
-    // Returns whether a `&` joins a counter: one that is not half of `&&`.
     pub(crate) fn has_join(&self) -> bool {
-        let mut is_single = false;
-        for byte in self.code {
-            if *byte == b'&' {
-                is_single = !is_single;
-            } else if is_single {
-                return true;
-            }
-        }
-        is_single
+        joins(self.code)
     }
 
     // Returns whether a mode has no number after it: it is the last sign, or a comma follows.
@@ -118,6 +109,24 @@ impl<'a> Line<'a> {
         }
         is_mode(last)
     }
+}
+
+// Returns whether a line of a text joins a counter to a name.
+pub(crate) fn has_join(text: &[u8]) -> bool {
+    text.split(is_line_feed).any(|line| joins(code_of(line)))
+}
+
+// Returns whether a `&` joins a counter: one that is not half of `&&`.
+fn joins(code: &[u8]) -> bool {
+    let mut is_single = false;
+    for byte in code {
+        if *byte == b'&' {
+            is_single = !is_single;
+        } else if is_single {
+            return true;
+        }
+    }
+    is_single
 }
 
 fn is_mode(byte: u8) -> bool {

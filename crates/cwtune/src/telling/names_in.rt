@@ -151,7 +151,7 @@ fn unknown_in<'a>(
         return None;
     }
     for word in line.words.iter().skip(operands_from(&line)) {
-        if name_class(*word) == NameClass::Free {
+        if name_class(*word) == NameClass::Free && !may_be_joined(alloc, text, *word) {
             match definition_of(alloc, text, *word) {
                 None => return Some(*word),
                 Some(found) => match found.meaning {
@@ -165,6 +165,14 @@ fn unknown_in<'a>(
         }
     }
     None
+}
+
+// Returns whether a name may be one that `&` joins: it begins as a word of a line with a joining one.
+fn may_be_joined(alloc: Global, text: &[u8], name: &[u8]) -> bool {
+    text.split(is_line_feed).any(|line| {
+        let line = line_of(alloc, line);
+        line.has_join() && line.words.iter().any(|word| name.starts_with(*word))
+    })
 }
 
 // Returns the index of the first word after the opcode or the directive.

@@ -1,8 +1,10 @@
 //! Warnings: what has no effect in a template or a schedule.
 
-use crate::telling::{is_gap, is_line_feed, is_semicolon, tell_number, tell_source};
+use crate::telling::line::has_join;
+use crate::telling::{is_gap, is_line_feed, is_semicolon, tell_line, tell_number};
 use command_runs::{tell, tell_bytes};
 use mars_fight::Fight;
+use rc_asm::limits::MOST_BYTES;
 use rc_instr::Outlet;
 use rc_text::{Lexer, is_same_word};
 use std::alloc::Global;
@@ -38,13 +40,17 @@ pub(crate) fn tell_idle<V: Write>(err: &mut Outlet<V>, opponents: &[String], fig
     }
 }
 
-// Writes the lines of a template that look like range lines and are not.
+// Writes the lines of a template that look like range lines and are not. Looks into no text that is
+// too long, since it may have any number of them.
 pub(crate) fn tell_lost_ranges<V: Write>(err: &mut Outlet<V>, file: &str, text: &[u8]) {
+    if text.len() > MOST_BYTES {
+        return;
+    }
     let mut number: u64 = 0;
     for line in text.split(is_line_feed) {
         number = number.saturating_add(1);
         if has_lost_range(line) {
-            tell_source(err, file, text, number);
+            tell_line(err, file, number, line);
             tell(err, &[why_lost(line)]);
         }
     }
@@ -99,9 +105,12 @@ pub(crate) fn tell_unused<V: Write>(err: &mut Outlet<V>, file: &str, template: &
     }
 }
 
-// Returns whether a name is a token of a text, also after END. Returns true if a token is at
-// fault: most such texts do not assemble, and a note would mislead.
+// Returns whether a name is a token of a text, also after END. Returns true if it may be joined, and
+// if a token is at fault: most such texts do not assemble, and a note would mislead.
 fn is_token(text: &[u8], name: &[u8]) -> bool {
+    if has_join(text) {
+        return true;
+    }
     let mut lexer = Lexer::new(text);
     for _token in 0..text.len() {
         match lexer.next_token() {

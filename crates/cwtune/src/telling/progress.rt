@@ -61,6 +61,8 @@ pub(crate) struct Progress<C: Clock, V: Write> {
     err: Outlet<V>,
     style: Style,
     explains: bool,
+    // Whether a share is checked, whose count of settings comes with its first standing.
+    has_share: bool,
     // Only if it explains.
     files: Option<FileNames>,
     // The setting whose fault is explained if none assembles, by its index in the template.
@@ -80,12 +82,14 @@ impl<C: Clock, V: Write> Progress<C, V> {
         err: Outlet<V>,
         style: Style,
         explains: bool,
+        has_share: bool,
     ) -> Progress<C, V> {
         Progress {
             clock,
             err,
             style,
             explains,
+            has_share,
             files: None,
             setting: 0,
             began: None,
@@ -100,9 +104,9 @@ impl<C: Clock, V: Write> Progress<C, V> {
         }
     }
 
-    // Shows how far the run is, if it is time.
+    // Shows how far the run is, if it is time and known.
     fn show(&mut self) {
-        if self.style == Style::Hidden || self.err.failed() {
+        if self.style == Style::Hidden || self.err.failed() || self.standing.count == 0 {
             return;
         }
         let Ok(now) = Instant::now(&self.clock) else {
@@ -155,7 +159,9 @@ impl<C: Clock, V: Write> Watcher for Progress<C, V> {
         self.setting = inputs.index_in_template(inputs.start_number());
         self.finding.begin(inputs);
         self.began = Instant::now(&self.clock).ok();
-        self.standing.count = inputs.count();
+        if !self.has_share {
+            self.standing.count = inputs.count();
+        }
         self.show();
     }
 
