@@ -6,7 +6,7 @@ By default the program is the one that is built here, each crate of which has to
 takes one that was built before, if it has the digest; then nothing is proved, and the release says
 so, unless --proved gives the file PROVED of a release with this program.
 """
-import contextlib, gzip, hashlib, pathlib, re, shutil, subprocess, tarfile, tempfile
+import contextlib, gzip, hashlib, os, pathlib, re, shutil, subprocess, tarfile, tempfile
 from typing import NamedTuple
 
 from author.lib.endings import Fault, run_tool
@@ -159,7 +159,16 @@ def stage(tree, build, zsh=ZSH):
     stage_commands(tree, build.path)
     stage_manual(tree, str(build.path), zsh)
     stage_documents(tree, build.proof)
+    set_modes(tree)
     return version
+
+
+def set_modes(tree):
+    """Lets everybody read what is in a tree, and run what the owner may: the checkout and the
+    program may be private."""
+    for path in tree.rglob("*"):
+        may_run = path.parent == tree / "bin" or path.stat().st_mode & 0o100
+        path.chmod(0o755 if may_run else 0o644)
 
 
 def files_of(tree):
@@ -223,8 +232,8 @@ def debian(folder, build):
 def install(prefix, build):
     """Puts the release below a folder such as /usr/local, in place of an older one.
 
-    The list of its files comes first, so that `uninstall` can remove what a kill has left. Returns
-    the path of the program in a list.
+    The list of its files, and of the folders that it makes, comes first, so that `uninstall` can
+    remove what a kill has left. Returns the path of the program in a list.
     """
     with tempfile.TemporaryDirectory() as name:
         tree = pathlib.Path(name, "tree")
@@ -232,7 +241,10 @@ def install(prefix, build):
         if (prefix / INSTALLED).is_file():
             uninstall(prefix)
         placed = [INSTALLED, *(path.relative_to(tree) for path in files_of(tree))]
-        (tree / INSTALLED).write_text("".join(f"{path}\n" for path in placed), "utf-8")
+        made = sorted({folder for path in placed for folder in path.parents
+                       if not (prefix / folder).exists()})
+        lines = [*(f"{folder}/" for folder in made), *placed]
+        (tree / INSTALLED).write_text("".join(f"{line}\n" for line in lines), "utf-8")
         for path in placed:
             (prefix / path).parent.mkdir(parents=True, exist_ok=True)
             (prefix / path).unlink(missing_ok=True)
@@ -241,27 +253,21 @@ def install(prefix, build):
 
 
 def uninstall(prefix):
-    """Removes what `install` put below the folder, the list of the files last, and then the folders
-    that are empty."""
+    """Removes the files that `install` put below the folder, their list last, and then the folders
+    that it made and that are empty."""
     try:
-        placed = (prefix / INSTALLED).read_text("utf-8").splitlines()
+        lines = (prefix / INSTALLED).read_text("utf-8").splitlines()
     except FileNotFoundError:
         raise Fault(f"cwtune is not installed below {prefix}", 2) from None
     for cache in CACHES:
         shutil.rmtree(prefix / cache, ignore_errors=True)
-    for path in reversed(placed):
-        with contextlib.suppress(FileNotFoundError, NotADirectoryError):
-            (prefix / path).unlink()
-    remove_empty(prefix, placed)
-
-
-def remove_empty(prefix, placed):
-    """Removes the folders of these files that are empty and of the release alone."""
-    folders = {folder for path in placed for folder in pathlib.Path(path).parents
-               if folder.is_relative_to(DOC) or folder.is_relative_to(SHARE)}
-    for folder in sorted(folders, key=lambda folder: -len(folder.parts)):
-        if (prefix / folder).is_dir() and not any((prefix / folder).iterdir()):
-            (prefix / folder).rmdir()
+    for line in reversed(lines):
+        if line.endswith("/"):
+            with contextlib.suppress(OSError):  # not empty, or not there
+                (prefix / line).rmdir()
+        else:
+            with contextlib.suppress(FileNotFoundError, NotADirectoryError):
+                (prefix / line).unlink()
 
 
 # What to do with a build, by the first word; the paths that are returned are printed.
@@ -280,6 +286,7 @@ def main():
     parser.add_argument("--proved", type=pathlib.Path, metavar="FILE",
                         help="the file PROVED of a release with this program")
     args = parser.parse_args()
+    os.umask(0o022)  # what is packed or installed is for everybody
     if bool(args.built) != bool(args.digest) or args.proved and not args.built:
         parser.error("give --built and --digest, and --proved with both")
     if args.what == "uninstall":

@@ -5,7 +5,7 @@ of each without this checkout: nothing of it is on the PATH. What was proved is 
 The manual pages and completions have to name each command and option. Without `dpkg-deb` on the
 PATH the Debian package is left out.
 """
-import contextlib, importlib, pathlib, re, shutil, subprocess, tarfile, tempfile
+import contextlib, importlib, pathlib, re, shutil, stat, subprocess, sys, tarfile, tempfile
 
 from author.lib.endings import Fault, run_tool
 from author.lib.program import output_of
@@ -36,6 +36,9 @@ AUTHOR_RUNS = [
     ("cwtune-seek --fights 1000 a.red fights.csv dwarf.red", ";redcode-94\n"),
     ("cwtune-study --rounds 2 --fresh 2 a.red dwarf.red", "all 3 settings are tuned"),
 ]
+# How a manual page and the completions for bash, zsh and fish have an option, and a command.
+OPTION = [r"(?m)^\.TP\n\.B .*--{}(?![\w-])", r' options=".*--{}(?![\w-])', r"'--{}\[", " -l {} "]
+COMMAND = [r"\n\.SS cwtune {}\n", r"\n +{}\) options=", r"\n +{}\) _arguments ", " -a {} "]
 # Begun words of a command line, and how bash completes the last.
 COMPLETIONS = [("cwtune che", "check"), ("cwtune tune --ca", "--cache"),
                ("cwtune asm --se", "--setting"), ("cwtune check --pa", "--part"),
@@ -47,7 +50,7 @@ COMPLETIONS = [("cwtune che", "check"), ("cwtune tune --ca", "--cache"),
 
 def run(words, folder, path):
     """Runs words with nothing but the system and `path` on the PATH. Returns status and output."""
-    env = {"PATH": f"{path}:/usr/bin:/bin", "HOME": "/nonexistent", "PYTHONDONTWRITEBYTECODE": "1"}
+    env = {"PATH": f"{path}:/usr/bin:/bin", "HOME": "/nonexistent"}
     done = subprocess.run(words, cwd=folder, env=env, capture_output=True, text=True)
     return done.returncode, done.stdout + done.stderr
 
@@ -76,6 +79,8 @@ def faults_of_use(prefix, zsh=dist.ZSH):
     for _, place in dist.manual_files(zsh):
         if not (prefix / place).is_file():
             yield f"no file {place}"
+    if not any(prefix.rglob("__pycache__")):
+        yield "the commands leave no caches, so that no removal of them is tried"
 
 
 def trial_of_tar(work, build):
@@ -114,14 +119,13 @@ def trial_of_install(work, build):
         yield "a file of an older release stays"
     yield from faults_of_use(prefix)
     dist.uninstall(prefix)
-    yield from faults_of_removal(prefix, ["bin/other"])
+    yield from faults_of_removal(prefix, ["bin", "bin/other"])
 
 
 def faults_of_removal(prefix, expected):
-    """Yields what an uninstall has left, if these files are not what it should leave."""
-    files = [str(path.relative_to(prefix)) for path in dist.files_of(prefix)]
-    if files != expected:
-        yield f"left after uninstall: {files}"
+    """Yields what an uninstall has left, if these paths are not what it should leave."""
+    left = sorted(str(path.relative_to(prefix)) for path in prefix.rglob("*"))
+    yield from compare("", expected, left)[1]
 
 
 def trial_of_broken_install(work, build):
@@ -132,7 +136,29 @@ def trial_of_broken_install(work, build):
         dist.install(work, build)
         yield "a file in place of a folder is no fault"
     dist.uninstall(work)
-    yield from faults_of_removal(work, ["share/bash-completion"])
+    yield from faults_of_removal(work, ["share", "share/bash-completion"])
+
+
+def made_privately(what, work, build):
+    """Packs or installs a private program where new files are private. Returns the folder."""
+    program, folder = work / "program", work / what
+    shutil.copy(build.path, program)
+    program.chmod(0o700)
+    words = [sys.executable, "-m", "release.dist", what, folder, "--built", program, "--digest",
+             dist.sha256(program)]
+    subprocess.run(words, cwd=dist.ROOT, umask=0o077, stdout=subprocess.DEVNULL, check=True)
+    return folder
+
+
+def trial_of_modes(work, build):
+    """Packs and installs privately: what comes of it is for everybody."""
+    with tarfile.open(next(made_privately("tar", work, build).glob("*.tar.gz"))) as file:
+        modes = {entry.name.partition("/")[2]: entry.mode for entry in file if entry.isfile()}
+    modes |= {path: stat.S_IMODE(path.stat().st_mode)
+              for path in made_privately("install", work, build).rglob("*")}
+    yield from (f"{path} has the mode {mode:o}" for path, mode in modes.items()
+                if mode not in (0o644, 0o755))
+    yield from compare("the program", 0o755, modes["bin/cwtune"])[1]
 
 
 def trial_of_faults(work, _):
@@ -160,23 +186,31 @@ def trial_of_builds(work, build):
 
 
 def trial_of_package(work, build):
-    """Unpacks a Debian package of a program that was built before, and uses it."""
-    [package] = dist.debian(work, dist.build_of(build.path, dist.sha256(build.path), None))
+    """Unpacks a Debian package of a program that was built before, uses it, and removes it."""
+    [package] = made_privately("deb", work, build).iterdir()
     line = output_of(["dpkg-deb", "--field", package, "Description"]).splitlines()[-1]
     yield from compare("what is proved", " Not proved here: the program was built before.", line)[1]
     output_of(["dpkg-deb", "--extract", package, work / "system"])
     yield from faults_of_use(work / "system/usr", dist.DEBIAN_ZSH)
+    output_of(["dpkg-deb", "--control", package, work / "control"])
+    script = (work / "control/prerm").read_text().replace("/usr/", f"{work}/system/usr/")
+    output_of(["sh", "-c", script])
+    yield from compare("caches after a removal", [], [*work.rglob("__pycache__")])[1]
 
 
 def faults_of_pages(program, folder):
     """Yields which commands and options a manual page or a completion lacks."""
-    wanted = {name: options_of(module) for name, module in manual.COMMANDS.items()}
-    wanted[manual.NAME] = [word for name, page in manual.Help(program).commands.items()
-                           for word in [name, *map(manual.Item.option, page.options())]
-                           if word != "help"]
-    for name, file in [(name, file) for name in wanted for file in manual.file_names(name)]:
-        text = (folder / file).read_text("utf-8").replace("\\-", "-")
-        yield from (f"{file} lacks {word}" for word in wanted[name] if word not in text)
+    commands = manual.Help(program).commands
+    wanted = {name: [(OPTION, word) for word in options_of(module)]
+              for name, module in manual.COMMANDS.items()}
+    wanted[manual.NAME] = [(COMMAND, name) for name in commands] + [
+        (OPTION, item.option()) for page in commands.values() for item in page.options()
+        if item.option() != "help"]
+    for name, words in wanted.items():
+        for index, file in enumerate(manual.file_names(name)):
+            text = (folder / file).read_text("utf-8").replace("\\-", "-")
+            yield from (f"{file} lacks {word}" for forms, word in words
+                        if not re.search(forms[index].format(word), text))
 
 
 def options_of(module):
@@ -202,8 +236,8 @@ def trials_of_pages(program):
 
 def trials(build):
     yield from trials_of_pages(str(build.path))
-    tried = [trial_of_tar, trial_of_install, trial_of_broken_install, trial_of_faults,
-             trial_of_builds]
+    tried = [trial_of_tar, trial_of_install, trial_of_broken_install, trial_of_modes,
+             trial_of_faults, trial_of_builds]
     if shutil.which("dpkg-deb"):
         tried.append(trial_of_package)
     else:
