@@ -4,6 +4,8 @@
 PROGRAM = crates/cwtune/out/cwtune
 PREFIX = /usr/local
 PYTHON = python3 -m
+# With it `cd` may lead elsewhere.
+unexport CDPATH
 
 # Lists the targets, each with the first sentence of the comment above it.
 help:
@@ -24,12 +26,12 @@ test:
 # Proves and builds the program, and plays the cases. Then come the pipes, the terminals and the
 # cuts, without the rest of the gate.
 cases: build
-	@for one in play_cases pipes terminals cuts; do $(PYTHON) gate.$$one $(PROGRAM) || exit 1; done
+	@for one in play_cases pipes terminals cuts; do $(PYTHON) gate.$$one "$(PROGRAM)" || exit 1; done
 
 # Proves the crates one by one, with a line for each. Does nothing if the program is built: `build`
 # then proves what has changed.
 prove:
-	@[ -x $(PROGRAM) ] || sh gate/prove.sh
+	@[ -x "$(PROGRAM)" ] || sh gate/prove.sh
 
 # Proves and builds the program, and runs it once on its stored input.
 build: prove
@@ -37,17 +39,18 @@ build: prove
 
 # Plays, assembles, tunes and checks the examples. Fails if a result is not the expected one.
 demo: build
-	@sh examples/demo.sh $(PROGRAM)
+	@sh examples/demo.sh "$(PROGRAM)"
 
 # Measures turns, assemblies and settings per second. PMARS=PATH measures a pMARS server build too,
 # RUNS=N plays each fight N times.
 bench: build
-	@$(PYTHON) bench.measure --program $(PROGRAM) $(PMARS:%=--pmars %) $(RUNS:%=--runs %)
+	@$(PYTHON) bench.measure --program "$(PROGRAM)" $(if $(PMARS),--pmars "$(PMARS)") \
+	    $(RUNS:%=--runs %)
 
 # Refuses each request for memory of some runs in turn. Fails if a run ends neither with its own
 # result nor with `failed: OutOfMemory`.
 memory: build
-	@$(PYTHON) gate.refuse.memory $(PROGRAM)
+	@$(PYTHON) gate.refuse.memory "$(PROGRAM)"
 
 # Runs the commands for authors on the examples. Proves and builds the program first, and compares
 # with the stored results (docs/TOOLS.md has the commands). Leaves out the trials whose tools are
@@ -60,7 +63,7 @@ tools: build
 # and FIGHTS=N and TEXTS=N say how much is compared.
 compare: build
 	@$(PYTHON) pmars.compare $(SEED:%=--seed %) $(FIGHTS:%=--fights %) $(TEXTS:%=--texts %) \
-	    $(or $(PMARS),"$$(sh pmars/pmars.sh)")
+	    "$(or $(PMARS),$$(sh pmars/pmars.sh))"
 
 # Builds pMARS 0.9.2 without a display. Takes Debian's sources, and prints the path of the program.
 pmars:
@@ -68,7 +71,8 @@ pmars:
 
 # A program that was built before, instead of one that is built and proved here: BUILT=FILE
 # DIGEST=SHA256, and PROVED=FILE of its release if there is one.
-BEFORE = $(BUILT:%=--built %) $(DIGEST:%=--digest %) $(PROVED:%=--proved %)
+BEFORE = $(if $(BUILT),--built "$(BUILT)") $(DIGEST:%=--digest %) \
+    $(if $(PROVED),--proved "$(PROVED)")
 
 # Packs the release into dist/. It has the proved program with its manual pages, the commands,
 # examples and documents.
@@ -80,10 +84,11 @@ dist: $(if $(BUILT),,build)
 deb: $(if $(BUILT),,build)
 	@$(PYTHON) release.dist deb dist $(BEFORE)
 
-# Puts the release below PREFIX, by default /usr/local.
+# Puts the release below PREFIX, by default /usr/local. With DESTDIR=FOLDER all is below that folder,
+# as the makers of packages want it.
 install: $(if $(BUILT),,build)
-	@$(PYTHON) release.dist install $(PREFIX) $(BEFORE)
+	@$(PYTHON) release.dist install "$(DESTDIR)$(PREFIX)" $(BEFORE)
 
-# Removes what `make install` put below PREFIX.
+# Removes what `make install` put below PREFIX, and DESTDIR if it is given.
 uninstall:
-	@$(PYTHON) release.dist uninstall $(PREFIX)
+	@$(PYTHON) release.dist uninstall "$(DESTDIR)$(PREFIX)"

@@ -289,12 +289,13 @@ def main():
     os.umask(0o022)  # what is packed or installed is for everybody
     if bool(args.built) != bool(args.digest) or args.proved and not args.built:
         parser.error("give --built and --digest, and --proved with both")
+    folder = args.folder.expanduser()  # not every shell does so in `make install PREFIX=~/..`
     if args.what == "uninstall":
-        uninstall(args.folder)
+        uninstall(folder)
         return
     build = build_of(args.built, args.digest, args.proved)
-    args.folder.mkdir(parents=True, exist_ok=True)
-    for path in ACTIONS[args.what](args.folder, build):
+    folder.mkdir(parents=True, exist_ok=True)
+    for path in ACTIONS[args.what](folder, build):
         print(path)
 
 

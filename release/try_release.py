@@ -47,6 +47,16 @@ COMPLETIONS = [("cwtune che", "check"), ("cwtune tune --ca", "--cache"),
                ("cwtune-spread --check-o", "--check-only"), ("cwtune-adapt --pm", "--pmars"),
                ("cwtune-seek --mi", "--minutes"), ("cwtune-study --fr", "--fresh")]
 
+# Variables of the Makefile with blanks, and the words that its targets then give to a module.
+VARIABLES = ["PREFIX=/a b", "DESTDIR=c d", "BUILT=e f", "DIGEST=0", "PROVED=g h", "PMARS=i j",
+             "PROGRAM=k l"]
+BEFORE = "[--built][e f][--digest][0][--proved][g h]"
+MADE = {"install": f"[release.dist][install][c d/a b]{BEFORE}",
+        "uninstall": "[release.dist][uninstall][c d/a b]",
+        "deb": f"[release.dist][deb][dist]{BEFORE}",
+        "bench": "[bench.measure][--program][k l][--pmars][i j]",
+        "compare": "[pmars.compare][i j]", "memory": "[gate.refuse.memory][k l]"}
+
 
 def run(words, folder, path):
     """Runs words with nothing but the system and `path` on the PATH. Returns status and output."""
@@ -234,7 +244,15 @@ def trials_of_pages(program):
                           run(["bash", "-c", script], folder, folder))
 
 
+def trials_of_makefile():
+    """Makes targets without building, with a command in place of Python that prints its words."""
+    for target, expected in MADE.items():
+        words = ["make", "-s", "-o", "build", target, "PYTHON=printf [%s]", *VARIABLES]
+        yield compare(f"make {target}", (0, expected), run(words, dist.ROOT, dist.ROOT))
+
+
 def trials(build):
+    yield from trials_of_makefile()
     yield from trials_of_pages(str(build.path))
     tried = [trial_of_tar, trial_of_install, trial_of_broken_install, trial_of_modes,
              trial_of_faults, trial_of_builds]
