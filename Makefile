@@ -84,8 +84,8 @@ dist: $(if $(BUILT),,build)
 deb: $(if $(BUILT),,build)
 	@$(PYTHON) release.dist deb dist $(BEFORE)
 
-# Puts the release below PREFIX, by default /usr/local. With DESTDIR=FOLDER all is below that folder,
-# as the makers of packages want it.
+# Puts the release below PREFIX, by default /usr/local. DESTDIR=FOLDER puts it below FOLDER/PREFIX,
+# to be packed from there.
 install: $(if $(BUILT),,build)
 	@$(PYTHON) release.dist install "$(DESTDIR)$(PREFIX)" $(BEFORE)
 
