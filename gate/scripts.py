@@ -1,4 +1,4 @@
-"""Runs the scripts of `examples/`, also with what they have to refuse."""
+"""Runs `demo.sh`, `tuning/certify.py` and `slurm.sh` of `examples/`, also with what they refuse."""
 import itertools, re, signal, subprocess, sys, time
 
 from author.lib.endings import run_tool
@@ -16,10 +16,11 @@ CERTIFY = [sys.executable, EXAMPLES / "tuning/certify.py"]
 CERT = inputs.FILES["imps.cert"]
 OPPONENTS = ["dat.red", "imp.red"]
 WORDS = ["imps.red", "both.csv", "CERT", *OPPONENTS]
-# Templates whose settings make one warrior, of which one does not assemble, and that make two
-# warriors in turn.
-TEMPLATES = ["imps.red", "step.red", "half.red"]
-FILES = inputs.files("both.csv", *OPPONENTS, *TEMPLATES)
+# Templates whose settings make one warrior, of which one does not assemble, that make two warriors
+# in turn, and with a line like that of a header.
+TEMPLATES = ["imps.red", "step.red", "half.red", "twice.red"]
+FILES = inputs.files("both.csv", *OPPONENTS, *TEMPLATES[:3]) | {
+    "twice.red": ";redcode\n;@tune K 0 1 1 0\nMOV 0, 1+K-K\nDAT K\n;redcode again\nDAT 0, 2\n"}
 # What certify.py has to say of `CERT` with a text replaced by another one.
 CHECKED = {
     ("", ""): "accepted best 0 total 4",
@@ -35,8 +36,12 @@ CHECKED = {
     ("same,3,2", f"same,3,{'2' * 140000}"): "rejected row 5 Malformed",
 }
 # Range lines with too few words, a word that is not a number, the step 0, a START between two
-# values, and more values than Python counts.
-RANGES = ["K 0 5 1", "K 0 x 1 0", "K 0 5 0 0", "K 0 4 2 1", "K 0 99999999999999999999 1 0"]
+# values, numbers of other forms or too great, a reserved and a predefined name, a name twice, and
+# nine names.
+RANGES = ["K 0 5 1", "K 0 x 1 0", "K 0 5 0 0", "K 0 4 2 1", "K 0 1_0 1 0", "K +0 2 1 0",
+          "K 0 000002 1 0", "K 70000 70001 1 70000", "K 0 1 -1 0", "K 0 5 65536 0", "mov 0 1 1 0",
+          "VERSION 0 1 1 0", "K 0 1 1 0\n;@tune K 0 1 1 0",
+          "\n;@tune ".join(f"K{index} 0 0 1 0" for index in range(9))]
 REFUSED = (1, "", "refused: Template: a range line is malformed\n")
 
 

@@ -27,6 +27,14 @@ RULES = {"core": (8000, "the core size"), "cycles": (80000, "the most cycles of 
          "length": (100, "the most instructions of a warrior"),
          "distance": (100, "the least distance of two warriors")}
 MOST_FIGHTS, MOST_WEIGHT, MOST_SETTINGS, MOST_NUMBER = 10000, 1000, 10**6, 2**32 - 1
+MOST_CONSTANTS, MOST_VALUE = 8, 65535
+# What follows `;@tune`: NAME, LOW, HIGH, STEP and START.
+RANGE = re.compile(rb"[ \t\r]+".join([b"", rb"([A-Za-z_]\w*)", *[rb"(-?\d{1,5})"] * 2,
+                                     rb"(\d{1,5})", rb"(-?\d{1,5})"]) + rb"[ \t\r]*")
+# Names that no constant has, the first ones in letters of any case.
+RESERVED = re.compile(rb"""(?i:DAT|MOV|ADD|SUB|MUL|DIV|MOD|JMP|JMZ|JMN|DJN|CMP|SLT|SPL|SEQ|SNE|NOP|
+    ORG|END|EQU|FOR|ROF)|CORESIZE|MAXPROCESSES|MAXCYCLES|MAXLENGTH|MINDISTANCE|WARRIORS|VERSION|
+    CURLINE""", re.X)
 # A field may have any length.
 csv.field_size_limit(sys.maxsize)
 
@@ -41,6 +49,20 @@ class Rejected(Exception):
 
 class Failed(Exception):
     """What is wrong with the program."""
+
+
+def read_ranges(source):
+    """Returns the name and the four numbers of each range line, or raises a ValueError."""
+    found = [RANGE.fullmatch(line) for line in re.findall(rb"(?m)^;@tune((?:[ \t\r].*)?)$", source)]
+    if None in found:
+        raise ValueError
+    ranges = [(match[1], *map(int, match.groups()[1:])) for match in found]
+    names = {name for name, *_ in ranges}
+    if len(names) < len(ranges) or len(names) > MOST_CONSTANTS or any(
+            RESERVED.fullmatch(name) or abs(low) > MOST_VALUE or abs(high) > MOST_VALUE
+            or step > MOST_VALUE for name, low, high, step, _ in ranges):
+        raise ValueError
+    return ranges
 
 
 def read_records(path):
@@ -193,7 +215,7 @@ class Tuning:
         self.rows, self.caps, self.best, self.total, self.played = {}, {}, None, None, 0
         try:
             self.read_template(pathlib.Path(asked.template).read_bytes())
-        except (ValueError, OverflowError):
+        except ValueError:
             raise Refused("Template: a range line is malformed") from None
         texts = [pathlib.Path(opponent).read_bytes() for opponent in asked.opponents]
         self.opponents = [self.machine.assemble(text) for text in texts]
@@ -205,22 +227,24 @@ class Tuning:
 
     def read_template(self, source):
         """Keeps the settings; the first constant changes slowest."""
-        ranges = [line.split()[1:] for line in re.findall(rb"(?m)^;@tune(?:[ \t\r].*)?$", source)]
-        spans = [range(int(low), int(high) + 1, int(step)) for _, low, high, step, _ in ranges]
+        ranges = read_ranges(source)
+        spans = [range(low, high + 1, step) for _, low, high, step, _ in ranges]
         if math.prod(map(len, spans)) > MOST_SETTINGS:
             raise Refused(f"Template: more than {MOST_SETTINGS} settings")
-        self.names = [words[0] for words in ranges]
+        self.names = [name for name, *_ in ranges]
         self.settings = list(itertools.product(*spans))
-        self.start = self.settings.index(tuple(int(words[4]) for words in ranges))
-        # The values become EQU lines, in place of the header, which is ignored anyway.
-        self.body = re.split(rb"(?im)^;redcode.*\n", source, maxsplit=1)[-1]
+        self.start = self.settings.index(tuple(start for *_, start in ranges))
+        # The values become EQU lines after the header, which stays: without it a later `;redcode`
+        # line would end another.
+        *header, self.body = re.split(rb"(?im)^(;redcode.*\n)", source, maxsplit=1)
+        self.header = b"".join(header)
 
     @functools.cache
     def load(self, setting):
         """Returns the load file of a setting, or None if it does not assemble."""
         values = zip(self.names, self.settings[setting])
-        head = b"".join(b"%s EQU (%d)\n" % pair for pair in values)
-        return self.machine.assemble(head + self.body)
+        lines = b"".join(b"%s EQU (%d)\n" % pair for pair in values)
+        return self.machine.assemble(self.header + lines + self.body)
 
     def fight(self, setting, fight):
         """Returns the points of a setting in a fight; the weight is not in them."""
