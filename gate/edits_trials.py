@@ -1,4 +1,4 @@
-"""Tries `gate.edits`, and the gate without its steps after the proofs, with a stand-in for the kit:
+"""Tries `gate.edits`, and the gate with another step after the proofs, with a stand-in for the kit:
 how edits are judged, and when their rounds begin beside `rt ci`."""
 import os, pathlib, queue, shutil, subprocess, sys, tempfile, time, types
 
@@ -17,6 +17,9 @@ FILES = {
         "function: low::first\nfile: src/lib.rt\nold:     1\nnew:     one(2)\n",
     "tree/gate/harmless/low.edit":
         "function: low::second\nfile: src/lib.rt\nold:     2\nnew:     1 + 1\n",
+    "tree/gate/late.py": """import pathlib
+print(len([*pathlib.Path("crates/low/must-fail").iterdir()]), "passed, 0 failed")
+""",
     "kit/rtlib.py": """import os, types
 RATTLE = os.path.join(os.path.dirname(__file__), "rattle")
 def crates_below(top):
@@ -118,16 +121,19 @@ def malformed(room):
 
 
 def gates(room):
-    """Runs the gate without its steps after the proofs. An `rt ci` that fails ends the edits."""
-    words = ["-c", "import sys; from gate import gate; gate.STEPS = []; sys.exit(gate.main())",
-             "--anew"]
-    passes = "echo 3 passed, 0 failed"
+    """Runs the gate with one step after the proofs, which is lost in the checkout meanwhile. An
+    `rt ci` that fails ends the edits."""
+    words = ["-c", "import sys; from gate import gate; gate.STEPS = ['gate.late']; "
+             "sys.exit(gate.main())", "--anew"]
+    late = "tree/gate/late.py"
+    passes = f">'{room.folder / late}'; echo 3 passed, 0 failed"
     for name, at, ends, expected in [
-            ("all is right", 0, passes, (0, "5 passed, 0 failed")),
-            ("an edit is not refused", 4, passes, (1, "4 passed, 1 failed")),
+            ("all is right", 0, passes, (0, "6 passed, 0 failed")),
+            ("an edit is not refused", 4, passes, (1, "5 passed, 1 failed")),
             ("`rt ci` fails", 0, f"{passes}; exit 1", (1, "3 passed, 1 failed"))]:
         room.check_says(VERDICTS[at][0])
         room.write("kit/ends", ends + "\n")
+        room.write(late, FILES[late])
         status, lines = room.run(*words)
         yield compare(f"a gate: {name}", expected, (status, lines[-1]))
     begun = room.folder / "kit/begun"

@@ -1,4 +1,5 @@
-"""Runs the whole gate on a copy of the tree outside the checkout, as `make test` does.
+"""Runs the whole gate on a copy of the tree outside the checkout, as `make test` does. What changes
+in the checkout after the beginning plays no part.
 
 First `rt ci` proves and tests every crate, without the edits in must-fail/, which it would try one
 by one. Beside it edits.py judges them, over the libraries that `rt ci` has built, as far as
@@ -27,11 +28,11 @@ WATCHED = ["timeout", "--signal=ABRT", "--kill-after=5", "3600", sys.executable,
 ENVIRONMENT = {name: value for name, value in os.environ.items() if name != "RT_JOBS"}
 
 
-def copy_tree(to, *left_out):
-    """Copies the tree without what was built in it and without the folders `left_out`. Links stay
+def copy_tree(tree, to, *left_out):
+    """Copies a tree without what was built in it and without the folders `left_out`. Links stay
     links, which `rt ci` refuses."""
     ignored = shutil.ignore_patterns(".git", "out", "__pycache__", *left_out)
-    shutil.copytree(ROOT, to, symlinks=True, ignore=ignored, dirs_exist_ok=True)
+    shutil.copytree(tree, to, symlinks=True, ignore=ignored, dirs_exist_ok=True)
 
 
 def begin(words, folder, **how):
@@ -65,10 +66,9 @@ def follow(step, left_out, edits=None):
 
 @contextlib.contextmanager
 def edits_beside(tree, proved, anew):
-    """Begins the edits in a second copy of the tree, which has must-fail/, over the libraries that
-    `rt ci` builds in the copy `proved`. If they still run at the end, kills them; their temporary
-    files are beside the copies, and go with these."""
-    copy_tree(tree)
+    """Begins the edits in a copy of the tree, which has must-fail/, over the libraries that `rt ci`
+    builds in the copy `proved`. If they still run at the end, kills them; their temporary files are
+    beside the copies, and go with these."""
     for crate in (proved / "crates").iterdir():
         (tree / "crates" / crate.name / "out").symlink_to(crate / "out")
     edits = begin([sys.executable, "-m", EDITS, "--beside", *anew], tree, stdin=subprocess.PIPE,
@@ -88,9 +88,10 @@ def main():
     anew = ["--anew"] if parser.parse_args().anew else []
     began, left_out = time.monotonic(), []
     with tempfile.TemporaryDirectory(prefix="cwtune-gate-") as name:
-        copy = pathlib.Path(name, "cwtune")
-        copy_tree(copy, "must-fail")
-        with edits_beside(pathlib.Path(name, "edits"), copy, anew) as edits:
+        whole, copy = pathlib.Path(name, "edits"), pathlib.Path(name, "cwtune")
+        copy_tree(ROOT, whole)
+        copy_tree(whole, copy, "must-fail")
+        with edits_beside(whole, copy, anew) as edits:
             counts = [follow(begin(["rt", "ci", *anew], copy), left_out, edits)]
             is_proved = not counts[0][1]
             if is_proved:
@@ -98,7 +99,7 @@ def main():
                     edits.stdin.close()
                 counts.append(follow(edits, left_out))
         if is_proved:
-            copy_tree(copy)
+            copy_tree(whole, copy)
         for step in STEPS if is_proved else []:
             counts.append(follow(begin([*WATCHED, "-m", step], copy), left_out))
     used = resource.getrusage(resource.RUSAGE_CHILDREN)
