@@ -5,6 +5,7 @@
 # differs. Ends with status 0 if all is as expected, otherwise with 1.
 # Use: examples/demo.sh [PROGRAM]; otherwise the program built here, or else the one on the PATH
 
+unset CDPATH
 program=${1:-$(dirname "$0")/../crates/cwtune/out/cwtune}
 [ $# -gt 0 ] || [ -x "$program" ] || program=$(command -v cwtune)
 if [ ! -x "$program" ]; then

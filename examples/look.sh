@@ -4,6 +4,7 @@
 # not the one of demo.sh. Ends with the program's status.
 # Use: examples/look.sh
 
+unset CDPATH
 here=$(cd "$(dirname "$0")" && pwd)
 # shellcheck source=examples/opponents.sh
 . "$here/opponents.sh"

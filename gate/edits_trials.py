@@ -1,5 +1,5 @@
 """Tries `gate.edits`, and the gate with another step after the proofs, with a stand-in for the kit:
-how edits are judged, and when their rounds begin beside `rt ci`."""
+how edits are judged, and when their rounds begin beside `rt ci`. Tries `prove.sh` with it, too."""
 import os, pathlib, queue, shutil, subprocess, sys, tempfile, time, types
 
 from author.lib.endings import Fault, run_tool
@@ -77,13 +77,15 @@ class Room:
     def check_says(self, lines):
         self.write("kit/said", "".join(f"echo '{line}'\n" for line in lines))
 
-    def run(self, *words):
-        """Runs Python, with the kit on the PATH. Returns the status and the lines."""
-        kit, cache = self.folder / "kit", self.folder / "cache"
+    def run(self, *words, program=sys.executable):
+        """Runs Python or another program in the tree, with the kit on the PATH and a CDPATH that
+        leads elsewhere. Returns the status and the lines."""
+        kit, cache, other = (str(self.folder / name) for name in ("kit", "cache", "other"))
         done = subprocess.run(
-            [sys.executable, *words], cwd=self.folder / "tree", stdout=subprocess.PIPE,
+            [program, *words], cwd=self.folder / "tree", stdout=subprocess.PIPE,
             stderr=subprocess.STDOUT, text=True,
-            env={**os.environ, "PATH": f"{kit}:{os.environ['PATH']}", "XDG_CACHE_HOME": str(cache)})
+            env={**os.environ, "PATH": f"{kit}:{os.environ['PATH']}", "XDG_CACHE_HOME": cache,
+                 "CDPATH": other})
         return done.returncode, done.stdout.split("\n")[:-1]
 
 
@@ -149,6 +151,18 @@ def gates(room):
     yield compare("the words of its check", b"", words.read_bytes() if words.exists() else b"")
 
 
+def proves(room):
+    """Has prove.sh prove the crate, with a CDPATH that leads elsewhere, and an empty list."""
+    room.write("other/gate/none", "")
+    room.write("kit/ends", "")
+    for crates, expected in [("low: itoa\n", (0, "low")),
+                             ("", (1, "prove.sh: no crates in crates.txt"))]:
+        room.write("tree/crates.txt", crates)
+        status, lines = room.run("gate/prove.sh", program="sh")
+        yield compare(f"prove.sh, crates {crates!r}", (expected, 1), (
+            (status, lines[-1].partition("  ")[0]), len(lines)))
+
+
 def beside():
     """Begins the rounds of three crates, one upon another, beside an `rt ci`, one at a time."""
     begun, said = [], queue.SimpleQueue()
@@ -180,6 +194,7 @@ def trials():
         yield from verdicts(room)
         yield from malformed(room)
         yield from gates(room)
+        yield from proves(room)
     yield from beside()
 
 

@@ -3,10 +3,13 @@
 # seconds. At a crate that is not proved, ends with what the prover said last.
 # Use: gate/prove.sh
 
+unset CDPATH
 here=$(cd "$(dirname "$0")/.." && pwd)
+crates=$(sed -n 's/^\([a-z_]*\):.*/\1/p' "$here/crates.txt" | sed '/^cwtune$/q')
+[ -n "$crates" ] || { echo "prove.sh: no crates in crates.txt" >&2; exit 1; }
 log=$(mktemp) || exit 1
 trap 'rm -f "$log"' EXIT
-for crate in $(sed -n 's/^\([a-z_]*\):.*/\1/p' "$here/crates.txt" | sed '/^cwtune$/q'); do
+for crate in $crates; do
     printf '%-14s ' "$crate"
     start=$(date +%s)
     if ! (cd "$here/crates/$crate" && rt check) >"$log" 2>&1; then

@@ -96,7 +96,8 @@ def seen(place, words, count):
 
 def begins_soon(place, words):
     """Returns whether the first line comes within a second. A busy machine is asked five times."""
-    return any(seen(place, words, 1)[1] < 1 for _ in range(5))
+    return any(lines and seconds < 1 for lines, seconds in (
+        seen(place, words, 1) for _ in range(5)))
 
 
 def long_tunings(place):
@@ -136,7 +137,8 @@ def long_settings(place):
     words = ["tune", "--all", *rules, "forty.red", "four.csv", "CERT", "imp.red"]
     lines, _ = seen(place, words, 7)
     wrong = [line for line in lines if not agrees(line)]
-    yield "the numbers of a line agree", [], wrong
+    has_numbers = any(re.fullmatch(STEADY, line) for line in lines)
+    yield "the numbers of a line agree", ([], True), (wrong, has_numbers or lines)
 
 
 def seconds_of(line):

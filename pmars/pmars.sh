@@ -4,6 +4,7 @@
 # dpkg-dev and the network; a program that is there already is not built again.
 # Use: pmars/pmars.sh [FOLDER]   (default: ~/.cache/cwtune-pmars)
 set -eu
+unset CDPATH
 
 case ${1-} in
     -*)
