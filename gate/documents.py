@@ -178,10 +178,12 @@ def trials(program):
     yield from ((f"{document.name}: no unsettled merge",
                  UNSETTLED.findall(document.read_text("utf-8"))) for document in DOCUMENTS)
     with tempfile.TemporaryDirectory() as name:
-        folder = pathlib.Path(name)
+        # The documents call it `cwtune`, whatever the name of its file is.
+        linked, folder = pathlib.Path(name, "cwtune"), pathlib.Path(name, "folder")
+        linked.symlink_to(program)
         shutil.copytree(ROOT / "examples", folder / "examples")
         runs = [trial for document in DOCUMENTS for trial in played(
-            program, document, folder / FOLDERS.get(document.name, "."))]
+            linked, document, folder / FOLDERS.get(document.name, "."))]
     yield from runs
     yield "runs in documents", [] if runs else ["none was found"]
 
