@@ -1,16 +1,17 @@
 """Asks the modules for help, and runs them with a program that does not exist or always fails. Has
-cases refused, and an option of pmars.sh, and looks whether `classes.py` has something to write.
+cases refused, and an option of pmars.sh, and looks whether `classes.py` has something to write and
+whether CDPATH may lead a script elsewhere.
 
 Each module of `gate` that can be run has to be in the lists of gate.gate and of gate/__init__.py,
 but for those that are run by hand.
 """
-import pathlib, re, sys, tempfile
+import contextlib, pathlib, re, sys, tempfile
 from unittest import mock
 
-import gate.lib
+import gate.lib, pmars.compare
+from author.lib.adapt import Unwritable
 from author.lib.endings import Fault, run_tool
 from author.lib.words import module_parser
-from pmars.compare import Programs
 
 from . import documents
 from .gate import EDITS, STEPS
@@ -57,6 +58,10 @@ def failing():
     said = "failed: stone.red: a search ended with status 1\n"
     yield compare(" ".join(words), (3, "", said), ran_module(*words))
     yield "a listing of pMARS that is refused", refused_listing()
+    with (mock.patch.object(pmars.compare, "adapt", side_effect=Unwritable("")),
+          contextlib.redirect_stdout(None)):
+        none = pmars.compare.compare_adapted(pmars.compare.Programs(FAILING, FAILING, ""))
+    yield compare("a comparison of no adapted text", 1, none)
     yield "a command of a document that takes too long", left_running()
     yield from left_out()
     for text, said in CASES.items():
@@ -85,7 +90,7 @@ def refused_listing():
     """Reads a listing that `cwtune asm` refuses. Returns what is wrong, in a list."""
     with tempfile.TemporaryDirectory() as folder:
         try:
-            return [f"got {Programs(FAILING, '/bin/echo', folder).listing('')!r}"]
+            return [f"got {pmars.compare.Programs(FAILING, '/bin/echo', folder).listing('')!r}"]
         except Fault:
             return []
 
@@ -124,6 +129,13 @@ def same(name, modules, listed):
     return compare(f"{name} lists other modules than are there", [], sorted(modules ^ listed))
 
 
+def led_elsewhere():
+    """Returns the scripts with a `cd` that leave CDPATH set."""
+    texts = {path.name: path.read_text() for path in [*ROOT.glob("*/*.sh"), ROOT / ".ci/run"]}
+    return [name for name, text in texts.items()
+            if re.search(r"\bcd ", text) and "\nunset CDPATH\n" not in text]
+
+
 def trials():
     yield from listed()
     for module in sorted(modules_of(ROOMS, MAIN)):
@@ -135,6 +147,7 @@ def trials():
         status, err.rpartition("python3 -m ")[2]))
     yield compare("the tables of classes", (0, "", ""),
                   ran([sys.executable, "crates/mars_core/classes.py", "--check"]))
+    yield compare("scripts that CDPATH may lead elsewhere", [], led_elsewhere())
     yield compare("pmars.sh takes no options", (2, "", "use: pmars/pmars.sh [FOLDER]\n"),
                   ran(["sh", "pmars/pmars.sh", "--help"]))
     refused = [("make build", module) for module in sorted(modules_of(ROOMS, TAKES_PROGRAM))]

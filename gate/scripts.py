@@ -1,5 +1,5 @@
 """Runs `demo.sh`, `tuning/certify.py` and `slurm.sh` of `examples/`, also with what they refuse."""
-import itertools, re, signal, subprocess, sys, time
+import itertools, pathlib, re, signal, subprocess, sys, tempfile, time
 
 from author.lib.endings import run_tool
 from author.lib.words import program_word
@@ -46,11 +46,14 @@ REFUSED = (1, "", "refused: Template: a range line is malformed\n")
 
 
 def programs(program):
-    """Gives the script of `make demo` a program, one that does not exist, and a wrong one."""
+    """Gives the script of `make demo` a program, one that does not exist, and a wrong one with a
+    CDPATH that leads elsewhere."""
     status, out, err = ran([*DEMO, program])
     yield "demo.sh PROGRAM", [] if status == 0 else [f"got {out}{err}"]
     yield compare("demo.sh none", (1, "", "demo.sh: no program none\n"), ran([*DEMO, "none"]))
-    status, out, err = ran([*DEMO, "/bin/true"])
+    with tempfile.TemporaryDirectory() as other:
+        pathlib.Path(other, "examples").mkdir()
+        status, out, err = ran(["sh", "examples/demo.sh", "/bin/true"], CDPATH=other)
     wrong = len(re.findall("(?m)^cwtune .*: not as expected", out))
     said = re.findall("(?m)^Traceback|^certify.py: .*true(: .*)", err)
     yield compare("demo.sh /bin/true: what differs", (1, True, [": not the output of cwtune"] * 2),

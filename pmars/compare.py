@@ -169,20 +169,23 @@ def compare_texts(programs, dice, count, progress):
 
 def compare_adapted(programs):
     """Adapts the known texts and those of author/tests/redcode, but for those with P-space and
-    ROUNDS. Returns how many pMARS lists otherwise than their originals."""
+    ROUNDS. Prints how many are compared, and returns how many pMARS lists otherwise than their
+    originals; 1 if there are none."""
     texts = {known.name: known.text.encode("latin-1") for known in TEXTS}
     texts |= {path.name: path.read_bytes() for path in sorted(ADAPTED.glob("*.red"))}
-    wrong = 0
+    compared = wrong = 0
     for name, text in texts.items():
         try:
             adapted = adapt(name, text, Rules(), programs.cwtune)
+            compared += 1
             refuse_other(programs.pmars, name, text, Rules(), adapted.load_file)
         except Unwritable:
             continue
         except Fault as fault:
             wrong += 1
             print(fault)
-    return wrong
+    print(f"{compared} adapted texts")
+    return wrong if compared else 1
 
 
 def show_fights(programs):
