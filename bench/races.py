@@ -248,6 +248,8 @@ def settle(parser, args):
 def main():
     parser = make_parser()
     args = parser.parse_args()
+    if args.table and not os.path.exists(args.results):
+        raise Fault(f"no results {args.results}", 2)
     if args.table:
         print("\n".join(table_of(Results(args.results))))
     else:

@@ -68,6 +68,8 @@ def table_trials(folder):
         path.write_text(path.read_text().partition("\n")[0] + f"\n{line}\n")
         yield compare(line, (1, "", f"refused: {path}: line 2 is not a result\n"),
                       ran_module("bench.races", "--table", "--results", path))
+    yield compare("a table of no file", (2, "", "error: no results none\n"),
+                  ran_module("bench.races", "--table", "--results", "none"))
 
 
 def raced(folder, stand_in, pmars=PMARS):
