@@ -18,7 +18,7 @@ cert_inputs_trials
                  the file CERT.inputs
 ranking_trials   searches for the first of the ranking and with a floor
 races_trials     the races of bench, with stand-ins, and their table
-scripts          the scripts of examples/
+scripts          demo.sh, certify.py and slurm.sh of examples/
 runners          the modules of all rooms: their help, and programs that do not exist or fail
 refuse.memory    the program, with each of its requests for memory refused
 refuse.growth    the tests of calls that allocate, likewise

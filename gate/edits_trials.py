@@ -9,7 +9,7 @@ from .lib import lanes
 from .lib.running import ROOT
 from .lib.tally import compare, tally
 
-# A crate with an edit, the kit that checks it, and its `rt ci`.
+# A crate with an edit, a step of the gate, the kit that checks the crate, and its `rt ci`.
 FILES = {
     "tree/crates/low/src/lib.rt":
         "fn first() -> u64 {\n    1\n}\n\nfn second() -> u64 {\n    2\n}\n",

@@ -213,7 +213,7 @@ def debian(folder, build):
     with tempfile.TemporaryDirectory() as work:
         tree = pathlib.Path(work, "tree")
         version = stage(tree / "usr", build, DEBIAN_ZSH)
-        shutil.copy(ROOT / "LICENSE", tree / "usr" / DOC / "copyright")
+        shutil.copyfile(ROOT / "LICENSE", tree / "usr" / DOC / "copyright")
         # Debian's Python runs the commands, whatever else is on the PATH.
         for name in manual.COMMANDS:
             command = tree / "usr" / SHARE / "author" / name
