@@ -5,7 +5,6 @@
 use crate::files::digest::Digested;
 use crate::files::guard::{Written, has_other_text};
 use crate::files::replacing::replacement_at;
-use crate::files::same_file::is_file_at;
 use command_words::{TuneWords, VERSION};
 use std::alloc::{AllocError, Global};
 use std::fs::Metadata;
@@ -30,8 +29,8 @@ pub(crate) struct Tuning<'a> {
     pub(crate) method: Method,
 }
 
-// Writes CERT.inputs, but not over CERT, to which a link of that name may lead now, nor over a text
-// of another kind. If that fails, removes an older one, which is of another certificate.
+// Writes CERT.inputs, but not over a text of another kind, such as CERT, to which a link of that
+// name may lead now. If that fails, removes an older one, which is of another certificate.
 pub(crate) fn write_inputs<R: Files + Copy>(
     rt: R,
     alloc: Global,
@@ -39,23 +38,12 @@ pub(crate) fn write_inputs<R: Files + Copy>(
     cert: &Digested,
     name: &str,
 ) -> io::Result<()> {
-    if is_same_file(&rt, tuning.words.cert, name) {
-        return Err(io::Error::from(io::ErrorKind::AlreadyExists));
-    }
     let written = replace_inputs(rt, alloc, tuning, cert, name);
     let is_other = has_other_text(&rt, alloc, Written::Inputs, name).unwrap_or(true);
     if written.is_err() && is_file(&rt, name) && !is_other {
         let _ = fs::remove_file(&rt, name);
     }
     written
-}
-
-// Returns whether two names lead to one file.
-fn is_same_file<F: Files>(rt: &F, one: &str, other: &str) -> bool {
-    match fs::metadata(rt, one) {
-        Ok(found) => is_file_at(rt, other, &found).unwrap_or(false),
-        Err(_) => false,
-    }
 }
 
 fn replace_inputs<R: Files + Copy>(

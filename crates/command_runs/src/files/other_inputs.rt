@@ -32,20 +32,17 @@ pub(crate) fn differences<F: Files>(
         lines: Vec::new(alloc),
         compared: 0,
     };
-    match read_regular(rt, alloc, name.as_str()) {
+    // A FIFO could keep a check waiting for ever.
+    let text = if is_file(rt, name.as_str()) {
+        read_file(rt, alloc, name.as_str()).ok()
+    } else {
+        None
+    };
+    match text {
         Some(text) => comparison.compare(name.as_str(), text.as_slice(), cert)?,
         None => comparison.add_unknown(name.as_str(), "cannot be read")?,
     }
     Ok(comparison.lines)
-}
-
-// Reads a regular file. Another one, as a FIFO, could keep a check waiting for ever.
-fn read_regular<F: Files>(rt: &F, alloc: Global, name: &str) -> Option<Vec<u8>> {
-    if is_file(rt, name) {
-        read_file(rt, alloc, name).ok()
-    } else {
-        None
-    }
 }
 
 // Returns whether a byte may be in the rules or a part.
