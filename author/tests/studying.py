@@ -260,13 +260,13 @@ class Studying(StudyTrial):
     def test_certified_box(self):
         """Certifies a box with more fights than the race has, and then has another setting of it
         take the place of the race's winner."""
-        self.write("q.red", PLANE.replace("JMP  -2", ";@tune K -4 -2 1 -2\n        JMP  K"))
-        words = ["--exact=27", "--rounds=50", "--fights=2000", "--certify", "q.red", "all"]
+        self.write("q.red", PLANE.replace("        JMP  -2", ";@tune K -4 -2 1 -2\n JMP K"))
+        words = ["--exact=27", "--rounds=100", "--fights=2000", "--certify", "q.red", "all"]
         status, folder = self.study(*words).status, self.folder / "q.study"
         stages = self.mark("q")["stages"]
         challenge, winner = stages["challenge"]["result"], stages["race"]["result"]["winner"]
-        self.same("fights are left to compare the box with the winner", (0, 4050, True), (
-            status, stages["box"]["result"]["fights"], bool(challenge["compared"][0])))
+        self.same("fights are left to compare the box with the winner", (0, True, True), (
+            status, stages["box"]["result"]["fights"] > 2000, bool(challenge["compared"][0])))
         settings = tuning_files.Template(folder / "box.red").values_of_settings
         other = next(values for values in settings if values[2] != winner[2])
         challenge |= {"best": other, "points": [["3"] * 3, ["0"] * 3]}

@@ -11,7 +11,6 @@ from ..program import EXPLAIN, rules_of, run_program
 from ..series import refuse_distance, refuse_fights, refuse_seed
 from ..tuning_files import MOST_OPPONENTS, MOST_WEIGHT
 from ..writing import temporary_file
-from .fresh import seed_of
 
 # The options that a study depends on.
 OPTIONS = ["rounds", "seed", "exact", "box", "fresh", "fights", "minutes", "certify"]
@@ -111,8 +110,10 @@ def settle_options(parser, args):
     rules = rules_of(args)
     refuse_distance(parser, rules)
     if args.seed is None:
-        args.seed = 4321
-        args.seed = seed_of(args, 0)
+        low, count = rules.distance, rules.core - 2 * rules.distance + 1
+        args.seed = low + (4321 - low) % count
+        # A series that begins at the least position never leaves it.
+        args.seed += args.seed == low and count > 1
     refuse_seed(parser, "--seed", args.seed, rules)
     refuse_fights(parser, "--rounds", args.rounds, len(args.opponents))
     refuse_fights(parser, "--fresh", args.fresh, len(args.opponents))
