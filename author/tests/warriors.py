@@ -88,10 +88,10 @@ class Warriors(Trial):
                 "")),
             ("many settings", large, "--setting=5", (
                 1, "", "refused: t.red: more than 1000000 settings\n")),
-            ("a label before a range line", ";redcode\n MOV 0, 1\ngo\n;@tune K 1 3 1 2\n JMP go, K\n",
+            ("a lone label above", ";redcode\n MOV 0, 1\ngo\n;@tune K 1 3 1 2\n JMP go, K\n",
              "--setting=0", (0, ";redcode\n;strategy cwtune: K=1\nK EQU 1\n MOV 0, 1\ngo\n"
                              " JMP go, K\n", "")),
-            ("a count above its range line", "FOR K\n MOV 0, 1\nROF\n;@tune K 1 3 1 2\n",
+            ("a count above", "FOR K\n MOV 0, 1\nROF\n;@tune K 1 3 1 2\n",
              "--setting=0", (0, ";strategy cwtune: K=1\nK EQU 1\nFOR K\n MOV 0, 1\nROF\n", "")),
             ("a text without a `;strategy` line", plain, "--setting=0", (
                 0, plain.replace(";name", ";strategy cwtune: -\n;name"), "")),
