@@ -446,8 +446,7 @@ class CodeFinder:
                                       "for pMARS the start is that of END")
 
     def start_outside(self, instruction):
-        self.changes.add(instruction.code, whole_root(extents_of(instruction.b.chars)), "0",
-                         "the start is outside of the code, which pMARS reads as 0")
+        self.names.cannot(instruction.code, instruction.opcode)
 
 
 class Finder:
