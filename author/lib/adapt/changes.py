@@ -3,7 +3,7 @@
 A change puts a new text in place of some columns of a line. A line of a FOR block is read once for
 each copy; a change that not all copies ask for is not made, and the block is unrolled instead.
 """
-import collections, re
+import collections, itertools, re
 from typing import NamedTuple
 
 from ..pmars.text import State
@@ -253,6 +253,12 @@ class BlockFinder:
     def ends(self, text, block):
         if not text.inside:
             self.curline.ends(text, block)
+
+    def drops(self, text):
+        """Looks at a block without copies."""
+        if not text.inside:
+            words = (word_here(line.text) for line in text.lines[text.at + 1:])
+            self.curline.drops(text, itertools.takewhile(lambda word: word != "ROF", words))
 
     def rof(self, text, source, token):
         """Looks at a ROF: labels before it go after it, and words after it into a comment."""

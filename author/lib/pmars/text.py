@@ -399,6 +399,7 @@ class PmarsText:
         if count > MOST_PMARS_COPIES:
             raise PmarsFault(self.index, "too many copies")
         if count <= 0:
+            self.finder.blocks.drops(self)
             self.dropping += 1
         else:
             self.read_copies(Block(self.at, counter, labels, count), made)
