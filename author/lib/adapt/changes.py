@@ -347,6 +347,12 @@ class ValueFinder:
     def number(self, source, root, what, value):
         self.numbers.append((source, root, what, value))
 
+    def after_code(self, text, root, difference):
+        """Looks at a label or CURLINE after an EQU for the opcode. By then pMARS has counted the
+        instruction, so it takes the number that the next one would have."""
+        new = f"({self.changes.word(text.index, root)}{difference})"
+        self.changes.add(text, root, new, f"after an EQU for an opcode this is {new}")
+
     def write_numbers(self, text, chars, numbers):
         """Writes labels and CURLINE as numbers."""
         for source, root, what, value in numbers:
