@@ -40,12 +40,15 @@ tune_start() {
 
 # Runs a command with its output in a file, and what it says of a fault in another one: run FILE
 # FAULT COMMAND.. Both are renamed into place; if the command has no result, FILE stays as it was.
+# That a part has no candidate is a result, and so is that a check rejects.
 run() {
     file=$1 fault=$2
     shift 2
     "$@" >"$file.new" 2>"$fault.new"
     status=$?
-    [ "$status" -gt 1 ] || mv "$file.new" "$file"
+    case $status:$(grep '^refused: ' "$fault.new") in
+        0:* | 1: | '1:refused: NoCandidate') mv "$file.new" "$file" ;;
+    esac
     mv "$fault.new" "$fault"
     return "$status"
 }

@@ -1,8 +1,8 @@
 """What is known to differ from pMARS 0.9.2, each with a fight or a text that shows it.
 
-docs/PMARS.md explains these differences, and names others: no listing shows what pMARS refuses, or
-a text without instructions, and only a build with a display overlooks an assertion after an EQU
-line.
+docs/PMARS.md explains these differences, and names others: no listing shows what pMARS refuses, a
+start outside of the code, or a text without instructions, and only a build with a display overlooks
+an assertion after an EQU line.
 """
 from typing import NamedTuple
 
@@ -105,7 +105,6 @@ TEXTS = [KnownText(*row) for row in [
     ("an assertion without a value", ";assert \nDAT 0, 1\n", refused("line 1 Value Syntax"), DAT_1),
     ("a number that overflows", "DAT 0, 99999999999\n",
      refused("line 1 Expand Text NumberTooLarge"), one("$0, $-1")),
-    ("a start outside of the code", "ORG 7\nDAT 0, 1\n", refused("line 0 Warrior BadStart"), DAT_1),
     ("PIN", "PIN 5\nDAT 0, 1\n", refused("line 1 UnknownOpcode"), DAT_1),
     ("ROUNDS", "DAT 0, ROUNDS\n", refused("line 1 Value UnknownName"), one("$0, $0")),
     ("an assignment", "DAT 0, a=5\n", refused("line 1 Expand Text BadByte"), one("$0, $5")),

@@ -18,7 +18,9 @@ from .adapt import adapt, adapted_if_refused, read_text, start_of
 from .endings import Fault, note
 from .grid import ADAPTED, is_range_line
 from .openings import place_named
-from .places import assembled_lines, lines_of, spots_in
+from .places import HEAD, assembled_lines, lines_of, spots_in
+from .pmars.text import kept_of
+from .pmars.tokens import code_of, tokens_of
 from .program import assemble, load_file_of, refuse_other_warrior, rules_of
 from .put_back import original_lines
 from .slots import STRATEGY
@@ -83,24 +85,43 @@ def finished(own, template, setting, totals):
 
 
 def with_equs(lines, value_of, end):
-    """Returns lines with an EQU line for each range line, in its place. Where no EQU is read, as in
-    a block or after END, it follows the `;redcode` line, or begins the text."""
-    text = "\n".join(lines)
-    depth_after = {line.number: line.depth + (line.word == "for") for line in lines_of(text)}
-    read, depth = set(), 0
-    for number, _ in assembled_lines(text):
-        if not depth:
-            read.add(number)
-        depth = depth_after.get(number, depth)
+    """Returns lines with an EQU line for each range line, in its place. If pMARS would read it
+    otherwise there than `cwtune`, it follows the `;redcode` line, or begins the text."""
+    numbers = lines_for_equs("\n".join(lines))
     new, moved = [], []
     for number, line in enumerate(lines, 1):
         if is_range_line(line.encode("latin-1")):
-            name, target = line.split()[1], new if number in read else moved
-            target.append(equ_line(name, value_of[name]) + end)
+            name = line.split()[1]
+            stays = number in numbers and not any(uses_early(above, name) for above in new)
+            (new if stays else moved).append(equ_line(name, value_of[name]) + end)
         else:
             new.append(line)
     place = 1 + last_that_begins(new, ";redcode")
     return new[:place] + moved + new[place:]
+
+
+def lines_for_equs(text):
+    """Returns the numbers of the lines where an EQU line is read, and not in a block. Not after a
+    label on a line of its own, which pMARS takes for one more name of the EQU."""
+    numbers, depth, waits = set(), 0, False
+    for number, line in assembled_lines(text):
+        if not depth and not waits:
+            numbers.add(number)
+        code = code_of(line)
+        head = HEAD.match(code)
+        word = head[2].lower() if head else ""
+        depth += (word == "for") - (word == "rof")
+        waits = not word and (waits or code.strip() != "")
+    return numbers
+
+
+def uses_early(line, name):
+    """Returns whether a line uses a name in a count or an assertion, or in an EQU for one. For
+    these pMARS knows only the EQU lines above."""
+    kept = kept_of(line)
+    head = HEAD.match(kept)
+    return ((kept.lstrip()[:1] == ";" or head and head[2].lower() in ("for", "equ"))
+            and any(token.text == name for token in tokens_of(kept)))
 
 
 def with_strategy(lines, line):
@@ -142,12 +163,25 @@ def total_of_start(cert, template, schedule):
 
 def print_pmars_notes(text):
     for number, line in enumerate(text.split(b"\n"), 1):
-        code = line.partition(b";")[0]
         if len(line) > MOST_LINE_BYTES:
             note(f"pMARS cuts line {number} at {MOST_LINE_BYTES} bytes")
-        elif match := re.fullmatch(rb"(?i)(?:.*\s)?(nop|dat)\s*", code):
-            opcode = match[1].decode().upper()
-            note(f"pMARS refuses line {number}: {opcode} without an operand")
+    for line in copied(lines_of(text.decode("latin-1"))):
+        if line.word in ("nop", "dat") and not line.fields.keys() & {"a", "b"}:
+            note(f"pMARS refuses line {line.number}: {line.word.upper()} without an operand")
+
+
+def copied(lines):
+    """Yields lines, without those of blocks whose count is 0 or an EQU name for it."""
+    zeros = {"0", *(label for line in lines if "equ" in line.fields
+                    and line.spelled(line.fields["equ"]) == "0" for label in line.labels)}
+    dropped = None
+    for line in lines:
+        if dropped is not None and line.depth <= dropped:
+            dropped = None
+        if dropped is None:
+            yield line
+            if line.word == "for" and line.spelled(line.fields["a"]) in zeros:
+                dropped = line.depth
 
 
 def checked_text(args, template, setting, totals):

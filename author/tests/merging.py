@@ -4,9 +4,10 @@ import argparse, os, types
 from unittest import mock
 
 from author.lib.spread.hosts import HostJobs
+from gate.lib import inputs
 from gate.lib.inputs import RULES
 
-from .spread_trial import DECOY, RANKED, SpreadTrial, left_over
+from .spread_trial import DECOY, RANKED, SMALL, SpreadTrial, left_over
 from .trial import SECONDS
 
 NO_CERT = (3, "", "failed: CERT.2: No such file or directory\n")
@@ -110,6 +111,24 @@ class Merging(SpreadTrial):
             (self.folder / f"CERT.{number}.inputs").unlink()
         self.same("--merge of too many parts that do not say of what", 3,
                   self.spread("--merge=4", *DECOY).status)
+
+    def test_repeated_jobs(self):
+        """Repeats jobs with a schedule that is refused, and with a template without a candidate in
+        one part."""
+        words, part = [*SMALL[len(RULES):], *RULES], ["CERT.2.report", "CERT.2.check"]
+        wrong = ["dat.red" if word == "both.csv" else word for word in words]
+        self.write("x.red", inputs.FILES["imps.red"])
+        self.run_jobs(2, *words)
+        self.write("CERT", self.read("CERT.2"))
+        self.run_jobs(2, "--check", *words)
+        before = list(map(self.read, part))
+        for option in [[], ["--check"]]:
+            self.run_jobs(2, *option, *wrong)
+        self.same("a refused job leaves results as they were", before, list(map(self.read, part)))
+        self.write("x.red", ";@tune K 0 3 1 0\nJMP 0, 1/(K<2)\n")
+        self.run_jobs(2, *words)
+        self.same("a part without a candidate", (b"", self.tuned(SMALL)), (
+            self.read("CERT.2.report"), self.found(SMALL, self.spread("--merge=2", *SMALL))))
 
     def test_damaged(self):
         self.run_jobs(3, *DECOY)

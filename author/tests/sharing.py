@@ -119,6 +119,11 @@ class Sharing(SpreadTrial):
                   (self.read("CERT"), self.done(), self.done("shares") > 1))
         self.same("the check goes on", (without_fights(unbroken), []),
                   (without_fights(self.spread("--check", *DECOY)), self.left()))
+        self.tune("--all", *DECOY)
+        self.unfinished("--shares=16", *CHECK_ONLY, kind="shares")
+        self.same("shares of an older certificate are replaced", (without_fights(unbroken), []), (
+            without_fights(self.spread("--check", "--parts=4", "--shares=3", *DECOY)),
+            self.left()))
 
     def test_liars(self):
         """Runs stand-ins for `cwtune` whose shares differ in what they name, or have no verdict."""

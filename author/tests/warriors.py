@@ -88,6 +88,11 @@ class Warriors(Trial):
                 "")),
             ("many settings", large, "--setting=5", (
                 1, "", "refused: t.red: more than 1000000 settings\n")),
+            ("a lone label above", ";redcode\n MOV 0, 1\ngo\n;@tune K 1 3 1 2\n JMP go, K\n",
+             "--setting=0", (0, ";redcode\n;strategy cwtune: K=1\nK EQU 1\n MOV 0, 1\ngo\n"
+                             " JMP go, K\n", "")),
+            ("a count above", "FOR K\n MOV 0, 1\nROF\n;@tune K 1 3 1 2\n",
+             "--setting=0", (0, ";strategy cwtune: K=1\nK EQU 1\nFOR K\n MOV 0, 1\nROF\n", "")),
             ("a text without a `;strategy` line", plain, "--setting=0", (
                 0, plain.replace(";name", ";strategy cwtune: -\n;name"), "")),
         ]:
@@ -121,14 +126,18 @@ class Warriors(Trial):
         self.refused(WRONG_WORDS)
 
     def test_pmars_notes(self):
-        for text, line in [
-            (b"DAT 0\nx: nop\n", "pMARS refuses line 3: NOP without an operand"),
-            (b"DAT ; nothing\n", "pMARS refuses line 2: DAT without an operand"),
-            (b"DAT 0\nDAT 1" + b" " * 251 + b"\n", "pMARS cuts line 3 at 255 bytes"),
+        refused, without = "pMARS refuses line", "without an operand"
+        for text, lines in [
+            (b"DAT 0\nx: nop\n", [f"{refused} 3: NOP {without}"]),
+            (b"DAT.F\nx:NOP\nDAT ; nothing\n", [
+                f"{refused} 2: DAT {without}", f"{refused} 3: NOP {without}",
+                f"{refused} 4: DAT {without}"]),
+            (b"no EQU 0\nfor no\nhow to fight dat\nrof\nDAT 0, 1\nEND\nDAT\n", []),
+            (b"DAT 0\nDAT 1" + b" " * 251 + b"\n", ["pMARS cuts line 3 at 255 bytes"]),
         ]:
             self.write("t.red", text)
             status, _, err = self.call("cwtune-warrior t.red --setting 0")
-            self.same(line, (0, f"note: {line}\n"), (status, err))
+            self.same(text, (0, "".join(f"note: {line}\n" for line in lines)), (status, err))
 
     def test_faults(self):
         """Runs commands with stand-ins for `cwtune` that note something, and that are killed."""

@@ -3,7 +3,7 @@
 A change puts a new text in place of some columns of a line. A line of a FOR block is read once for
 each copy; a change that not all copies ask for is not made, and the block is unrolled instead.
 """
-import collections, re
+import collections, itertools, re
 from typing import NamedTuple
 
 from ..pmars.text import State
@@ -254,6 +254,12 @@ class BlockFinder:
         if not text.inside:
             self.curline.ends(text, block)
 
+    def drops(self, text):
+        """Looks at a block without copies."""
+        if not text.inside:
+            words = (word_here(line.text) for line in text.lines[text.at + 1:])
+            self.curline.drops(text, itertools.takewhile(lambda word: word != "ROF", words))
+
     def rof(self, text, source, token):
         """Looks at a ROF: labels before it go after it, and words after it into a comment."""
         if source.root:
@@ -340,6 +346,12 @@ class ValueFinder:
 
     def number(self, source, root, what, value):
         self.numbers.append((source, root, what, value))
+
+    def after_code(self, text, root, difference):
+        """Looks at a label or CURLINE after an EQU for the opcode. By then pMARS has counted the
+        instruction, so it takes the number that the next one would have."""
+        new = f"({self.changes.word(text.index, root)}{difference})"
+        self.changes.add(text, root, new, f"after an EQU for an opcode this is {new}")
 
     def write_numbers(self, text, chars, numbers):
         """Writes labels and CURLINE as numbers."""
@@ -446,8 +458,7 @@ class CodeFinder:
                                       "for pMARS the start is that of END")
 
     def start_outside(self, instruction):
-        self.changes.add(instruction.code, whole_root(extents_of(instruction.b.chars)), "0",
-                         "the start is outside of the code, which pMARS reads as 0")
+        self.names.cannot(instruction.code, instruction.opcode)
 
 
 class Finder:

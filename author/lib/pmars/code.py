@@ -182,7 +182,6 @@ class Load:
             raise PmarsFault(0, f"{len(self.lines)} instructions")
         if self.start >= len(self.lines):
             text.finder.code.start_outside(self.start_code)
-            self.start = 0
 
     def set_start(self, instruction):
         value = instruction.value(instruction.b)

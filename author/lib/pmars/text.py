@@ -254,6 +254,8 @@ class PmarsText:
             raise PmarsFault(self.index, "CURLINE is not a label")
         root = source.root_of(token.start, token.end)
         self.finder.values.number(source, root, "CURLINE", self.address)
+        if state == State.CODE and not source.root:
+            self.finder.values.after_code(self, root, "+1")
         made.add(f"{self.address}{blank_at(source.text, token.end)}", root)
         return token.end, state
 
@@ -333,6 +335,8 @@ class PmarsText:
         else:
             text = str(use.known.value - (0 if use.state == State.START else self.address))
             self.finder.values.number(source, use.root, "label", int(text))
+            if use.state == State.CODE and not source.root:
+                self.finder.values.after_code(self, use.root, "-1")
         made.add(f"{text}{blank_at(source.text, at)}", use.root)
         return at, use.state
 
@@ -399,6 +403,7 @@ class PmarsText:
         if count > MOST_PMARS_COPIES:
             raise PmarsFault(self.index, "too many copies")
         if count <= 0:
+            self.finder.blocks.drops(self)
             self.dropping += 1
         else:
             self.read_copies(Block(self.at, counter, labels, count), made)

@@ -263,9 +263,10 @@ def tune(args, setting_count, notes):
     folder = (ClusterParts(args, setting_count) if args.merge
               else Parts(args, setting_count, tune_options(args)))
     progress = PartsProgress(folder, args.progress)
-    for number in range(1, (args.merge or 0) + 1):
-        part = f"{number}/{args.merge}"
-        cert_inputs.refuse_other_tuning(args, folder.cert(number), part, method_of(args))
+    for number, result in progress.results.items() if args.merge else ():
+        if result and result.report:  # else an older CERT.I may be there
+            part = f"{number}/{args.merge}"
+            cert_inputs.refuse_other_tuning(args, folder.cert(number), part, method_of(args))
     with explaining_stop(folder, progress):
         refuse_missing(folder, progress, run_jobs(args, folder, progress))
         try:

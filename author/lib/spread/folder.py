@@ -115,7 +115,8 @@ class SpreadFolder(Pieces, OwnFolder):
         self.is_removed = False
         mark = self.read_mark()
         self.refuse_strange()
-        if args.anew or mark is None or mark.of is None or not (mark.parts and mark.count):
+        is_whole = mark and mark.of is not None and mark.parts and mark.count
+        if args.anew or not is_whole or self.is_useless(mark):
             mark = self.fill(piece_count, setting_count)
         self.refuse_other_inputs(mark.of, self.inputs_fingerprint(),
                                  f"{self.THROWN} in {given_path} are of other inputs")
@@ -133,6 +134,10 @@ class SpreadFolder(Pieces, OwnFolder):
         if mark and mark.piece != self.PIECE:
             raise Fault(f"{self.given_path} has {mark.piece}s, and is not touched", 2)
         return mark
+
+    def is_useless(self, mark):
+        """Returns whether a folder of other inputs can be made anew, and need not be refused."""
+        return False
 
     def rooms(self):
         return {"": f"{self.OWN_FILES}|{self.UNFINISHED_FILES}"}

@@ -103,14 +103,23 @@ class Shares(SpreadFolder):
 
     def __init__(self, args, setting_count, cert):
         self.cert, self.rules, self.keep = cert, rules_of(args), args.keep
+        self.is_of_tuning = not args.check_only
         copies = copies_of(args, Copy("certificate", "c.cert", cert))
         share_count = args.shares or min(setting_count, 8 * args.jobs)
         super().__init__(args, args.work or f"{args.cert}.shares", copies,
                          {"rules": self.rules._asdict(), "keep": args.keep}, share_count,
                          setting_count)
         if args.shares and args.shares != self.piece_count:
-            raise Fault(f"{self.given_path} has {self.piece_count} shares: leave out --shares, or "
-                        "give --anew to throw them away and begin again", 2)
+            # In a tuning --anew would throw the parts away, too.
+            anew = "" if self.is_of_tuning else (", or give --anew to throw them away and begin "
+                                                 "again")
+            raise Fault(f"{self.given_path} has {self.piece_count} shares: leave out --shares"
+                        f"{anew}", 2)
+
+    def is_useless(self, mark):
+        """Returns whether the shares are of another certificate than that of this tuning, which
+        takes its place."""
+        return self.is_of_tuning and mark.of != self.inputs_fingerprint()
 
     def words(self, number):
         return ["./cwtune", "check", f"--share={number}/{self.piece_count}",
