@@ -230,8 +230,9 @@ class NameFinder:
 class BlockFinder:
     """Finds FOR blocks: `found` by the indices of their heads, and `tails`, where each ends."""
 
-    def __init__(self, changes, curline):
-        self.changes, self.curline, self.found, self.tails = changes, curline, {}, {}
+    def __init__(self, changes, names, curline):
+        self.changes, self.names, self.curline = changes, names, curline
+        self.found, self.tails = {}, {}
 
     def counter(self, text, label):
         """Looks at the counter of a block, which may be on a line before."""
@@ -261,7 +262,8 @@ class BlockFinder:
             self.curline.drops(text, itertools.takewhile(lambda word: word != "ROF", words))
 
     def rof(self, text, source, token):
-        """Looks at a ROF: labels before it go after it, and words after it into a comment."""
+        """Looks at a ROF: labels before it go after it, and words after it into a comment. With
+        more than one copy they would be of the next copy, too, or a later line ends the block."""
         if source.root:
             return
         if text.blocks:
@@ -270,7 +272,9 @@ class BlockFinder:
         labels = [label for label in text.labels if label.reading == text.reading]
         if source.text[token.end:].strip():
             self.changes.add(text, (end, end), " ;", "what is after ROF is a comment now")
-        if labels:
+        if labels and text.blocks and text.blocks[-1].count > 1:
+            self.names.cannot(text, token.text)
+        elif labels:
             column, line = labels[0].root[0], self.changes.lines[text.index]
             note = f"the label {labels[0].name} comes after ROF now"
             self.changes.add(text, (column, start), "", note)
@@ -468,7 +472,7 @@ class Finder:
         curline = Curline(lines, rules)
         self.changes = Changes(lines)
         self.names = NameFinder(self.changes)
-        self.blocks = BlockFinder(self.changes, curline)
+        self.blocks = BlockFinder(self.changes, self.names, curline)
         self.values = ValueFinder(self.changes, self.names, curline, rules.core)
         self.code = CodeFinder(self.changes, self.names, self.values)
 
