@@ -100,13 +100,15 @@ impl<R: Files> Replacement<R> {
         named
     }
 
-    // Renames the file, unless a text of another kind came to `name` meanwhile.
+    // Renames the file, unless a text of another kind came to `name` meanwhile, as far as that can
+    // be told: memory may have run out.
     fn name_file(&self, file: &R::File) -> io::Result<()> {
         file.sync_all()?;
-        if has_other_text(&self.rt, self.alloc, self.written, self.name.as_str())? {
+        let name = self.name.as_str();
+        if has_other_text(&self.rt, self.alloc, self.written, name).unwrap_or(false) {
             return Err(io::Error::from(io::ErrorKind::AlreadyExists));
         }
-        fs::rename(&self.rt, self.beside.as_str(), self.name.as_str())
+        fs::rename(&self.rt, self.beside.as_str(), name)
     }
 
     fn remove_beside(&self) {
