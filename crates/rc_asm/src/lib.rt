@@ -1,4 +1,7 @@
 //! The assembler of Redcode: a text becomes a warrior, or its first fault is named with its line.
+//!
+//! `assembler` runs it. `labels` gives the labels their addresses; then `reading` evaluates line by
+//! line, by `instruction`, `operand` and `scope`. `forms` is asked only after a fault.
 #![tactic(auto)]
 
 mod assembler;

@@ -42,10 +42,9 @@ use std::alloc::Global;
 ///   or is a constant or a predefined name; then, whichever is met first, `EquTooDeep`: EQU names
 ///   nested more than 16 deep; or `TooManyTokens`: more than 4096 tokens or EQU replacements in a
 ///   line.
-/// - `OutOfMemory`, at line 0, if memory runs out.
 ///
-/// It is proved that the result is the expansion, or the first fault with its line, unless memory
-/// runs out.
+/// `OutOfMemory`, at line 0, can come at any point. Otherwise it is proved that the result is the
+/// expansion, or the first fault with its line.
 #[tactic(auto, unfolding(crate::specs::Expansion::expansion_of))]
 pub fn expand(
     alloc: Global,

@@ -1,4 +1,4 @@
-//! Laws of the definitions.
+//! Laws of expansions, of FOR blocks and of labels.
 ghost use Rattle.std.specs.Prelude.{◌≡◌, ◌↔◌, ◌++◌, List, ℕ, Result, flat_map, All};
 ghost use Rattle.rc_text.specs.declared.token.Token.{Token};
 ghost use Rattle.rc_instr.specs.Rules.{RulesView};

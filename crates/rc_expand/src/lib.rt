@@ -1,4 +1,4 @@
-//! Expansion of Redcode: to lines without EQU names, FOR blocks and joined names.
+//! Expansion of Redcode: to lines without EQU names and FOR blocks. Counters are joined to names.
 //!
 //! It goes in three passes: `read` reads the lines up to END, `unroll` notes which line is in which
 //! copies of blocks, and `replace` makes these lines one by one, defines their names, and puts the

@@ -1,6 +1,6 @@
 -- The words of opcodes and modifiers, in capitals. A load file has these words alone; a Redcode
--- text has them in any case, and CMP for SEQ. They are the 1994 draft's, but for SEQ, SNE and NOP,
--- which are pMARS's.
+-- text has them in letters of any case, and CMP for SEQ. They are the 1994 draft's, but for SEQ,
+-- SNE and NOP, which are pMARS's.
 use Rattle.std.specs.Prelude.{ℕ, List, [], ◌∷◌, map, Option, Some, if◌then◌else◌, codes}
 use Rattle.std.specs.Char.{to_ascii_uppercase}
 use Rattle.std.specs.List.{find}
@@ -59,10 +59,10 @@ modifier_of word = find (λ m. bytes_eq word (modifier_text m)) modifiers
 abbrev pub opcode_or_cmp : List ℕ → Option Opcode
 opcode_or_cmp word = if bytes_eq word (codes "CMP") then Some Seq else opcode_of word
 
--- The opcode that a name is, in any case.
+-- The opcode that a name is, in letters of any case.
 abbrev pub opcode_named : List ℕ → Option Opcode
 opcode_named name = opcode_or_cmp (map to_ascii_uppercase name)
 
--- The modifier that a name is, in any case.
+-- The modifier that a name is, in letters of any case.
 abbrev pub modifier_named : List ℕ → Option Modifier
 modifier_named name = modifier_of (map to_ascii_uppercase name)

@@ -17,7 +17,7 @@ kinds_of_a_line = refl
 ending_at_a_bad_byte : (tokens_of (codes "x = 1")).ending ≡ Some BadByte
 ending_at_a_bad_byte = refl
 
--- Everything up to and with the line of `;redcode` is ignored.
+-- Everything up to and including the line of `;redcode` is ignored.
 places_after_a_header : map (λ t. t.lo) (tokens_of (codes "hello ?" ++ 10 ∷ codes ";Redcode-94" ++ 10 ∷ codes "  ;assert 1" ++ 10 ∷ [])).tokens ≡ 22 ∷ 30 ∷ 31 ∷ []
 places_after_a_header = refl
 

@@ -1,4 +1,4 @@
--- Classes of bytes, words in any case, and the value of decimal digits.
+-- Classes of bytes, words in letters of any case, and the value of decimal digits.
 use Rattle.std.specs.Prelude.{ℕ, Bool, ◌||◌, ◌==◌, ◌+◌, ◌*◌, ◌-◌, List, take, map, length, fold}
 use Rattle.std.specs.Char.{is_ascii_digit, is_ascii_alphabetic, to_ascii_lowercase}
 use Rattle.std.specs.Str.{byte, bytes_eq}
@@ -21,11 +21,11 @@ begins_name b = is_ascii_alphabetic b || b == byte "_"
 abbrev pub continues_name : ℕ → Bool
 continues_name b = begins_name b || is_ascii_digit b
 
--- Equality in any case.
+-- Equality in letters of any case.
 abbrev pub is_same_word : List ℕ → List ℕ → Bool
 is_same_word a b = bytes_eq (map to_ascii_lowercase a) (map to_ascii_lowercase b)
 
--- The text begins with the word, in any case.
+-- The text begins with the word, in letters of any case.
 abbrev pub begins_with_word : List ℕ → List ℕ → Bool
 begins_with_word word text = is_same_word (take (length word) text) word
 

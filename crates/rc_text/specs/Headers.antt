@@ -1,5 +1,5 @@
--- The header of a text, which is ignored: the lines up to and with the first that begins with
--- `;redcode`, in any case (pMARS). The word may be the beginning of a longer one.
+-- The header of a text, which is ignored: the lines up to and including the first that begins with
+-- `;redcode`, in letters of any case (pMARS). The word may be the beginning of a longer one.
 use Rattle.std.specs.Prelude.{ℕ, Bool, true, false, ◌&&◌, ◌||◌, ◌==◌, ◌+◌, List, [], ◌∷◌, Option, Some, None, if◌then◌else◌, codes, unwrap_or}
 use Rattle.rc_text.specs.declared.header.Extent.{Extent}
 use Rattle.rc_text.specs.Bytes.{LINE_FEED, begins_with_word}

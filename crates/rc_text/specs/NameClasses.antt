@@ -17,7 +17,7 @@ is_name (b ∷ rest) = begins_name b && list_all continues_name rest
 abbrev pub directives : List (List ℕ)
 directives = codes "ORG" ∷ codes "END" ∷ codes "EQU" ∷ codes "FOR" ∷ codes "ROF" ∷ []
 
--- A name that is one of the words, in any case.
+-- A name that is one of the words, in letters of any case.
 abbrev pub is_one_of : List (List ℕ) → List ℕ → Bool
 is_one_of words name = list_any (λ word. is_same_word word name) words
 
@@ -25,11 +25,11 @@ is_one_of words name = list_any (λ word. is_same_word word name) words
 abbrev pub is_lower_of : List (List ℕ) → List ℕ → Bool
 is_lower_of words name = list_any (λ word. bytes_eq (map to_ascii_lowercase word) name) words
 
--- An opcode, in any case.
+-- An opcode, in letters of any case.
 unfoldable pub is_opcode_word : List ℕ → Bool
 is_opcode_word name = is_some (opcode_named name)
 
--- An opcode or a directive, in any case.
+-- An opcode or a directive, in letters of any case.
 abbrev pub is_reserved : List ℕ → Bool
 is_reserved name = is_opcode_word name || is_one_of directives name
 

@@ -25,7 +25,7 @@ sign_lexeme None None = Fault BadByte
 abbrev pub number_lexeme : ℕ → ℕ → Lexeme
 number_lexeme len value = if nat_lt value (2 ^ 32) then TokenOf len (Number value) else Fault NumberTooLarge
 
--- `;assert` in any case, with a blank after it.
+-- `;assert` in letters of any case, with a blank after it.
 abbrev pub is_assert : List ℕ → Bool
 is_assert text = begins_with_word (codes ";assert") text && is_blank (slice_index text 7)
 

@@ -12,7 +12,7 @@ pub fn is_blank(byte: u8) -> bool
     byte == b' ' || byte == b'\t' || byte == b'\r'
 }
 
-/// Compares two words in any case of their ASCII letters.
+/// Compares two words, whose ASCII letters may be of any case.
 pub fn is_same_word(word: &[u8], name: &[u8]) -> bool
     ensures { result ≡ is_same_word word.now name.now }
 {
@@ -63,7 +63,7 @@ pub(crate) fn digits_len(text: &[u8]) -> usize
     text.iter().take_while(|byte| byte.is_ascii_digit()).count()
 }
 
-// Checks whether `text` begins with `word`, in any case.
+// Checks whether `text` begins with `word`, in letters of any case.
 pub(crate) fn begins_with_word(word: &[u8], text: &[u8]) -> bool
     ensures { result ≡ begins_with_word word.now text.now }
 {

@@ -14,7 +14,7 @@ pub enum NameClass {
     /// Not a name: anything but a letter or `_` and then letters, digits and `_`.
     NoName,
     /// An opcode (the 1994 draft's with CMP; SEQ, SNE and NOP of pMARS), or a directive: ORG, END,
-    /// EQU, FOR or ROF; in any case.
+    /// EQU, FOR or ROF; in letters of any case.
     Reserved,
     /// CORESIZE, MAXPROCESSES, MAXCYCLES, MAXLENGTH, MINDISTANCE, WARRIORS, VERSION or CURLINE
     /// (pMARS), in capitals.
@@ -23,7 +23,7 @@ pub enum NameClass {
     Free,
 }
 
-/// Checks whether a name is an opcode, in any case.
+/// Checks whether a name is an opcode, in letters of any case.
 #[tactic(auto, unfolding(crate::specs::NameClasses::is_opcode_word))]
 pub fn is_opcode_word(name: &[u8]) -> bool
     ensures { result ≡ is_opcode_word name.now }
@@ -31,7 +31,8 @@ pub fn is_opcode_word(name: &[u8]) -> bool
     opcode_named(name).is_some()
 }
 
-/// Checks whether a name is an opcode or a directive, in any case: whether its class is `Reserved`.
+/// Checks whether a name is an opcode or a directive, in letters of any case: whether its class is
+/// `Reserved`.
 /// Cheaper than `name_class`, which tells the other classes apart too.
 pub fn is_reserved_name(name: &[u8]) -> bool
     ensures { result ≡ (is_reserved name.now && is_name name.now) }

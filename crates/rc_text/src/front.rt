@@ -8,7 +8,7 @@ ghost use Rattle.rc_text.specs.Reading.{Stops, BeginsWithoutClose, is_prefix_kin
 use crate::operator::{is_prefix, level_of};
 use crate::token::{Kind, Sign, Token};
 
-// Splits off the first token.
+// Splits off the first token. `source` is for the contract alone: symbols are of a source.
 pub(crate) fn first_of<'a>(source: &[u8], tokens: &'a [Token]) -> Option<(&'a Token, &'a [Token])>
     ensures tokens { IfSome result (λ p. tokens.now ≡ p.0.now ∷ p.1.now) }
     ensures symbols { IfSome result (λ p.

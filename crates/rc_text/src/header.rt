@@ -1,4 +1,4 @@
-//! The header of a text, which is ignored: every line up to `;redcode`.
+//! The header of a text, which is ignored: every line up to and including that of `;redcode`.
 ghost use Rattle.std.specs.Prelude.{◌≡◌, ◌≤◌, ◌&&◌, ◌||◌, codes, length};
 ghost use Rattle.rc_text.specs.Bytes.{begins_with_word};
 ghost use Rattle.rc_text.specs.Headers.{header_of};
@@ -12,8 +12,8 @@ pub struct Extent {
     pub lines: u64,
 }
 
-// Measures the lines up to and with the first that begins with `;redcode`, in any case (pMARS).
-// Without such a line the header is empty.
+// Measures the lines up to and including the first that begins with `;redcode`, in letters of any
+// case (pMARS). Without such a line the header is empty.
 pub(crate) fn header_of(text: &[u8]) -> Extent
     ensures value { result ≡ header_of text.now }
     ensures within { result.bytes ≤ length text.now }

@@ -1,4 +1,4 @@
-//! Laws of the definitions.
+//! Laws of tokens, and of expressions and their values.
 ghost use Rattle.std.specs.Prelude.{◌≡◌, ◌↔◌, List, ℕ, ℤ, All, Ok, Err, length, true};
 ghost use Rattle.rc_text.specs.declared.fault.EvalFault.{EvalFault};
 ghost use Rattle.rc_text.specs.TokenTexts.{StandsIn};

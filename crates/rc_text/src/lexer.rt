@@ -12,8 +12,8 @@ use std::marker::Model;
 /// Yields the tokens of a text one by one.
 ///
 /// A token is the longest one from its first byte. Blanks and comments are skipped, and so is a
-/// header: every line up to and with the first that begins with `;redcode`, in any case (pMARS).
-/// Each line feed is a token; the end of the text is not.
+/// header: every line up to and including the first that begins with `;redcode`, in letters of any
+/// case (pMARS). Each line feed is a token; the end of the text is not.
 #[derive(Drop)]
 pub struct Lexer<'a> {
     source: &'a [u8],

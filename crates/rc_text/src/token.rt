@@ -69,7 +69,7 @@ pub enum Kind {
     Number(u32),
     /// A sign, the longest from its first byte.
     Sign(Sign),
-    /// `;assert`, in any case, if it comes first on its line and a blank follows.
+    /// `;assert`, in letters of any case, if it comes first on its line and a blank follows.
     Assert,
     /// A line feed.
     LineEnd,

@@ -50,7 +50,7 @@ is_dot_kind _ = false
 abbrev pub is_dot : Token → Bool
 is_dot t = is_dot_kind t.kind
 
--- Reserved: an opcode or a directive, in any case.
+-- Reserved: an opcode or a directive, in letters of any case.
 abbrev pub is_reserved_class : NameClass → Bool
 is_reserved_class Reserved = true
 is_reserved_class _ = false
@@ -79,7 +79,7 @@ into_first t (l ∷ ls) = (t ∷ l) ∷ ls
 abbrev pub into_label : Token → LabelSplit → LabelSplit
 into_label t l = record { labels = into_first t l.labels; after = l.after }
 
--- The directive that a name spells, in any case; any other name is code.
+-- The directive that a name spells, in letters of any case; any other name is code.
 unfoldable pub word_of_name : List ℕ → RawWord
 word_of_name name =
     if is_same_word (codes "ORG") name then word.Org else

@@ -51,7 +51,7 @@ fn is_reserved(name: &[u8]) -> bool
     is_reserved_name(name)
 }
 
-// Returns the directive that a name spells, in any case, or `Code`.
+// Returns the directive that a name spells, in letters of any case, or `Code`.
 #[tactic(auto, unfolding(crate::specs::Read::Lines::word_of_name))]
 fn word_of_name(name: &[u8]) -> RawWord
     ensures { result ≡ word_of_name name.now }
