@@ -86,7 +86,6 @@ impl<T: Drop> From<AllocFailed<T>> for AsmFault {
     }
 }
 
-// Gives a fault its line.
 pub(crate) fn at_line(line: u64, kind: AsmKind) -> AsmFault
     ensures { result ≡ at_line line kind }
 {

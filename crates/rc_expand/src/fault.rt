@@ -85,7 +85,6 @@ fn out_of_memory() -> ExpandFault
     at_line(0, ExpandKind::OutOfMemory)
 }
 
-// Gives a fault its line.
 pub(crate) fn at_line(line: u64, kind: ExpandKind) -> ExpandFault
     ensures { result ≡ record { line = line; kind = kind } }
 {

@@ -31,8 +31,7 @@ pub fn is_opcode_word(name: &[u8]) -> bool
     opcode_named(name).is_some()
 }
 
-/// Checks whether a name is an opcode or a directive, in letters of any case: whether its class is
-/// `Reserved`.
+/// Checks whether a name is an opcode or a directive, in letters of any case (class `Reserved`).
 /// Cheaper than `name_class`, which tells the other classes apart too.
 pub fn is_reserved_name(name: &[u8]) -> bool
     ensures { result ≡ (is_reserved name.now && is_name name.now) }

@@ -73,7 +73,6 @@ impl<'a> Records<'a> {
         }
     }
 
-    // Ends the records.
     fn end(&mut self)
         ensures { self.new ≡ [] }
     {

@@ -71,7 +71,6 @@ impl<T: Drop> From<AllocFailed<T>> for TemplateFault {
     }
 }
 
-// Gives a fault its line.
 pub(crate) fn at_line(line: u64, kind: TemplateKind) -> TemplateFault
     ensures { result ≡ at_line line kind }
 {
