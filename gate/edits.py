@@ -305,6 +305,9 @@ def crates_of(kit, names):
     unknown = set(names) - {kit_crate.name for kit_crate in every}
     if unknown:
         raise Fault(f"no crate is called {min(unknown)}", 2)
+    for harmless in sorted((ROOT / "gate/harmless").glob("*.edit")):
+        if not any((ROOT / "crates" / harmless.stem / "must-fail").glob("*.edit")):
+            raise Fault(f"{harmless}: its crate has no edits in must-fail/")
     crates = [Crate(kit, kit_crate) for kit_crate in every if not names or kit_crate.name in names]
     return [crate for crate in crates if crate.edits][::-1]
 

@@ -58,7 +58,8 @@ class Room:
     def __init__(self, name):
         self.folder = pathlib.Path(name)
         for part in ("gate", "author/lib"):
-            shutil.copytree(ROOT / part, self.folder / "tree" / part)
+            shutil.copytree(ROOT / part, self.folder / "tree" / part,
+                            ignore=shutil.ignore_patterns("harmless"))
         for path, text in FILES.items():
             self.write(path, text)
         # No round waits for memory here.
@@ -109,7 +110,8 @@ def kept(room):
 
 
 def malformed(room):
-    """Has edits that lack a line, or have one of no meaning, which are refused before a check."""
+    """Has edits that lack a line, or have one of no meaning, and a harmless one of a crate without
+    edits, which are refused before a check."""
     edit = "tree/crates/low/must-fail/malformed.edit"
     for text, fault in [
             ("function: low::first\nfile: src/lib.rt\nold:     1\n", "no line `new:`"),
@@ -120,6 +122,11 @@ def malformed(room):
         yield compare(fault, (1, [fault]), (status, [line.rpartition(".edit: ")[2]
                                                      for line in lines]))
     (room.folder / edit).unlink()
+    alone = room.folder / "tree/gate/harmless/gone.edit"
+    alone.touch()
+    yield compare("a harmless edit alone", (1, [
+        f"refused: {alone}: its crate has no edits in must-fail/"]), room.run("-m", "gate.edits"))
+    alone.unlink()
 
 
 def gates(room):
