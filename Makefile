@@ -4,7 +4,7 @@
 PROGRAM = crates/cwtune/out/cwtune
 PREFIX = /usr/local
 PYTHON = python3 -m
-# With it `cd` may lead elsewhere.
+# CDPATH may lead `cd` elsewhere.
 unexport CDPATH
 
 # Lists the targets, each with the first sentence of the comment above it.
@@ -89,6 +89,6 @@ deb: $(if $(BUILT),,build)
 install: $(if $(BUILT),,build)
 	@$(PYTHON) release.dist install "$(DESTDIR)$(PREFIX)" $(BEFORE)
 
-# Removes what `make install` put below PREFIX, and DESTDIR if it is given.
+# Removes what `make install` put below PREFIX, or below DESTDIR/PREFIX.
 uninstall:
 	@$(PYTHON) release.dist uninstall "$(DESTDIR)$(PREFIX)"

@@ -40,7 +40,7 @@ tune_start() {
 
 # Runs a command with its output in a file, and what it says of a fault in another one: run FILE
 # FAULT COMMAND.. Both are renamed into place; if the command has no result, FILE stays as it was.
-# That a part has no candidate is a result, and so is that a check rejects.
+# A part without a candidate is a result, and so is a rejection.
 run() {
     file=$1 fault=$2
     shift 2

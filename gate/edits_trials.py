@@ -130,7 +130,7 @@ def malformed(room):
 
 
 def gates(room):
-    """Runs the gate with one step after the proofs, which is lost in the checkout meanwhile. An
+    """Runs the gate with one step after the proofs, which is emptied in the checkout then. An
     `rt ci` that fails ends the edits."""
     words = ["-c", "import sys; from gate import gate; gate.STEPS = ['gate.late']; "
              "sys.exit(gate.main())", "--anew"]

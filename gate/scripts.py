@@ -16,8 +16,8 @@ CERTIFY = [sys.executable, EXAMPLES / "tuning/certify.py"]
 CERT = inputs.FILES["imps.cert"]
 OPPONENTS = ["dat.red", "imp.red"]
 WORDS = ["imps.red", "both.csv", "CERT", *OPPONENTS]
-# Templates whose settings make one warrior, of which one does not assemble, that make two warriors
-# in turn, and with a line like that of a header.
+# Templates of one warrior, with a setting that does not assemble, of two warriors in turn, and with
+# a second `;redcode` line.
 TEMPLATES = ["imps.red", "step.red", "half.red", "twice.red"]
 FILES = inputs.files("both.csv", *OPPONENTS, *TEMPLATES[:3]) | {
     "twice.red": ";redcode\n;@tune K 0 1 1 0\nMOV 0, 1+K-K\nDAT K\n;redcode again\nDAT 0, 2\n"}

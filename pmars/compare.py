@@ -169,8 +169,8 @@ def compare_texts(programs, dice, count, progress):
 
 def compare_adapted(programs):
     """Adapts the known texts and those of author/tests/redcode, but for those with P-space and
-    ROUNDS. Prints how many are compared, and returns how many pMARS lists otherwise than their
-    originals; 1 if there are none."""
+    ROUNDS. Prints how many are compared, and returns how many pMARS lists otherwise than the
+    originals; 1 if none was compared."""
     texts = {known.name: known.text.encode("latin-1") for known in TEXTS}
     texts |= {path.name: path.read_bytes() for path in sorted(ADAPTED.glob("*.red"))}
     compared = wrong = 0

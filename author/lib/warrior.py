@@ -101,8 +101,8 @@ def with_equs(lines, value_of, end):
 
 
 def lines_for_equs(text):
-    """Returns the numbers of the lines where an EQU line is read, and not in a block. Not after a
-    label on a line of its own, which pMARS takes for one more name of the EQU."""
+    """Returns the numbers of lines where an EQU may go: not in a block, nor after a label on a line
+    of its own, which pMARS takes for one more name of the EQU."""
     numbers, depth, waits = set(), 0, False
     for number, line in assembled_lines(text):
         if not depth and not waits:
@@ -116,8 +116,8 @@ def lines_for_equs(text):
 
 
 def uses_early(line, name):
-    """Returns whether a line uses a name in a count or an assertion, or in an EQU for one. For
-    these pMARS knows only the EQU lines above."""
+    """Returns whether a line uses a name in a count, an assertion or any EQU. For the first two
+    pMARS knows only the EQU lines above."""
     kept = kept_of(line)
     head = HEAD.match(kept)
     return ((kept.lstrip()[:1] == ";" or head and head[2].lower() in ("for", "equ"))

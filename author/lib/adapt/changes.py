@@ -262,8 +262,8 @@ class BlockFinder:
             self.curline.drops(text, itertools.takewhile(lambda word: word != "ROF", words))
 
     def rof(self, text, source, token):
-        """Looks at a ROF: labels before it go after it, and words after it into a comment. With
-        more than one copy they would be of the next copy, too, or a later line ends the block."""
+        """Looks at a ROF: labels before it go after it, and words after it into a comment. Refuses
+        labels before the ROF of several copies: the next copy would have them."""
         if source.root:
             return
         if text.blocks:

@@ -15,7 +15,7 @@ LONGEST_SUM = 200
 
 class CountedBlock(NamedTuple):
     """A block in no other: its count as written, how many copies, and instructions of each. In the
-    sum a count that may be negative is 0 then."""
+    sum a negative count adds 0."""
 
     count: Traced
     copies: int
@@ -41,7 +41,7 @@ class Curline:
         self.starts.append(text.address)
 
     def ends(self, text, block):
-        """Keeps a block once all copies are read, unless another one in it has a count, too."""
+        """Keeps a block once all copies are read, if it is in no other and holds none."""
         size, rest = divmod(text.address - self.starts.pop(), block.count)
         if not self.starts and not self.holds_block and not rest:
             self.keep(text, block.head, block.count, size)
@@ -58,7 +58,7 @@ class Curline:
         word = next(token for token in tokens_of(line.text) if token.text.upper() == "FOR")
         count = self.count_of(line, line.column + word.end)
         if size and self.may_change(text, count.text):
-            # What CURLINE leaves is not negative in a warrior that is not too long.
+            # A count less CURLINE is negative only in a warrior that is too long.
             negative = "CURLINE" not in line.text and self.may_be_negative(text, count.text)
             self.blocks.append(CountedBlock(count, copies, size, negative))
 

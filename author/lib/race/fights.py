@@ -141,7 +141,7 @@ class Processes:
 
 
 class NoRecords(list):
-    """Keeps nothing of what was played: that of a day would fill the memory."""
+    """Keeps no records, since those of a day would fill the memory."""
 
     def append(self, _):
         pass

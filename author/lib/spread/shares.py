@@ -117,8 +117,7 @@ class Shares(SpreadFolder):
                         f"{anew}", 2)
 
     def is_useless(self, mark):
-        """Returns whether the shares are of another certificate than that of this tuning, which
-        takes its place."""
+        """Returns whether the shares are of other inputs than this tuning's, which replace them."""
         return self.is_of_tuning and mark.of != self.inputs_fingerprint()
 
     def words(self, number):

@@ -170,7 +170,7 @@ def print_raced(report):
     print(f"race: {race['settings']} of {report['settings']} settings in {race['fights']} fights")
     if box:
         words = {True: "one of them is better", False: "none of them is better",
-                 None: "no fights were left to compare them with it"}
+                 None: "too few fights were left to decide"}
         print(f"box: {box['settings']} settings around the race's winner, "
               f"{words[box['replaces']]}")
     if report["gain"]:

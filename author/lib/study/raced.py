@@ -119,7 +119,7 @@ class RaceOfStudy:
 
     def challenge(self, race, box):
         """Has the first of the box play against the winner. Returns the best; the points of both in
-        other fights; and, if it is better and fights are left, its and START's in further ones."""
+        other fights; and, if it is better and fights are left, of it and START."""
         winner, box_of = tuple(race["winner"]), Template(self.folder.path / "box.red")
         first = [box_of.values_of_settings[setting] for setting in self.study.first_settings()]
         others = [values for values in first if values != winner]
@@ -141,8 +141,8 @@ class RaceOfStudy:
 
 
 def is_replaced(challenge, weights):
-    """Returns whether the best of the box took the place of the race's winner. None if fights to
-    compare them, or then to measure its gain, were not left."""
+    """Returns whether the best of the box took the place of the race's winner. None if too few
+    fights were left to compare them or to measure its gain."""
     if challenge["points"]:
         return True
     compared = challenge["compared"]

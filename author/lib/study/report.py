@@ -80,7 +80,7 @@ def tuned_items(report):
 OF_BOX = {
     True: "In other fights one of them was better than the race's winner, and took its place.",
     False: "In other fights none of them was better than the race's winner.",
-    None: "No fights were left to compare them with the race's winner."}
+    None: "Too few fights were left to decide whether one of them replaces it."}
 
 
 def raced_items(report):

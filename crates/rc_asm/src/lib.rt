@@ -1,7 +1,7 @@
 //! The assembler of Redcode: a text becomes a warrior, or its first fault is named with its line.
 //!
-//! `assembler` runs it. `labels` gives the labels their addresses; then `reading` evaluates line by
-//! line, by `instruction`, `operand` and `scope`. `forms` is asked only after a fault.
+//! `labels` finds the addresses; then `reading` evaluates each line with `instruction`, `operand`
+//! and `scope`. After a fault `forms` seeks a malformed line.
 #![tactic(auto)]
 
 mod assembler;

@@ -21,7 +21,7 @@ begins_name b = is_ascii_alphabetic b || b == byte "_"
 abbrev pub continues_name : ℕ → Bool
 continues_name b = begins_name b || is_ascii_digit b
 
--- Equality in letters of any case.
+-- Equality but for the case of letters.
 abbrev pub is_same_word : List ℕ → List ℕ → Bool
 is_same_word a b = bytes_eq (map to_ascii_lowercase a) (map to_ascii_lowercase b)
 

@@ -12,7 +12,7 @@ pub fn is_blank(byte: u8) -> bool
     byte == b' ' || byte == b'\t' || byte == b'\r'
 }
 
-/// Compares two words, whose ASCII letters may be of any case.
+/// Compares two words, ignoring the case of ASCII letters.
 pub fn is_same_word(word: &[u8], name: &[u8]) -> bool
     ensures { result ≡ is_same_word word.now name.now }
 {

@@ -81,7 +81,7 @@ pub(crate) fn has_other_text<F: Files>(
 }
 
 // Returns whether another word is a name of the file that was found, or a standard stream goes to
-// it. CERT is another word for CERT.inputs.
+// it. For CERT.inputs, CERT is one of the other words.
 fn is_other_file<'a, F: Files>(
     rt: &F,
     words: &'a TuneWords<'_>,

@@ -75,7 +75,7 @@ impl<R: Files> Replacement<R> {
         written
     }
 
-    // Makes the unfinished file, under another name if this one was taken meanwhile.
+    // Makes the unfinished file, under another name if `beside` is taken by now.
     fn create(&mut self) -> io::Result<R::File> {
         match create(&self.rt, self.beside.as_str(), self.mode) {
             Err(error) if error.kind() == io::ErrorKind::AlreadyExists => {
@@ -100,8 +100,8 @@ impl<R: Files> Replacement<R> {
         named
     }
 
-    // Renames the file, unless a text of another kind came to `name` meanwhile, as far as that can
-    // be told: memory may have run out.
+    // Renames the file, unless `name` is a text of another kind by now. If there is no memory for a
+    // look, renames it.
     fn name_file(&self, file: &R::File) -> io::Result<()> {
         file.sync_all()?;
         let name = self.name.as_str();

@@ -167,7 +167,7 @@ fn unknown_in<'a>(
     None
 }
 
-// Returns whether a name may be one that `&` joins: it begins as a word of a line with a joining one.
+// Returns whether `&` may make a name: it begins with a word of a line in which `&` joins.
 fn may_be_joined(alloc: Global, text: &[u8], name: &[u8]) -> bool {
     text.split(is_line_feed).any(|line| {
         let line = line_of(alloc, line);

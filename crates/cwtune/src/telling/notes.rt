@@ -105,8 +105,8 @@ pub(crate) fn tell_unused<V: Write>(err: &mut Outlet<V>, file: &str, template: &
     }
 }
 
-// Returns whether a name is a token of a text, also after END. Returns true if it may be joined, and
-// if a token is at fault: most such texts do not assemble, and a note would mislead.
+// Returns whether a name is a token of a text, also after END. Returns true if it may be joined, or
+// a token is at fault: most such texts do not assemble, and a note would mislead.
 fn is_token(text: &[u8], name: &[u8]) -> bool {
     if has_join(text) {
         return true;
