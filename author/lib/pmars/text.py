@@ -124,9 +124,9 @@ class Code(NamedTuple):
 
 
 class PmarsText:
-    """A text as pMARS reads it. `code` has its instructions, `blocks` the open blocks that are copied;
-    `dropping` counts the dropped ones. `at` is the index of the line that is read, and `reading`
-    counts readings of lines. Without `gives_up` any number of warnings is taken."""
+    """A text as pMARS reads it. `code` has its instructions, `blocks` the open blocks that are
+    copied; `dropping` counts the dropped ones. `at` is the index of the line that is read, and
+    `reading` counts readings of lines. Without `gives_up` any number of warnings is taken."""
 
     def __init__(self, lines, rules, constants, finder, gives_up=True):
         self.lines, self.rules, self.finder, self.gives_up = lines, rules, finder, gives_up
