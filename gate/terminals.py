@@ -73,6 +73,8 @@ def progress(place):
         yield f"no progress of {name} on a pipe", expected, place.run(words[:-1])
     actual = place.run(tune("two.red", "--part=2/2", "--progress"))
     yield "--progress of a part", end(0, ONE, "0% 0 of 1 settings, 0 fights\n", CERT=PART), actual
+    shown_first = place.run([*CHECK, "--share=1/2", "--progress"]).err[:22]
+    yield "--progress of a share", b"100% 1 of 1 settings, ", shown_first
     actual = place.run(tune("never.red"), terminal=True)
     cleared = actual.err.startswith(AT_TERMINAL.encode() + b"refused: NoCandidate\n")
     yield "the progress is cleared before a refusal", True, cleared or actual
