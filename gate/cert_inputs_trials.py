@@ -30,7 +30,7 @@ SAME = ("  all of these are the tuning's, so its --keep or --floor was another, 
         "itself is wrong\n")
 TAKEN = "error: CERT is also another file of this command, and is not overwritten: CERT\n"
 # A tuning of about a second.
-SLOW = {"slow.red": ";@tune K 1 1000 1 1\nJMP 0, <K\n",
+SLOW = {"slow.red": ";@tune K 1 800 1 1\nSPL 0, <K\nJMP -1\n",
         "slow.csv": "opponent,position,first\n0,4000,c\n"}
 TUNE_SLOWLY = ["tune", "--progress", "slow.red", "slow.csv", "CERT", "imp.red"]
 KIND = "error: CERT.inputs is a text of another kind, and is not overwritten: CERT.inputs\n"
