@@ -153,7 +153,7 @@ def meanwhile(place):
         yield compare(f"{name} comes meanwhile: CERT", status == 0, cert.startswith(b"cwcert,"))
     place.remove_inputs()
     for name in "CERT", "CERT.unfinished-1":
-        (place.folder / name).unlink()
+        (place.folder / name).unlink(missing_ok=True)
     with open(place.folder / "CERT", "wb") as file:
         yield compare("standard output is CERT", end(2, err=TAKEN), place.run(TUNE, stdout=file))
 
