@@ -160,7 +160,7 @@ fn tell_shown<V: Write>(err: &mut Outlet<V>, line: &[u8]) {
     }
 }
 
-// Returns whether nothing in a text steers a terminal. UTF-8 spells the controls U+0080 to U+009F as
+// Returns whether nothing in a text steers a terminal. UTF-8 spells U+0080 to U+009F, controls, as
 // C2 80 to C2 9F.
 fn can_be_shown(text: &[u8]) -> bool {
     let mut last: u8 = 0;
