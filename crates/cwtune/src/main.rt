@@ -53,9 +53,7 @@ fn run<R: Read, W: Write, V: Write>(
     }
     invite(rt, words, at_terminal);
     let shown = Outlet::new(rt.stderr());
-    let has_share = words
-        .iter()
-        .any(|word| word.as_str().starts_with("--share"));
+    let has_share = words.iter().any(is_share_option);
     let mut progress = Progress::new(rt.alloc(), rt, shown, style, explains, has_share);
     let host = Host {
         rt,
@@ -64,6 +62,10 @@ fn run<R: Read, W: Write, V: Write>(
         err,
     };
     program::watched_program(host, words, input, out)
+}
+
+fn is_share_option(word: &String) -> bool {
+    word.as_str().starts_with("--share")
 }
 
 // Says at a terminal that a fight text is read: else the program would seem to hang.

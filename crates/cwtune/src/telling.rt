@@ -10,7 +10,6 @@ pub(crate) mod line;
 pub(crate) mod names_in;
 pub(crate) mod notes;
 pub(crate) mod progress;
-pub(crate) mod range_line;
 pub(crate) mod refusal;
 
 use command_runs::{tell, tell_bytes};
@@ -120,6 +119,15 @@ pub(crate) fn is_gap(byte: &u8) -> bool {
     is_blank(*byte)
 }
 
+// Returns whether a piece between gaps is a word.
+pub(crate) fn is_word(piece: &&[u8]) -> bool {
+    !piece.is_empty()
+}
+
+fn is_return(byte: &u8) -> bool {
+    *byte == b'\r'
+}
+
 // Counts the records of a table.
 pub(crate) fn records_in(text: &[u8]) -> u64 {
     let mut count: u64 = 0;
@@ -132,7 +140,7 @@ pub(crate) fn records_in(text: &[u8]) -> u64 {
 // Counts the records of a line. A carriage return ends a record, too.
 fn records_of(line: &[u8]) -> u64 {
     let mut count: u64 = 0;
-    for record in line.split(|byte| *byte == b'\r') {
+    for record in line.split(is_return) {
         if !record.is_empty() {
             count = count.saturating_add(1);
         }

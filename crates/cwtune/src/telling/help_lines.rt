@@ -2,7 +2,7 @@
 
 use crate::telling::line::{Line, bad_byte, before_signs, line_of};
 use crate::telling::names_in::{Meaning, definition_of, like_name, range_of, unknown_name};
-use crate::telling::{tell_name, tell_number};
+use crate::telling::{is_gap, is_word, tell_name, tell_number};
 use command_runs::{tell, tell_bytes};
 use rc_asm::AsmKind;
 use rc_expand::ExpandKind;
@@ -58,15 +58,11 @@ fn help_of(kind: AsmKind, line: &Line<'_>) -> Option<&'static str> {
     }
 }
 
-const NO_P_SPACE: &str = "LDP and STP have no equivalent: there is no P-space";
-
-const NO_PIN: &str = "take the line out: without LDP and STP, PIN does nothing";
-
 fn p_space_help(line: &Line<'_>) -> Option<&'static str> {
     if line.has(b"ldp") || line.has(b"stp") {
-        Some(NO_P_SPACE)
+        Some("LDP and STP have no equivalent: there is no P-space")
     } else if line.has(b"pin") {
-        Some(NO_PIN)
+        Some("take the line out: without LDP and STP, PIN does nothing")
     } else {
         None
     }
@@ -120,10 +116,11 @@ fn help_of_value(fault: EvalFault, line: &Line<'_>) -> Option<&'static str> {
         EvalFault::Syntax if line.has_join() => {
             Some("join the counter of the outer block first, as in `x&i&j`")
         }
-        EvalFault::Syntax if line.has_bare_mode() => Some("a mode needs a number, as in `#0`"),
         _ => None,
     }
 }
+
+const ZERO: &[u8] = b"0";
 
 // Names that pMARS predefines, and this program does not.
 const PMARS_NAMES: [&[u8]; 4] = [b"ROUNDS", b"PSPACESIZE", b"READLIMIT", b"WRITELIMIT"];
@@ -133,6 +130,19 @@ fn is_counter(alloc: Global, text: &[u8], name: &[u8]) -> bool {
         Some(found) => found.meaning == Meaning::Counter,
         None => false,
     }
+}
+
+// Writes what helps with a malformed range line: words after START, or a STEP of 0.
+pub(crate) fn tell_bad_range<V: Write>(err: &mut Outlet<V>, line: &[u8]) {
+    let mut words = line.split(is_gap).filter(is_word).skip(4);
+    let has_no_step = words.next() == Some(ZERO);
+    let help = match words.skip(1).next() {
+        Some(word) if word.starts_with(b";") => "a comment has to be on a line of its own",
+        Some(_) => "take out what is after START",
+        None if has_no_step => "STEP must be at least 1",
+        None => return,
+    };
+    tell(err, &["  help: ", help, "\n"]);
 }
 
 // Writes the byte that begins no token, its column, and what to do about it.

@@ -1,8 +1,7 @@
 //! Why a text is refused, in words, and the limits that faults are about.
 
-use crate::telling::help_lines::tell_help;
+use crate::telling::help_lines::{tell_bad_range, tell_help};
 use crate::telling::line::line_of;
-use crate::telling::range_line::{tell_bad_range, tell_neighbours};
 use crate::telling::{
     is_line_feed, line_at, records_in, tell_broken_limit, tell_fault, tell_greatest, tell_number,
     tell_record, tell_source,
@@ -89,7 +88,10 @@ pub(crate) fn tell_template<V: Write>(
         }
         TemplateKind::StartOutside => {
             tell_fault(err, alloc, fault.kind);
-            tell_neighbours(err, line);
+            tell(
+                err,
+                &["  help: the values are LOW, LOW + STEP and so on, up to HIGH\n"],
+            );
         }
         TemplateKind::TooManyConstants => tell(
             err,

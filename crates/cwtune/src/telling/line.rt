@@ -34,10 +34,8 @@ fn code_of(line: &[u8]) -> &[u8] {
 }
 
 fn is_assertion(comment: &[u8]) -> bool {
-    match comment.split(is_between_words).next() {
-        Some(word) => is_same_word(word, b"assert"),
-        None => false,
-    }
+    let word = comment.split(is_between_words).next().unwrap_or(b"");
+    is_same_word(word, b"assert")
 }
 
 // Returns whether a byte cannot be in a word.
@@ -55,7 +53,16 @@ fn ends_labels(byte: &u8) -> bool {
 }
 
 fn before_dot(word: &[u8]) -> &[u8] {
-    word.split(|byte| *byte == b'.').next().unwrap_or(word)
+    word.split(is_dot).next().unwrap_or(word)
+}
+
+fn is_dot(byte: &u8) -> bool {
+    *byte == b'.'
+}
+
+// Returns whether a word is a name that the language does not reserve or predefine.
+pub(crate) fn is_free(word: &&[u8]) -> bool {
+    name_class(*word) == NameClass::Free
 }
 
 impl<'a> Line<'a> {
@@ -82,12 +89,7 @@ impl<'a> Line<'a> {
     // Returns whether a free name comes anywhere after the first `word`.
     pub(crate) fn has_name_after(&self, word: &[u8]) -> bool {
         match self.position(word) {
-            Some(index) => self
-                .words
-                .iter()
-                .skip(index)
-                .skip(1)
-                .any(|name| name_class(*name) == NameClass::Free),
+            Some(index) => self.words.iter().skip(index).skip(1).any(is_free),
             None => false,
         }
     }
@@ -95,31 +97,17 @@ impl<'a> Line<'a> {
     pub(crate) fn has_join(&self) -> bool {
         joins(self.code)
     }
-
-    // Returns whether a mode has no number after it: it is the last sign, or a comma follows.
-    pub(crate) fn has_bare_mode(&self) -> bool {
-        let mut last: u8 = b' ';
-        for byte in self.code {
-            if *byte == b',' && is_mode(last) {
-                return true;
-            }
-            if !is_blank(*byte) {
-                last = *byte;
-            }
-        }
-        is_mode(last)
-    }
 }
 
 // Returns whether a line of a text joins a counter to a name.
 pub(crate) fn has_join(text: &[u8]) -> bool {
-    text.split(is_line_feed).any(|line| joins(code_of(line)))
+    text.split(is_line_feed).any(joins)
 }
 
-// Returns whether a `&` joins a counter: one that is not half of `&&`.
-fn joins(code: &[u8]) -> bool {
+// Returns whether a `&` of a line joins a counter: one that is not half of `&&`.
+fn joins(line: &[u8]) -> bool {
     let mut is_single = false;
-    for byte in code {
+    for byte in code_of(line) {
         if *byte == b'&' {
             is_single = !is_single;
         } else if is_single {
@@ -127,10 +115,6 @@ fn joins(code: &[u8]) -> bool {
         }
     }
     is_single
-}
-
-fn is_mode(byte: u8) -> bool {
-    b"#$@*{}<>".contains(&byte)
 }
 
 // Returns the column, from 1, of the byte of a line that begins no token, and that byte.

@@ -1,9 +1,9 @@
 //! The names of a text: where one is defined, and which one of a line has no value. Header, END and
 //! dropped blocks are not heeded, so an explanation may be missing, or show another line.
 
-use crate::telling::line::{Line, line_of};
-use crate::telling::{is_gap, is_line_feed};
-use rc_text::{NameClass, is_reserved_name, is_same_word, name_class};
+use crate::telling::line::{Line, is_free, line_of};
+use crate::telling::{is_gap, is_line_feed, is_word};
+use rc_text::{is_reserved_name, is_same_word};
 use std::alloc::Global;
 use tune_template::is_range_line;
 
@@ -58,7 +58,7 @@ fn constant_in(line: &[u8]) -> Option<&[u8]> {
         return None;
     }
     let rest = line.strip_prefix(b";@tune")?;
-    rest.split(is_gap).find(|word| !word.is_empty())
+    rest.split(is_gap).find(is_word)
 }
 
 // Returns a name of the text that differs from a name in capital and small letters alone.
@@ -151,7 +151,7 @@ fn unknown_in<'a>(
         return None;
     }
     for word in line.words.iter().skip(operands_from(&line)) {
-        if name_class(*word) == NameClass::Free && !may_be_joined(alloc, text, *word) {
+        if is_free(word) && !may_be_joined(alloc, text, *word) {
             match definition_of(alloc, text, *word) {
                 None => return Some(*word),
                 Some(found) => match found.meaning {
@@ -169,10 +169,23 @@ fn unknown_in<'a>(
 
 // Returns whether `&` may make a name: it begins with a word of a line in which `&` joins.
 fn may_be_joined(alloc: Global, text: &[u8], name: &[u8]) -> bool {
-    text.split(is_line_feed).any(|line| {
+    for line in text.split(is_line_feed) {
         let line = line_of(alloc, line);
-        line.has_join() && line.words.iter().any(|word| name.starts_with(*word))
-    })
+        if line.has_join() && has_front(&line, name) {
+            return true;
+        }
+    }
+    false
+}
+
+// Returns whether a name begins with a word of a line.
+fn has_front(line: &Line<'_>, name: &[u8]) -> bool {
+    for word in line.words.as_slice() {
+        if name.starts_with(*word) {
+            return true;
+        }
+    }
+    false
 }
 
 // Returns the index of the first word after the opcode or the directive.

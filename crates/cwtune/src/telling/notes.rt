@@ -1,7 +1,7 @@
 //! Warnings: what has no effect in a template or a schedule.
 
 use crate::telling::line::has_join;
-use crate::telling::{is_gap, is_line_feed, is_semicolon, tell_line, tell_number};
+use crate::telling::{is_gap, is_line_feed, is_semicolon, is_word, tell_line, tell_number};
 use command_runs::{tell, tell_bytes};
 use mars_fight::Fight;
 use rc_asm::limits::MOST_BYTES;
@@ -32,12 +32,22 @@ pub(crate) fn tell_template_notes<V: Write>(
 pub(crate) fn tell_idle<V: Write>(err: &mut Outlet<V>, opponents: &[String], fights: &[Fight]) {
     let mut index: u32 = 0;
     for name in opponents {
-        if !fights.iter().any(|fight| fight.opponent == index) {
+        if !is_named(fights, index) {
             tell_number(err, "  no fight names opponent ", u64::from(index), ", ");
             tell(err, &[name.as_str(), "\n"]);
         }
         index = index.saturating_add(1);
     }
+}
+
+// Returns whether a fight names an opponent.
+fn is_named(fights: &[Fight], opponent: u32) -> bool {
+    for fight in fights {
+        if fight.opponent == opponent {
+            return true;
+        }
+    }
+    false
 }
 
 // Writes the lines of a template that look like range lines and are not. Looks into no text that is
@@ -67,25 +77,13 @@ fn why_lost(line: &[u8]) -> &'static str {
 // Returns whether a line that is not a range line has a comment whose first word is `@tune`, in
 // capital or small letters.
 fn has_lost_range(line: &[u8]) -> bool {
-    if is_range_line(line) {
-        return false;
-    }
-    for comment in line.split(is_semicolon).skip(1) {
-        if begins_as_range(comment) {
-            return true;
-        }
-    }
-    false
+    !is_range_line(line) && line.split(is_semicolon).skip(1).any(begins_as_range)
 }
 
 // Returns whether the first word of a comment is `@tune`, in any letters.
 fn begins_as_range(comment: &[u8]) -> bool {
-    for word in comment.split(is_gap) {
-        if !word.is_empty() {
-            return is_same_word(word, b"@tune");
-        }
-    }
-    false
+    let word = comment.split(is_gap).find(is_word).unwrap_or(b"");
+    is_same_word(word, b"@tune")
 }
 
 // Writes which constants of a template no line uses, or that it has no range line.
