@@ -147,10 +147,7 @@ def lost_stream():
 def say(word, message, status):
     """Writes a line on standard error, whatever bytes a name in it has. Returns the status, which
     alone reports the fault if the line cannot be written."""
-    try:
-        print(f"{word}: {escaped(message)}", file=sys.stderr, flush=True)
-    except OSError:
-        sys.stderr = open(os.devnull, "w")
+    tell(f"{word}: {message}")
     return status
 
 
@@ -160,8 +157,11 @@ def note(text):
 
 
 def tell(line):
-    """Writes a line on standard error, escaped."""
-    print(escaped(line), file=sys.stderr, flush=True)
+    """Writes a line on standard error, escaped. It is lost if the terminal is closed."""
+    try:
+        print(escaped(line), file=sys.stderr, flush=True)
+    except OSError:
+        sys.stderr = open(os.devnull, "w")
 
 
 def status_of(returncode):

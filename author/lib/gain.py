@@ -66,8 +66,9 @@ def gain_of(points, weights):
 def gain_numbers(difference):
     """Returns a gain in percentage points, its error, and in words, by two standard errors."""
     percent, error = difference.mean(), difference.error()
-    words = ("no difference that these fights show" if abs(percent) <= 2 * error
-             else GAIN if percent > 0 else LOSS)
+    # A single fight has no error that could be known.
+    is_shown = abs(percent) > 2 * error and min(map(len, difference.by_opponent)) > 1
+    words = (GAIN if percent > 0 else LOSS) if is_shown else "no difference that these fights show"
     return {"percent": percent, "error": error, "words": words}
 
 

@@ -201,7 +201,7 @@ class OwnFolder:
 
     def refuse_other_inputs(self, recorded, inputs, complaint):
         """Refuses, with `complaint`, a folder that recorded other inputs than these."""
-        others = [f"{kind} was {recorded.get(kind)}" if kind.startswith("--") else kind
+        others = [kind + f" was {recorded.get(kind) or 'not given'}" * kind.startswith("--")
                   for kind, value in inputs.items() if recorded.get(kind) != value]
         if others:
             raise Fault(f"{complaint} ({', '.join(others)}): give --anew to throw {self.THROWN} "

@@ -14,7 +14,7 @@ best so far. With --fights and a seed the result is the same on every machine.
 
 Example: cwtune-seek --minutes 10 my.red fights.csv dwarf.red scanner.red > better.red
 """
-import math, pathlib, sys
+import math, pathlib, signal, sys
 
 from .adapt import adapted_for, adapted_opponents, read_text
 from .endings import Fault, note, tell
@@ -105,6 +105,7 @@ def seek(args, grid, opponents, weights):
         except KeyboardInterrupt:
             if not race.start.blocks:
                 raise
+            signal.signal(signal.SIGHUP, signal.SIG_IGN)  # bash sends two if a terminal is closed
             tell(f"stopped: the best so far is {grid.constants_of(race.leader())}; its gain was "
                  "not measured")
             return race.leader(), None

@@ -248,8 +248,8 @@ class Certificate(AnyCertificate):
                         f"{self.total}")
 
     def fights(self, schedule):
-        """Returns the fights of `schedule`, or without it as many as the best setting played. Of
-        these only the weight, 1, is right."""
+        """Returns the fights of `schedule`. Without it they are as many as the best setting played,
+        and nothing of them but the weight, 1, is right."""
         if schedule:
             fights = read_schedule(schedule)
         elif self.version == 2:

@@ -66,9 +66,9 @@ def open_new(folder, name, mode):
 
 
 def remove_left(folder, pattern):
-    """Removes what killed runs of this user have left in a folder, by a pattern of names whose last
-    group is the process id of the maker. What a living process makes stays; a maker on another host
-    holds a lock. Without /proc only the locks protect."""
+    """Removes what killed runs of this user have left in a folder. The last group of `pattern` is
+    the process id of the maker. If that lives, or if anybody has locked it, as on another host, it
+    stays; without /proc only the locks protect."""
     with contextlib.suppress(OSError):
         for name in os.listdir(folder):
             match = re.fullmatch(pattern, name)
@@ -111,8 +111,8 @@ def temporary_file(name, text):
 @contextlib.contextmanager
 def temporary_folder():
     """Makes a folder for the block, and removes those of runs that were killed."""
-    remove_left(tempfile.gettempdir(), r"cwtune-(\d+)-\w+")
-    with tempfile.TemporaryDirectory(prefix=f"cwtune-{os.getpid()}-") as folder:
+    remove_left(tempfile.gettempdir(), r"cwtune-pid-(\d+)-\w+")
+    with tempfile.TemporaryDirectory(prefix=f"cwtune-pid-{os.getpid()}-") as folder:
         lock = os.open(folder, os.O_RDONLY)
         try:
             fcntl.flock(lock, fcntl.LOCK_EX | fcntl.LOCK_NB)

@@ -3,6 +3,7 @@ import argparse, json, os, random, signal, subprocess, threading, time
 from unittest import mock
 
 from author.lib import grid, race
+from author.lib.program import HILLS, Rules
 from author.lib.race import fights as race_fights
 from author.lib.race.hosts import SCRIPT
 
@@ -62,8 +63,9 @@ class MadeUpProcesses:
 class MadeUpArena(race_fights.Arena):
     """An arena whose fights are made up."""
 
-    def __init__(self, values, fights, records=()):
-        args = argparse.Namespace(seed=1, jobs=1, hosts=None, hill="nano", program="")
+    def __init__(self, values, fights, records=(), rules=Rules()):
+        args = argparse.Namespace(seed=1, jobs=1, hosts=None, hill=None, program="",
+                                  **rules._asdict())
         super().__init__(args, race_fights.Budget(fights), values, ["a", "b"], [1, 1],
                          list(records), ".")
         self.processes = MadeUpProcesses()
@@ -89,10 +91,8 @@ class Racing(Trial):
         return self.call(f"cwtune-seek {files}", *words, **options)
 
     def raced(self, records=()):
-        self.write("hidden.red", HIDDEN)
-        values = grid.Grid(self.folder / "hidden.red")
-        arena = MadeUpArena(values, 20000, records)
-        return arena, race.Race(values, arena, 1).run()
+        racing = self.racing(HIDDEN, 20000, records=records)
+        return racing.arena, racing.run()
 
     def test_rounds(self):
         arena, outcome = self.raced()
@@ -125,15 +125,57 @@ class Racing(Trial):
         self.same("records of another race", "what was played before is not of this race: give "
                   "--anew to begin again", came_of(self.raced, wrong))
 
+    def racing(self, template, fights, processes=None, **options):
+        """Returns a race in a template, with an arena of made-up fights."""
+        self.write("made-up.red", template)
+        arena = MadeUpArena(grid.Grid(self.folder / "made-up.red"), fights, **options)
+        arena.processes = processes or arena.processes
+        return race.Race(arena.grid, arena, 1)
+
+    def test_few_fights(self):
+        """Races longer than a core of 80 has different fights: 142 against an opponent."""
+        racing = self.racing(HIDDEN, 20000, rules=HILLS["nano"])
+        outcome = racing.run()
+        calls = racing.arena.processes.calls[-len(outcome.points[0][0]) // 16:]
+        gain = [block for _, blocks in calls for block in blocks]
+        self.same("no fight of the gain comes twice", (128, 128), (len(gain), len(set(gain))))
+
+    def test_forgets(self):
+        """Races with room for 60 settings of 210."""
+        racing = self.racing(HIDDEN, 20000)
+        with mock.patch.object(race, "MOST_KEPT", 60):
+            outcome = racing.run()
+        self.same("the best setting wins, and START stays", ((3, 4), True), (
+            outcome.winner, (0, 0) in racing.contenders))
+        self.same("most others are forgotten", (True, True), (
+            len(racing.contenders) <= 60 + race.NEW_SETTINGS,
+            racing.count() > 2 * len(racing.contenders)))
+
+    def test_slow_settings(self):
+        """Races by the clock, where START takes a fifth of the time of others."""
+        now = [0.0]
+
+        class SlowProcesses(MadeUpProcesses):
+            def play(self, settings, blocks, tell_progress):
+                now[0] += len(blocks) * sum(0.001 if tuple(values) == (2, 2) else 0.005
+                                            for values in settings)
+                return super().play(settings, blocks, tell_progress)
+
+        with mock.patch.object(race_fights, "clock", lambda: now[0]):
+            racing = self.racing(LARGE, None, SlowProcesses())
+            racing.arena.budget = race_fights.Budget(None, 10)
+            racing.run()
+        self.same("who entered has played", True,
+                  all(one.blocks for one in racing.contenders.values()))
+
     def test_slow_play(self):
         """Races by the clock, and has one play take long near the end of the rounds."""
-        self.write("hidden.red", LARGE)
         now, slow = [0.0], []
 
         class SlowProcesses(MadeUpProcesses):
             def play(self, settings, blocks, tell_progress):
                 now[0] += 0.005 * len(settings) * len(blocks)
-                if arena.used() > 0.62 and not slow:
+                if racing.arena.used() > 0.62 and not slow:
                     slow.append(now[0])
                     now[0] += 3
                 if len(self.calls) > 9999 or now[0] > 99:
@@ -141,9 +183,8 @@ class Racing(Trial):
                 return super().play(settings, blocks, tell_progress)
 
         with mock.patch.object(race_fights, "clock", lambda: now[0]):
-            arena = MadeUpArena(grid.Grid(self.folder / "hidden.red"), None)
-            arena.processes, arena.budget = SlowProcesses(), race_fights.Budget(None, 60)
-            racing = race.Race(arena.grid, arena, 1)
+            racing = self.racing(LARGE, None, SlowProcesses())
+            racing.arena.budget = race_fights.Budget(None, 60)
             with mock.patch.object(racing, "improve", ended(racing.improve)):
                 racing.run()
         self.same("the race ends in time", (True, True), (bool(slow), 55 < now[0] <= 60))
@@ -226,10 +267,20 @@ class Racing(Trial):
             self.same(f"signal {signal_number} before START was played",
                       (-signal.SIGINT, b"", b""), self.stopped("--program=./slow", signal_number))
         self.write_program("noted", f'touch begun\nexec {self.program} "$@"')
-        status, out, err = self.stopped("--program=./noted --minutes=5 --fights=1000000000",
-                                        signal.SIGINT, b"a race of")
+        words = "--program=./noted --minutes=5 --fights=1000000000"
+        status, out, err = self.stopped(words, signal.SIGINT, b"a race of")
         self.same("Ctrl-C prints the best so far", (0, True, True), (
             status, out.startswith(b";@tune STEP "), b"\nstopped: the best so far is STEP=" in err))
+        screen, terminal = os.openpty()
+        with self.started(f"cwtune-seek {words} {RACED}", stdout=subprocess.PIPE,
+                          stderr=terminal) as job:
+            os.close(terminal)
+            wait_until(lambda: b"a race of" in os.read(screen, 999), job)
+            os.close(screen)
+            job.send_signal(signal.SIGHUP)
+            out, _ = job.communicate(timeout=SECONDS)
+        self.same("and so does a terminal that is closed", (0, True), (
+            job.returncode, out.startswith(b";@tune STEP ")))
 
     def stopped(self, words, signal_number, line=b""):
         """Sends `cwtune-seek` a signal, once it has begun and printed `line`. Returns its end."""

@@ -134,7 +134,7 @@ class SshHosts:
         path.write_text(config("sshd_config", port=port, folder=self.folder))
         self.jobs[name] = subprocess.Popen([SSHD, "-D", "-e", "-f", path], cwd="/",
                                            stderr=subprocess.DEVNULL)
-        for _ in range(500):
+        for _ in range(6000):
             with contextlib.suppress(ConnectionRefusedError):
                 socket.create_connection(("127.0.0.1", port)).close()
                 return port

@@ -353,13 +353,14 @@ echo $$ >> {self.folder}/pids; exec sleep 99""")
         self.same("what a killed run has left of a picture is removed", sorted([
             *kept, "x.svg", f"x.svg.{NO_PROCESS + 1}.new"]),
             sorted(name for name in os.listdir(self.folder) if "svg" in name))
-        kept = [f"cwtune-{os.getpid()}-abc", "cwtune-x"]
-        for name in [*kept, f"cwtune-{NO_PROCESS}-abc"]:
+        kept = [f"cwtune-pid-{os.getpid()}-abc", f"cwtune-{NO_PROCESS}-nop", "cwtune-x"]
+        for name in [*kept, f"cwtune-pid-{NO_PROCESS}-abc"]:
             self.write(f"tmp/{name}/t.red", "DAT 0\n")
         temporary = self.folder / "tmp"
-        os.symlink(self.folder, temporary / f"cwtune-{NO_PROCESS}-link")
+        kept.append(f"cwtune-pid-{NO_PROCESS}-link")
+        os.symlink(self.folder, temporary / kept[-1])
         with mock.patch.dict(os.environ, {"TMPDIR": str(temporary)}):
             status = self.call("cwtune-vary -- -w.red K=0:1").status
-        self.same("and of temporary folders", (0, sorted([*kept, f"cwtune-{NO_PROCESS}-link"])), (
+        self.same("and of temporary folders", (0, sorted(kept)), (
             status, sorted(os.listdir(temporary))))
         self.same("what a link leads to stays", True, (self.folder / "t.red").exists())

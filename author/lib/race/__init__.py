@@ -37,6 +37,8 @@ FAR, NEAR = 0.15, 0.005
 FINALISTS = 16, 6, 2
 # How many settings, or blocks, play before the budget is looked at again.
 SETTINGS_AT_ONCE, BLOCKS_AT_ONCE = 48, 16
+# The most settings that are kept in memory. If there are more, the older half is forgotten.
+MOST_KEPT = 400_000
 
 
 class Contender:
@@ -54,7 +56,7 @@ class Contender:
             self.assembles = False
         else:
             self.blocks += len(rates)
-            self.sum_of_rates += sum(rates)
+            self.sum_of_rates += math.fsum(rates)
 
     def rate(self):
         return self.sum_of_rates / self.blocks if self.blocks else 0.0
@@ -88,11 +90,14 @@ class Race:
         self.start = Contender(grid.start_values)
         self.contenders = {grid.start_values: self.start}
         self.budget_part, self.survivors, self.model = budget_part, [], None
+        # How many settings were forgotten, and with how many the next model is fitted.
+        self.forgotten, self.fit_at = 0, 0
 
     def run(self):
         self.start.add(self.arena.rates([self.start], self.arena.timed_blocks())[0])
         self.start.guess = self.start.rate()
-        self.arena.tell_estimate(f"a race of {self.grid.count()} settings")
+        if self.start.assembles:
+            self.arena.tell_estimate(f"a race of {self.grid.count()} settings")
         self.explore()
         for number in itertools.count(1):
             if not self.improve(number):
@@ -107,7 +112,11 @@ class Race:
 
     def tell(self, news):
         """Has the lines of progress say what is played from now on."""
-        self.arena.news = f"{news}, {len(self.contenders)} settings"
+        self.arena.news = f"{news}, {self.count()} settings"
+
+    def count(self):
+        """Returns how many settings have entered."""
+        return self.forgotten + len(self.contenders)
 
     def leader(self):
         """Returns the values of the best setting, by what is known so far."""
@@ -141,25 +150,45 @@ class Race:
         return self.arena.plays_until(limit * self.budget_part)
 
     def explore(self):
-        count = int(self.plays_until(EXPLORED) / plays_of_exploring())
+        count = int(min(MOST_KEPT, self.plays_until(EXPLORED) / plays_of_exploring()))
         new = self.enter(spread_evenly(self.grid.ranges, count, self.dice))
         self.tell("exploring")
         played = self.play(new, FIRST_HEAT, EXPLORED)
-        mean = sum(map(Contender.rate, played)) / max(1, len(played))
+        for one in new:
+            if one.assembles and not one.blocks:  # there was no time left for it
+                del self.contenders[one.values]
+        mean = math.fsum(map(Contender.rate, played)) / max(1, len(played))
         for contender in played:
             contender.guess = mean
         self.race(played, EXPLORED)
 
     def improve(self, number):
         """Runs a round. Returns whether the budget had room for it, and a new setting was found."""
-        seen = [contender for contender in self.contenders.values() if contender.blocks]
-        if not seen or not self.arena.has_room(NEW_SETTINGS * FIRST_HEAT, RACED * self.budget_part):
+        has_room = self.arena.has_room(NEW_SETTINGS * FIRST_HEAT, RACED * self.budget_part)
+        if not self.survivors or not has_room:
             return False
-        self.model = Model(self.grid.ranges, seen)
+        if len(self.contenders) > MOST_KEPT:
+            self.forget()
+        self.fit()
         new = self.enter(self.choices())
         self.tell(f"round {number}")
         self.race(self.play(new, FIRST_HEAT, RACED), RACED)
         return bool(new)
+
+    def forget(self):
+        """Forgets the older half of the settings, but START and the survivors. They may come
+        again."""
+        newer = itertools.islice(self.contenders.values(), len(self.contenders) // 2, None)
+        kept = {one.values: one for one in [self.start, *self.survivors, *newer]}
+        self.forgotten += len(self.contenders) - len(kept)
+        self.contenders, self.fit_at = kept, 0
+
+    def fit(self):
+        """Fits the model anew: in each round up to some 7000 settings, and then if there are 5
+        percent more, since a fit takes longer than a round."""
+        if len(self.contenders) >= self.fit_at:
+            self.model = Model(self.grid.ranges, self.contenders.values())
+            self.fit_at = 1.05 * len(self.contenders) - 300
 
     def race(self, new, limit):
         """Races the new ones of a round against the survivors of the last. Sets the survivors."""
@@ -214,16 +243,18 @@ class Race:
             out = [player for player in players[count:] if player.values != kept] + out
             players = [player for player in players if player not in out]
             plays = self.plays_until(limit) / (len(counts) - heat)
-            for to_come in range(int(plays / len(players)), 0, -BLOCKS_AT_ONCE):
+            most = min(int(plays / len(players)), self.arena.different_blocks())
+            for to_come in range(most, 0, -BLOCKS_AT_ONCE):
                 self.play(players, to_come, limit)
             players.sort(key=Contender.rate, reverse=True)
         return players + out
 
     def measure(self, first, second, limit):
-        """Plays two settings in fresh blocks, in the part `limit` of the race's budget. Returns
-        for each a text per opponent, with a digit for each block."""
+        """Plays two settings in fresh blocks, in the part `limit` of the race's budget, and in none
+        twice. Returns for each a text per opponent, with a digit for each block."""
         pair, points = [Contender(first), Contender(second)], ([], [])
-        while self.arena.has_room(2 * BLOCKS_AT_ONCE, limit * self.budget_part):
+        while (len(points[0]) + BLOCKS_AT_ONCE <= self.arena.different_blocks()
+               and self.arena.has_room(2 * BLOCKS_AT_ONCE, limit * self.budget_part)):
             blocks = self.arena.new_blocks(BLOCKS_AT_ONCE)
             self.arena.hosts.play_ahead(pair, blocks, math.inf, limit * self.budget_part)
             for player_points, of_blocks in zip(points, self.arena.play(pair, blocks)):

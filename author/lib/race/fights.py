@@ -4,8 +4,7 @@ Each process plays one setting, as the only one of a template, in some blocks; -
 side by side. What was played is a list of records, which a study keeps in a file. A race that is
 begun again with these takes the points from them, up to where it was stopped.
 """
-import concurrent.futures, itertools, operator, os, pathlib, random, resource, shutil, subprocess
-import time
+import concurrent.futures, itertools, operator, os, pathlib, random, shutil, subprocess, time
 from typing import NamedTuple
 
 from ..endings import Fault, fault_of, tell
@@ -29,8 +28,7 @@ WITH_PARENT = ["setpriv", "--pdeathsig", "KILL", "--"] if shutil.which("setpriv"
 
 def processor_seconds():
     """Returns the processor seconds of this process and of the children that ended."""
-    return sum(sum(resource.getrusage(who)[:2])
-               for who in (resource.RUSAGE_SELF, resource.RUSAGE_CHILDREN))
+    return sum(os.times()[:4])
 
 
 def clock():
@@ -200,6 +198,10 @@ class Arena:
         blocks = self.blocks_to_come(count)
         self.block_count += count
         return blocks
+
+    def different_blocks(self):
+        """Returns how many blocks there are before the first comes again."""
+        return 2 * len(self.positions[0].positions)
 
     def blocks_to_come(self, count):
         numbers = range(self.block_count, self.block_count + count)

@@ -105,10 +105,11 @@ class Hosts:
 
     def play_ahead(self, contenders, blocks, count, limit):
         """Has hosts play `blocks` and more, `count` in all within `limit`, if that is slow here."""
-        arena, settings = self.arena, [contender.values for contender in contenders]
+        arena = self.arena
         if (not (arena.args.hosts and arena.processes.plays) or arena.is_recorded()
-                or (settings[0], blocks[0]) in self.points):
+                or (contenders[0].values, blocks[0]) in self.points):
             return
+        settings = [contender.values for contender in contenders]
         at_once = min(len(settings), SETTINGS_AT_ONCE) * len(blocks)
         plays = self.plays_ahead(len(settings) * count, at_once, limit)
         if plays:

@@ -45,7 +45,7 @@ class Journal(list):
             raise self.fault(fault) from None
 
     def append(self, record):
-        """Writes a record. It is not kept in memory, since nothing reads it again."""
+        """Writes a record. Unlike those of an earlier run it is not kept in memory."""
         with naming(self.shown):
             self.file.write(json.dumps(record, separators=(",", ":")).encode() + b"\n")
             self.file.flush()

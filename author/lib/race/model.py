@@ -65,7 +65,7 @@ class Model:
         known = [contender for contender in contenders if contender.blocks]
         weights = [contender.blocks / (contender.blocks + PRIOR_BLOCKS) for contender in known]
         rates = [contender.rate() for contender in known]
-        self.mean = sum(map(math.prod, zip(weights, rates))) / sum(weights)
+        self.mean = math.fsum(map(math.prod, zip(weights, rates))) / math.fsum(weights)
         self.constants = [Constant(values) for values in ranges]
         left = [rate - self.mean for rate in rates]
         columns = list(zip(*(contender.values for contender in known)))
@@ -75,5 +75,5 @@ class Model:
             left = [rest - constant.part(value) for rest, value in zip(left, column)]
 
     def guess(self, values):
-        return self.mean + sum(constant.part(value)
-                               for constant, value in zip(self.constants, values))
+        return self.mean + math.fsum(constant.part(value)
+                                     for constant, value in zip(self.constants, values))

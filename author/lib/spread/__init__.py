@@ -125,7 +125,7 @@ def check(args, setting_count, notes, cert):
 
 @contextlib.contextmanager
 def explaining_stop(folder, progress):
-    """Says after Ctrl-C what is done, unless the interrupt has a word: an inner block said it."""
+    """Says after Ctrl-C what is done. The interrupt then has a word: outer blocks say nothing."""
     try:
         yield
     except KeyboardInterrupt as stop:

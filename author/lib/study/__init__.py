@@ -188,7 +188,7 @@ def print_end(folder, report):
     if report["winner"]["values"] == report["start"]["values"]:
         print("the winner is START: nothing better was found")
     elif gain is None:
-        print("keep START: no fights were left to measure the gain: give more --fights or "
+        print("keep START: no fights were left to measure the gain; give more --fights or "
               "--minutes")
     else:
         print(f"over START: {gain_text(gain)}")

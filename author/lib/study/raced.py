@@ -67,7 +67,7 @@ class RaceOfStudy:
         with self.arena("race.jsonl") as arena:
             race = Race(self.grid, arena, self.args.seed, budget_part)
             outcome = race.run()
-            settings, opponents = len(race.contenders), len(arena.opponents)
+            settings, opponents = race.count(), len(arena.opponents)
             self.folder.log_note(f"a race of {settings} settings, {arena.fights} fights",
                                  arena.seconds)
             return {"winner": outcome.winner, "rise": outcome.rise, "points": outcome.points,
