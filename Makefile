@@ -17,9 +17,9 @@ help:
 look:
 	@sh examples/look.sh
 
-# Runs the whole gate. On a copy of the tree that is every proof, every test, every edit that must
-# be refused, and all that tries the program, with one last line `N passed, N failed`. Installs
-# nothing: trials whose tools are not installed are left out, and named before the last line.
+# Runs the whole gate on a copy of the tree: all proofs, tests, edits that must be refused, and
+# trials of the program. The last line is `N passed, N failed`. Installs nothing: trials whose tools
+# are not installed are left out, and named before the last line.
 test:
 	@$(PYTHON) gate.gate
 

@@ -14,7 +14,7 @@ from author.lib.program import output_of, program_of
 
 from .pairs import FOLDERS, HERE, Pair, loads_of, pair_of, pairs_parser, play_in_turn
 from .plain_machine import LINE, classes
-from .runs import mean_and_least, run
+from .runs import mean_and_least, run, stay_on_one_processor
 
 FLAGS = ["-std=c++17", "-O2", "-march=x86-64-v2", "-fno-pie", "-static", "-fno-strict-aliasing"]
 # These are in the order of limit.cc.
@@ -94,6 +94,7 @@ def main():
     parser.add_argument("--folder", choices=FOLDERS, default="unseen",
                         help="the warriors [default: unseen]")
     args = parser.parse_args()
+    stay_on_one_processor()
     programs = program_of(args.program), program_of(args.pmars, "make pmars")
     with tempfile.TemporaryDirectory() as name:
         warriors = loads_of(programs[0], FOLDERS[args.folder])

@@ -15,7 +15,7 @@ from pmars.games import Game, fights_of
 from release.dist import kit_folder
 
 from .pairs import FOLDERS, SEED, loads_of
-from .runs import least, run
+from .runs import least, run, stay_on_one_processor
 
 PLACES = (0, 16, 32, 48)
 WARRIORS = ["coil", "hail-bomber", "imp-stone", "silk-paper"]
@@ -54,6 +54,7 @@ def main():
     add_program(parser)
     add_number(parser, "--runs", "N", 5, "runs of each series")
     args = parser.parse_args()
+    stay_on_one_processor()
     program, kit = program_of(args.program), kit_folder()
     if not pathlib.Path(f"{program}.o").is_file():
         raise Fault(f"no object file {program}.o (`make build` makes it)", 2)

@@ -4,7 +4,7 @@ Plays each fight of fights/, the same fights cut short, assembles each text of w
 the templates of examples/tuning/, several times; the least time counts. Given a pMARS server
 build, plays the fights with it too, after the series of pairs.py. README.md says what is measured.
 """
-import os, tempfile
+import tempfile
 
 from author.lib.endings import run_tool
 from author.lib.program import program_of
@@ -13,6 +13,7 @@ from author.lib.words import add_number, add_program, module_parser
 from .fights import print_fights, print_short
 from .pairs import print_folders
 from .players import Cwtune, Pmars
+from .runs import stay_on_one_processor
 from .texts import print_texts
 from .tunings import print_tunings
 
@@ -35,9 +36,7 @@ def main():
     args = make_parser().parse_args()
     pmars = args.pmars and program_of(args.pmars, "make pmars")
     program = program_of(args.program)
-    # The processors of a shared machine differ by a third and more, and the two programs would not
-    # be given the same ones.
-    os.sched_setaffinity(0, {min(os.sched_getaffinity(0))})
+    stay_on_one_processor()
     with tempfile.TemporaryDirectory() as folder:
         players = [Cwtune(program)] + ([Pmars(pmars, folder)] if pmars else [])
         parts = [(pmars and args.series, lambda: print_folders(program, pmars, args.series)),

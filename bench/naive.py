@@ -1,9 +1,10 @@
 """Searches a template as an author with pMARS and an evening would: the search to beat.
 
 Half of the time it plays settings from everywhere, 5 fights against each opponent. The best ten
-play 20 other fights, and until 85% of the time so do changes of one or two constants of the best
-three. The best five play 40 other fights, and the best of these is found; START plays these only
-to be compared with. The fights of a setting end once it is certain that it is not among the best.
+play 20 other fights against each; until 85% of the time changes of one or two constants of the best
+three play the same 20. The best five play 40 other fights, and the best of these is found; START
+plays these only to be compared with. The fights of a setting end once it is certain that it is not
+among the best.
 
 Prints the template with what it found as START. On standard error it says by how much its total
 exceeds START's, which is more than it gained: the total has picked it.

@@ -86,7 +86,7 @@ def wait(process, stop):
     """Waits for the end of a process, which is asked to end after `stop` processor seconds.
     Returns those that it used with all its children.
 
-    A child that it then kills and does not wait for counts up to there.
+    A child that it kills then, without waiting for it, counts as far as was seen.
     """
     seen = 0.0
     while True:

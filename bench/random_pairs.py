@@ -15,7 +15,7 @@ from pmars.games import Game
 from pmars.random_warriors import random_load
 
 from .pairs import SEED, pair_of, pairs_parser, play_in_turn, print_pairs
-from .runs import mean_and_least
+from .runs import mean_and_least, stay_on_one_processor
 
 # The least turns of a pair's first fight.
 SHORTEST = 2000
@@ -53,6 +53,7 @@ def make_parser():
 
 def main():
     args = make_parser().parse_args()
+    stay_on_one_processor()
     programs = program_of(args.program), program_of(args.pmars, "make pmars")
     with tempfile.TemporaryDirectory() as folder:
         pairs = play_in_turn(lasting_pairs(args, programs, folder), args.runs)

@@ -34,6 +34,11 @@ def run(command, text="", expected=None):
     return Ran(seconds, usage.ru_utime + usage.ru_stime, output)
 
 
+def stay_on_one_processor():
+    """Has all run on one processor: those of a shared machine differ by a third and more."""
+    os.sched_setaffinity(0, {min(os.sched_getaffinity(0))})
+
+
 def least(plays, runs):
     """Returns the least seconds of each play. They are made in turn, so that a busy moment affects
     all."""

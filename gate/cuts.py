@@ -1,7 +1,7 @@
 """Cuts texts after each of their bytes and runs the program on each cut.
 
 Each beginning of a Redcode text, of a fight text with its two load files, and of a certificate has
-to be answered as a rule of this file says, which follows from `docs/FORMATS.md` and
+to end as a rule of this file says, which follows from `docs/FORMATS.md` and
 `docs/REDCODE.md`: with its result, or with a fault and its line.
 """
 from author.lib.endings import run_tool

@@ -8,7 +8,7 @@ A block is indented, or between fences.
   `refused` or `rejected`, 2 with `error`, 3 with `failed`, and otherwise 0.
 - A table with a column `Prints` has a run in each row, of the command that the paragraph before it
   names last. `Text` is the file `x.red`. `With` replaces the lines `Instead of` in a saved file
-  that the command names. A head in capitals is a word of the command.
+  that the command names. A column whose head is in capitals replaces that word of the command.
 
 Also looks in each document for the lines of a merge that nobody has settled.
 """

@@ -1,6 +1,7 @@
 """Tries `gate.edits`, and the gate with another step after the proofs, with a stand-in for the kit:
 how edits are judged, and when their rounds begin beside `rt ci`. Tries `prove.sh` with it, too."""
 import os, pathlib, queue, shutil, subprocess, sys, tempfile, time, types
+from unittest import mock
 
 from author.lib.endings import Fault, run_tool
 from author.lib.words import module_parser
@@ -147,7 +148,7 @@ def gates(room):
         yield compare(f"a gate: {name}", expected, (status, lines[-1]))
     begun = room.folder / "kit/begun"
     room.write("kit/said", f"echo $$ >'{begun}.new'; mv '{begun}.new' '{begun}'; exec sleep 60\n")
-    room.write("kit/ends", f"for one in $(seq 100); do [ -e '{begun}' ] && echo 1 passed, 1 failed "
+    room.write("kit/ends", f"for one in $(seq 600); do [ -e '{begun}' ] && echo 1 passed, 1 failed "
                "&& exit 1; sleep 0.1; done\n")
     status, lines = room.run(*words)
     yield compare("a gate: `rt ci` fails beside an edit", (1, "1 passed, 1 failed"),
@@ -190,7 +191,8 @@ def beside():
 
     said.put("rt: low: its tests are proved\n")
     said.put("rt: low proved\n")
-    actual = list(lanes.in_lanes([(crate,) for crate in crates], judge, 1, proofs))
+    with mock.patch.object(lanes, "ROOM", 1):  # no round waits for memory
+        actual = list(lanes.in_lanes([(crate,) for crate in crates], judge, 1, proofs))
     yield compare("rounds beside `rt ci`", (["middle", "high", "low"],) * 2, (begun, actual))
 
 

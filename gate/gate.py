@@ -1,5 +1,5 @@
-"""Runs the whole gate on a copy of the tree outside the checkout, as `make test` does. What changes
-in the checkout after the beginning plays no part.
+"""Runs the whole gate on a copy of the tree outside the checkout, as `make test` does. Later
+changes in the checkout have no effect.
 
 First `rt ci` proves and tests every crate, without the edits in must-fail/, which it would try one
 by one. Beside it edits.py judges them, over the libraries that `rt ci` has built, as far as
@@ -84,7 +84,7 @@ def edits_beside(tree, proved, anew):
 def main():
     parser = module_parser("gate.gate", __doc__)
     parser.add_argument("--anew", action="store_true", help="prove and try again what earlier "
-                        "runs on this machine passed (only with a kit whose `rt ci` has --anew)")
+                        "runs on this machine passed")
     anew = ["--anew"] if parser.parse_args().anew else []
     began, left_out = time.monotonic(), []
     with tempfile.TemporaryDirectory(prefix="cwtune-gate-") as name:

@@ -287,6 +287,9 @@ def as_owner(path, program):
     os.chown(path, NOBODY, NOBODY)
     path.parent.chmod(0o777)
     shutil.copy(program, path.with_name("program"))
+    for file in path.parent.iterdir():
+        if file != path:
+            file.chmod(0o755)  # a umask may have made it private
     return {"user": NOBODY, "group": NOBODY, "extra_groups": [], "executable": "./program"}
 
 

@@ -1,6 +1,6 @@
 """Plays cases of input and output.
 
-gate/cases/README.md says what a case has. One that says anything else, or no `name`, is refused.
+gate/cases/README.md says what a case has. One with another key, or without `name`, is refused.
 """
 import functools, os, pathlib, re, shlex, string, tempfile, tomllib
 

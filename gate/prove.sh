@@ -9,6 +9,7 @@ crates=$(sed -n 's/^\([a-z_]*\):.*/\1/p' "$here/crates.txt" | sed '/^cwtune$/q')
 [ -n "$crates" ] || { echo "prove.sh: no crates in crates.txt" >&2; exit 1; }
 log=$(mktemp) || exit 1
 trap 'rm -f "$log"' EXIT
+trap 'exit 143' HUP INT TERM
 for crate in $crates; do
     printf '%-14s ' "$crate"
     start=$(date +%s)

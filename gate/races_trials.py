@@ -19,7 +19,7 @@ AT_ONCE = f'{FOUND}print(text, end="")\n'
 TOLD = f'{FOUND}signal.signal(15, lambda *_: sys.exit(print(text, end="")))\nwhile True: pass\n'
 LATE = f"{FOUND}signal.signal(15, signal.SIG_IGN)\nwhile time.process_time() < 1.3: pass\n" + (
     'print(text, end="")\n')
-# Those that a run is refused for, with what is said.
+# Stand-ins whose run is refused, with what is said.
 NO_RESULT = {'import sys\nsys.exit("no luck")\n': "ended with status 1: no luck",
              "print('DAT 0')\n": "it did not print the template",
              f'{AT_ONCE.replace("text, ", "text[:400], ")}': "it did not print the template"}
@@ -85,7 +85,7 @@ def raced(folder, stand_in, pmars=PMARS):
 def run_trials(folder):
     """Plays races that end, each with results of its own."""
     path = folder / "results"
-    for name, stand_in, least, most in [("at once", AT_ONCE, 0, 0.5), ("told", TOLD, 0.9, 1.2),
+    for name, stand_in, least, most in [("at once", AT_ONCE, 0, 0.9), ("told", TOLD, 0.9, 2),
                                         ("late", LATE, 1.3, 2)]:
         path.unlink(missing_ok=True)
         status, out, err = raced(folder, stand_in)

@@ -97,8 +97,9 @@ def refused_listing():
 
 def left_running():
     """Types a command that takes too long. Returns what is wrong, in a list."""
-    run = documents.Run("", "sleep 9 >/dev/null & echo $! >pid; wait", "")
-    with tempfile.TemporaryDirectory() as folder, mock.patch.object(documents, "SECONDS", 0.5):
+    # Without the pipe, at whose end it would be over in any case.
+    run = documents.Run("", "sleep 99 >/dev/null 2>&1 & echo $! >pid; wait", "")
+    with tempfile.TemporaryDirectory() as folder, mock.patch.object(documents, "SECONDS", 2):
         documents.typed(FAILING, [run], folder)
         pid = pathlib.Path(folder, "pid").read_text().strip()
         return ["it goes on"] * pathlib.Path(f"/proc/{pid}/cwd").exists()

@@ -1,8 +1,8 @@
 """What is known to differ from pMARS 0.9.2, each with a fight or a text that shows it.
 
-docs/PMARS.md explains these differences, and names others: no listing shows what pMARS refuses, a
-start outside of the code, or a text without instructions, and only a build with a display overlooks
-an assertion after an EQU line.
+docs/PMARS.md explains them, and names others. Three show in no listing: a text that pMARS refuses,
+a start outside of the code, a text without instructions. One needs a display: an assertion after an
+EQU line is overlooked.
 """
 from typing import NamedTuple
 

@@ -40,7 +40,8 @@ if [ ! -x "$program" ]; then
     fetch update
     fetch source pmars=0.9.2-1
     cd pmars-0.9.2/src
-    gcc -O3 -w -std=gnu89 -DSERVER -DEXT94 -DPERMUTATE -o "$program" asm.c cdb.c clparse.c \
+    gcc -O3 -w -std=gnu89 -DSERVER -DEXT94 -DPERMUTATE -o "$program.new" asm.c cdb.c clparse.c \
         disasm.c eval.c global.c pmars.c pos.c sim.c str_eng.c token.c >&2
+    mv "$program.new" "$program"
 fi
 echo "$program"

@@ -10,7 +10,7 @@ import contextlib, gzip, hashlib, os, pathlib, re, shutil, subprocess, tarfile, 
 from typing import NamedTuple
 
 from author.lib.endings import Fault, run_tool
-from author.lib.program import BUILT, output_of
+from author.lib.program import BUILT, output_of, program_of
 from author.lib.words import module_parser
 from author.lib.writing import whole_file
 
@@ -79,12 +79,11 @@ def sha256(path):
 def build_of(built, digest, proof):
     """Returns what is packed: the program built here, or the one of --built, which has to have the
     digest. `proof` is the path of --proved, which has to be about this program."""
-    if built and not built.is_file():
-        raise Fault(f"no program {built}", 2)
     if not built:
         if not BUILT.is_file():
             raise Fault("the program is not built (`make build` builds it)", 2)
         return Build(BUILT, proved())
+    built = pathlib.Path(program_of(built))
     if sha256(built) != digest:
         raise Fault(f"{built} has the SHA-256 digest {sha256(built)}, and --digest is another", 2)
     if not proof:
@@ -259,9 +258,9 @@ def uninstall(prefix):
         lines = (prefix / INSTALLED).read_text("utf-8").splitlines()
     except FileNotFoundError:
         raise Fault(f"cwtune is not installed below {prefix}", 2) from None
-    for cache in CACHES:
-        shutil.rmtree(prefix / cache, ignore_errors=True)
     for line in reversed(lines):
+        if line.endswith("/__init__.py"):
+            shutil.rmtree((prefix / line).with_name("__pycache__"), ignore_errors=True)
         if line.endswith("/"):
             with contextlib.suppress(OSError):  # not empty, or not there
                 (prefix / line).rmdir()

@@ -1,11 +1,11 @@
 """Tries the release that `dist.py` makes.
 
 Packs, unpacks, installs and removes it in a temporary folder, and runs the program and the commands
-of each without this checkout: nothing of it is on the PATH. What was proved is not asked for again.
+of each without this checkout: nothing of it is on the PATH. Nothing is proved again.
 The manual pages and completions have to name each command and option. Without `dpkg-deb` on the
 PATH the Debian package is left out.
 """
-import contextlib, importlib, pathlib, re, shutil, stat, subprocess, sys, tarfile, tempfile
+import contextlib, importlib, os, pathlib, re, shutil, stat, subprocess, sys, tarfile, tempfile
 
 from author.lib.endings import Fault, run_tool
 from author.lib.program import output_of
@@ -102,8 +102,7 @@ def trial_of_tar(work, build):
     again, _ = dist.pack(work / "again", build)
     if again.read_bytes() != tar.read_bytes():
         yield "packed twice it has other bytes"
-    with tarfile.open(tar) as file:
-        file.extractall(work, filter="data")
+    output_of(["tar", "-xf", tar], cwd=work)
     tree = work / tar.name.removesuffix(".tar.gz")
     status, text = run(["sha256sum", "--check", "--quiet", "SHA256SUMS"], tree, tree)
     if status:
@@ -119,14 +118,15 @@ def trial_of_install(work, build):
     (prefix / "bin").mkdir(parents=True)
     (prefix / "bin/other").write_text("of somebody else\n")
     dist.install(prefix, build)
-    # as if an older release had one more file
+    # as if an older release had one more package, which was used
     older = dist.SHARE / "older"
-    (prefix / older).write_text("")
+    (prefix / older / "__pycache__").mkdir(parents=True)
+    (prefix / older / "__init__.py").write_text("")
     with (prefix / dist.INSTALLED).open("a") as file:
-        file.write(f"{older}\n")
+        file.write(f"{older}/\n{older}/__init__.py\n")
     dist.install(prefix, build)
     if (prefix / older).exists():
-        yield "a file of an older release stays"
+        yield "a package of an older release stays"
     yield from faults_of_use(prefix)
     dist.uninstall(prefix)
     yield from faults_of_removal(prefix, ["bin", "bin/other"])
@@ -154,9 +154,10 @@ def made_privately(what, work, build):
     program, folder = work / "program", work / what
     shutil.copy(build.path, program)
     program.chmod(0o700)
-    words = [sys.executable, "-m", "release.dist", what, folder, "--built", program, "--digest",
+    words = [sys.executable, "-m", "release.dist", what, folder, "--built", "./program", "--digest",
              dist.sha256(program)]
-    subprocess.run(words, cwd=dist.ROOT, umask=0o077, stdout=subprocess.DEVNULL, check=True)
+    subprocess.run(words, cwd=work, env={**os.environ, "PYTHONPATH": str(dist.ROOT)}, umask=0o077,
+                   stdout=subprocess.DEVNULL, check=True)
     return folder
 
 
@@ -203,8 +204,8 @@ def trial_of_package(work, build):
     output_of(["dpkg-deb", "--extract", package, work / "system"])
     yield from faults_of_use(work / "system/usr", dist.DEBIAN_ZSH)
     output_of(["dpkg-deb", "--control", package, work / "control"])
-    script = (work / "control/prerm").read_text().replace("/usr/", f"{work}/system/usr/")
-    output_of(["sh", "-c", script])
+    script = (work / "control/prerm").read_text().replace("/usr/", "usr/")
+    output_of(["sh", "-c", script], cwd=work / "system")
     yield from compare("caches after a removal", [], [*work.rglob("__pycache__")])[1]
 
 
@@ -214,8 +215,9 @@ def faults_of_pages(program, folder):
     wanted = {name: [(OPTION, word) for word in options_of(module)]
               for name, module in manual.COMMANDS.items()}
     wanted[manual.NAME] = [(COMMAND, name) for name in commands] + [
-        (OPTION, item.option()) for page in commands.values() for item in page.options()
-        if item.option() != "help"]
+        (OPTION, word) for name in commands for word in re.findall(
+            r"(?m)^ +(?:-\w, )?--([a-z-]+)", output_of([program, name, "--help"]))
+        if word != "help"]
     for name, words in wanted.items():
         for index, file in enumerate(manual.file_names(name)):
             text = (folder / file).read_text("utf-8").replace("\\-", "-")

@@ -22,8 +22,8 @@ def lanes():
 
 
 class Proofs:
-    """The crates that an `rt ci` has proved, by the lines that it prints, of which `lines` reads
-    one. Without such a run all libraries have to be there."""
+    """The crates that a running `rt ci` has proved. `lines` reads the next line that it prints.
+    Without `lines` none runs, and all libraries have to be built."""
 
     def __init__(self, lines=None):
         self.lines, self.names, self.are_over = lines, set(), lines is None
@@ -45,8 +45,8 @@ class Proofs:
 
 
 def has_room(begun):
-    """Returns whether there is memory for a round: beside `rt ci`, which may take as much as one
-    more, and beside the rounds that began at these times and still grow."""
+    """Returns whether one more round fits into memory. `rt ci` may grow by as much as a round, and
+    so may each round that began less than SETTLED seconds ago."""
     young = sum(time.monotonic() - at < SETTLED for at in begun)
     return free_memory() > (2 + young) * ROOM
 

@@ -128,8 +128,8 @@ def ended(process, text=None, seconds=SECONDS):
 
 @contextlib.contextmanager
 def open_terminal():
-    """Gives a block a terminal: the screen, and the end for a program, which the block closes once
-    the program has it, so that the screen ends with the program."""
+    """Gives a block the two ends of a terminal: the screen, and the program's. The block closes the
+    latter once the program has it: then the screen ends when the program does."""
     with contextlib.ExitStack() as stack:
         yield [stack.enter_context(open(end, "r+b", buffering=0)) for end in pty.openpty()]
 

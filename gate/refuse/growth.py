@@ -9,7 +9,7 @@ The tests of the modules `no_memory` have to pass up to their last line with eve
 after their largest one. Those of the modules `arenas` have to make one arena each. Each program has
 to have tests of one of the three. Needs `cc` and a system with LD_PRELOAD.
 """
-import functools, pathlib, subprocess, tempfile
+import functools, pathlib, subprocess
 
 from author.lib.endings import run_tool
 from author.lib.program import program_of
@@ -21,8 +21,8 @@ from .runs import library_of, refuse_each
 
 PROGRAMS = [f"crates/{crate}/out/{crate}_tests"
             for crate in ["rc_tests", "mars_tests", "tune_tests", "command_tests"]]
-# The bytes of the largest request of a test in `no_memory`; and those of an arena's core, and of
-# its snapshot's, in one of `arenas`, at least.
+# The largest request of a test in `no_memory`, in bytes. In `arenas` the core of an arena and that
+# of its snapshot have at least LARGE bytes, and no other request has.
 LARGEST, LARGE = 1 << 24, 30_000
 
 # How a test prints that a call was out of memory.
@@ -46,7 +46,7 @@ def tests_of(program, module):
 
 def run(library, program, test, **variables):
     """Runs a test with the library and its variables. Returns its status and standard error."""
-    status, out, err = ran([program, test], LD_PRELOAD=library,
+    status, out, err = ran([program, test], **library,
                            **{name: str(value) for name, value in variables.items()})
     return status if status or out.endswith("test result: ok\n") else -1, err
 
@@ -80,8 +80,7 @@ def main():
     programs = [program_of(program, "rt test") for program in parser.parse_args().programs]
     tests = [(call, program, name) for program in programs for module, call in TRIED.items()
              for name in tests_of(program, module)]
-    with tempfile.TemporaryDirectory() as work:
-        library = library_of("memory.c", work)
+    with library_of("memory.c") as library:
         results = side_by_side(lambda test: test[0](library, *test[1:]), tests)
     total = sum(requests for requests, _ in results)
     tried = {program for _, program, _ in tests}

@@ -5,7 +5,7 @@ Each run has to end with its own result, which `runs.py` says, or with status 3,
 shows that no assembly is repeated (`once_each.py`). The last line says how many requests were
 refused, too. Needs `cc` and a system with LD_PRELOAD.
 """
-import functools, tempfile
+import functools
 
 from author.lib.endings import run_tool
 from author.lib.words import program_word
@@ -28,8 +28,7 @@ def refuse_each_of(program, library, words, text, expected):
 
 def main():
     program, jobs = program_word("gate.refuse.memory", __doc__), all_runs()
-    with tempfile.TemporaryDirectory() as work:
-        library = library_of("memory.c", work)
+    with library_of("memory.c") as library:
         results = side_by_side(lambda job: refuse_each_of(program, library, *job[1:]), jobs)
         again = list(once_each.trials(program, library))
     total = sum(requests for requests, _ in results)

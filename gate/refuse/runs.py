@@ -1,5 +1,5 @@
 """Short runs of every command with their ends: what memory.py, writes.py and two_devices.py run."""
-import os, pathlib, subprocess, tomllib
+import contextlib, os, pathlib, subprocess, tempfile, tomllib
 
 from author.lib.endings import Fault
 
@@ -105,7 +105,7 @@ def run(program, library, words, files, text="", **variables):
     """Runs with the library. Returns the end. `variables` are those that the library reads, as
     SHORT=1: a byte a step."""
     variables = {name: str(value) for name, value in variables.items()}
-    env = {**os.environ, "LD_PRELOAD": library, **variables}
+    env = {**os.environ, **library, **variables}
     return play(program, words, files, text=text, env=env)
 
 
@@ -121,10 +121,12 @@ def refuse_each(run, count, expected, refused):
     return len(results), wrong
 
 
-def library_of(source, work):
-    """Compiles a library for LD_PRELOAD in the folder `work`. Returns its path. Needs `cc`."""
-    library, source = f"{work}/refuse.so", str(HERE / source)
-    words = ["cc", "-shared", "-fPIC", "-O1", "-o", library, source, "-ldl"]
-    if subprocess.run(words).returncode != 0:
-        raise Fault(f"cc does not compile {source}", 3)
-    return library
+@contextlib.contextmanager
+def library_of(source):
+    """Compiles a library. Gives a block the variables that load it. Needs `cc`."""
+    with tempfile.TemporaryDirectory() as work:
+        words = ["cc", "-shared", "-fPIC", "-O1", "-o", f"{work}/refuse.so", HERE / source, "-ldl"]
+        if subprocess.run(words).returncode != 0:
+            raise Fault(f"cc does not compile {source}", 3)
+        # A blank in LD_PRELOAD would end a path.
+        yield {"LD_PRELOAD": "refuse.so", "LD_LIBRARY_PATH": work}

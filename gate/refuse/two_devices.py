@@ -3,8 +3,6 @@
 On two devices they are two files, and the older certificate is replaced; on one device they are one
 file, which is not overwritten. Needs `cc` and a system with LD_PRELOAD.
 """
-import tempfile
-
 from author.lib.endings import run_tool
 from author.lib.words import program_word
 
@@ -17,8 +15,7 @@ NAMED = "error: CERT is also another file of this command, and is not overwritte
 
 
 def trials(program):
-    with tempfile.TemporaryDirectory() as work:
-        library = library_of("two_devices.c", work)
+    with library_of("two_devices.c") as library:
         for name, variables, expected in [("two devices", {"DEVICES": 1}, TUNED),
                                           ("one device", {}, end(2, err=NAMED))]:
             yield compare(name, expected,

@@ -8,7 +8,7 @@ standard output. CERT.inputs is written after the report; a step of it that fail
 how the run ends. Only a kill leaves an unfinished file. The last line says how many steps failed,
 too. Needs `cc` and a system with LD_PRELOAD.
 """
-import itertools, signal, tempfile
+import itertools, signal
 
 from author.lib.endings import run_tool
 from author.lib.words import program_word
@@ -98,8 +98,7 @@ def explain_flush(program, library):
 
 def main():
     program, jobs = program_word("gate.refuse.writes", __doc__), all_runs()
-    with tempfile.TemporaryDirectory() as work:
-        library = library_of("writes.c", work)
+    with library_of("writes.c") as library:
         results = side_by_side(lambda job: fail_each(program, library, *job[1:]), jobs)
         explained = explain_flush(program, library)
     total = sum(steps for steps, _ in results)
