@@ -97,7 +97,7 @@ def refused_listing():
 
 def left_running():
     """Types a command that takes too long. Returns what is wrong, in a list."""
-    # Without the pipe, at whose end it would be over in any case.
+    # `sleep` does not hold the pipe: else `typed` would wait until it is over.
     run = documents.Run("", "sleep 99 >/dev/null 2>&1 & echo $! >pid; wait", "")
     with tempfile.TemporaryDirectory() as folder, mock.patch.object(documents, "SECONDS", 2):
         documents.typed(FAILING, [run], folder)

@@ -1,8 +1,8 @@
 """Checks certificates, whole ones and damaged ones, at once and in shares.
 
-For each count all shares have to accept exactly if the whole check does, with its best setting and
-total. Else their rejections, put together, have to give its line. Each kind of damage is done to
-each row of the certificates of templates of at most six settings.
+For each count of shares, all have to accept if and only if the whole check does, with its best
+setting and total. Else their rejections, put together, have to give its line. Each kind of damage
+is done to each row of the certificates of templates of at most six settings.
 """
 from author.lib.endings import run_tool
 from author.lib.spread.shares import is_verdict, verdict_of

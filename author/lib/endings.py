@@ -1,5 +1,5 @@
 """Ends the commands: after a fault, as a run of `cwtune` ended, or by a signal."""
-import codecs, ctypes, io, os, pathlib, re, shlex, signal, subprocess, sys, traceback
+import codecs, ctypes, errno, io, os, pathlib, re, shlex, signal, subprocess, sys, traceback
 
 # The first word of a fault on standard error, by the status of the command.
 STATUS_WORDS = {1: "refused", 2: "error", 3: "failed"}
@@ -147,7 +147,10 @@ def lost_stream():
 def say(word, message, status):
     """Writes a line on standard error, whatever bytes a name in it has. Returns the status, which
     alone reports the fault if the line cannot be written."""
-    tell(f"{word}: {message}")
+    try:
+        print(f"{word}: {escaped(message)}", file=sys.stderr, flush=True)
+    except OSError:
+        sys.stderr = open(os.devnull, "w")
     return status
 
 
@@ -157,10 +160,12 @@ def note(text):
 
 
 def tell(line):
-    """Writes a line on standard error, escaped. It is lost if the terminal is closed."""
+    """Writes a line on standard error, escaped. Once a terminal is closed, all lines are lost."""
     try:
         print(escaped(line), file=sys.stderr, flush=True)
-    except OSError:
+    except OSError as error:
+        if error.errno != errno.EIO:
+            raise
         sys.stderr = open(os.devnull, "w")
 
 

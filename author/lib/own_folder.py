@@ -201,8 +201,9 @@ class OwnFolder:
 
     def refuse_other_inputs(self, recorded, inputs, complaint):
         """Refuses, with `complaint`, a folder that recorded other inputs than these."""
-        others = [kind + f" was {recorded.get(kind) or 'not given'}" * kind.startswith("--")
-                  for kind, value in inputs.items() if recorded.get(kind) != value]
+        words = {None: "not given", False: "not given", True: "given"}
+        others = [kind + f" was {words.get(old, old)}" * kind.startswith("--")
+                  for kind, value in inputs.items() if (old := recorded.get(kind)) != value]
         if others:
             raise Fault(f"{complaint} ({', '.join(others)}): give --anew to throw {self.THROWN} "
                         f"away and begin again, or another {self.INSTEAD}", 2)

@@ -1,9 +1,9 @@
 """Finds a good setting of a template of any size by a race in fresh fights.
 
 Many settings from everywhere play a few fights. The better ones play more, against new settings
-near them, at positions that nobody played before, and so on. A few fights pick the winner at the
-end, and others, which picked nothing, say by how much it is better than START. What is found is
-good, not proved to be the best.
+near them, at positions that nobody played before while there are any, and so on. A few fights pick
+the winner at the end, and others, which picked nothing, say by how much it is better than START.
+What is found is good, not proved to be the best.
 
 SCHEDULE says which opponents there are, and how much each counts: the weights of its fights. The
 race plays other positions.

@@ -66,9 +66,9 @@ def open_new(folder, name, mode):
 
 
 def remove_left(folder, pattern):
-    """Removes what killed runs of this user have left in a folder. The last group of `pattern` is
-    the process id of the maker. If that lives, or if anybody has locked it, as on another host, it
-    stays; without /proc only the locks protect."""
+    """Removes what killed runs of this user have left in a folder, by a pattern of names whose last
+    group is the process id of the maker. What a living process made stays, and what is locked: its
+    maker may be on another host. Without /proc only the locks protect."""
     with contextlib.suppress(OSError):
         for name in os.listdir(folder):
             match = re.fullmatch(pattern, name)

@@ -10,7 +10,7 @@ from author.lib.race.hosts import SCRIPT
 from .trial import SECONDS, Refusal, Trial, came_of, usage_errors, wait_until
 
 LARGE = ";@tune A 0 9999 1 2\n;@tune B 0 9999 1 2\nDAT A, B\n"
-# A warrior that wins if A is 3 and B near 4, in a core of 80.
+# A warrior that wins if A is 3 and B near 4.
 HIDDEN = ";@tune A 0 9 1 0\n;@tune B 0 20 1 0\n"
 PLANE = (";@tune STEP 1 9 2 3\n;@tune aim -4 4 1 4\n        ADD  #STEP, 3\n        MOV  2, @2\n"
          "        JMP  -2\n        DAT  #0, #aim\n")
@@ -138,18 +138,17 @@ class Racing(Trial):
         outcome = racing.run()
         calls = racing.arena.processes.calls[-len(outcome.points[0][0]) // 16:]
         gain = [block for _, blocks in calls for block in blocks]
-        self.same("no fight of the gain comes twice", (128, 128), (len(gain), len(set(gain))))
+        self.same("no fight of the gain comes twice", (142, 142), (len(gain), len(set(gain))))
 
     def test_forgets(self):
         """Races with room for 60 settings of 210."""
         racing = self.racing(HIDDEN, 20000)
-        with mock.patch.object(race, "MOST_KEPT", 60):
+        with mock.patch.object(race, "MOST_CONTENDERS", 60):
             outcome = racing.run()
         self.same("the best setting wins, and START stays", ((3, 4), True), (
             outcome.winner, (0, 0) in racing.contenders))
-        self.same("most others are forgotten", (True, True), (
-            len(racing.contenders) <= 60 + race.NEW_SETTINGS,
-            racing.count() > 2 * len(racing.contenders)))
+        self.same("others are forgotten", (True, True), (
+            len(racing.contenders) <= 60 + race.NEW_SETTINGS, racing.forgotten > 0))
 
     def test_slow_settings(self):
         """Races by the clock, where START takes a fifth of the time of others."""

@@ -2,8 +2,8 @@
 
 The method is iterated racing, as in irace: few fights for many settings, and many for few. In a
 *round* new settings race against the survivors of the round before. Its *heats* get longer; in each
-all play the same fights, at positions that nobody played before, and the worse part leaves. So
-nothing is picked by the same fights for long, and luck does not last.
+all play the same fights, at positions that nobody played before while there are any, and the worse
+part leaves. So nothing is picked by the same fights for long, and luck does not last.
 
     exploring   settings from everywhere, spread evenly over the ranges
     rounds      new settings, most of them near the survivors, against these
@@ -38,7 +38,7 @@ FINALISTS = 16, 6, 2
 # How many settings, or blocks, play before the budget is looked at again.
 SETTINGS_AT_ONCE, BLOCKS_AT_ONCE = 48, 16
 # The most settings that are kept in memory. If there are more, the older half is forgotten.
-MOST_KEPT = 400_000
+MOST_CONTENDERS = 400_000
 
 
 class Contender:
@@ -150,7 +150,7 @@ class Race:
         return self.arena.plays_until(limit * self.budget_part)
 
     def explore(self):
-        count = int(min(MOST_KEPT, self.plays_until(EXPLORED) / plays_of_exploring()))
+        count = int(min(MOST_CONTENDERS / 2, self.plays_until(EXPLORED) / plays_of_exploring()))
         new = self.enter(spread_evenly(self.grid.ranges, count, self.dice))
         self.tell("exploring")
         played = self.play(new, FIRST_HEAT, EXPLORED)
@@ -167,7 +167,7 @@ class Race:
         has_room = self.arena.has_room(NEW_SETTINGS * FIRST_HEAT, RACED * self.budget_part)
         if not self.survivors or not has_room:
             return False
-        if len(self.contenders) > MOST_KEPT:
+        if len(self.contenders) > MOST_CONTENDERS:
             self.forget()
         self.fit()
         new = self.enter(self.choices())
@@ -176,16 +176,16 @@ class Race:
         return bool(new)
 
     def forget(self):
-        """Forgets the older half of the settings, but START and the survivors. They may come
-        again."""
+        """Forgets the older half of the settings, but START and the survivors. A forgotten setting
+        may enter again."""
         newer = itertools.islice(self.contenders.values(), len(self.contenders) // 2, None)
         kept = {one.values: one for one in [self.start, *self.survivors, *newer]}
         self.forgotten += len(self.contenders) - len(kept)
         self.contenders, self.fit_at = kept, 0
 
     def fit(self):
-        """Fits the model anew: in each round up to some 7000 settings, and then if there are 5
-        percent more, since a fit takes longer than a round."""
+        """Fits the model anew: in each round up to some 7000 settings, then for each 5 percent more
+        at most, since a fit takes longer than a round."""
         if len(self.contenders) >= self.fit_at:
             self.model = Model(self.grid.ranges, self.contenders.values())
             self.fit_at = 1.05 * len(self.contenders) - 300
@@ -250,13 +250,14 @@ class Race:
         return players + out
 
     def measure(self, first, second, limit):
-        """Plays two settings in fresh blocks, in the part `limit` of the race's budget, and in none
-        twice. Returns for each a text per opponent, with a digit for each block."""
+        """Plays two settings in fresh blocks, in the part `limit` of the race's budget, and in no
+        block twice. Returns for each a text per opponent, with a digit for each block."""
         pair, points = [Contender(first), Contender(second)], ([], [])
-        while (len(points[0]) + BLOCKS_AT_ONCE <= self.arena.different_blocks()
-               and self.arena.has_room(2 * BLOCKS_AT_ONCE, limit * self.budget_part)):
-            blocks = self.arena.new_blocks(BLOCKS_AT_ONCE)
-            self.arena.hosts.play_ahead(pair, blocks, math.inf, limit * self.budget_part)
+        left, limit = self.arena.different_blocks(), limit * self.budget_part
+        while (count := min(BLOCKS_AT_ONCE, left)) and self.arena.has_room(2 * count, limit):
+            blocks = self.arena.new_blocks(count)
+            self.arena.hosts.play_ahead(pair, blocks, left, limit)
+            left -= count
             for player_points, of_blocks in zip(points, self.arena.play(pair, blocks)):
                 player_points.extend(of_blocks)
         return tuple(["".join(column) for column in zip(*of_player)] for of_player in points)

@@ -4,7 +4,8 @@ Each process plays one setting, as the only one of a template, in some blocks; -
 side by side. What was played is a list of records, which a study keeps in a file. A race that is
 begun again with these takes the points from them, up to where it was stopped.
 """
-import concurrent.futures, itertools, operator, os, pathlib, random, shutil, subprocess, time
+import concurrent.futures, itertools, operator, os, pathlib, random, resource, shutil, subprocess
+import time
 from typing import NamedTuple
 
 from ..endings import Fault, fault_of, tell
@@ -28,7 +29,8 @@ WITH_PARENT = ["setpriv", "--pdeathsig", "KILL", "--"] if shutil.which("setpriv"
 
 def processor_seconds():
     """Returns the processor seconds of this process and of the children that ended."""
-    return sum(os.times()[:4])
+    return sum(sum(resource.getrusage(who)[:2])
+               for who in (resource.RUSAGE_SELF, resource.RUSAGE_CHILDREN))
 
 
 def clock():
@@ -194,7 +196,7 @@ class Arena:
         self.began_at = clock() - self.seconds
 
     def new_blocks(self, count):
-        """Returns the next `count` blocks, which no others play."""
+        """Returns the next `count` blocks."""
         blocks = self.blocks_to_come(count)
         self.block_count += count
         return blocks

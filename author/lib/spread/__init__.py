@@ -125,7 +125,7 @@ def check(args, setting_count, notes, cert):
 
 @contextlib.contextmanager
 def explaining_stop(folder, progress):
-    """Says after Ctrl-C what is done. The interrupt then has a word: outer blocks say nothing."""
+    """Says after Ctrl-C what is done. Raises it with a word, so that outer blocks say nothing."""
     try:
         yield
     except KeyboardInterrupt as stop:

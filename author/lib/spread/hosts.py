@@ -17,8 +17,8 @@ from ..writing import naming
 # What a host says if it can run pieces.
 ANSWER = "ready"
 # Asks a host for that. Before, removes temporary folders of GNU parallel that earlier runs of the
-# same work left there: those with inputs of this work, and empty ones. One that a process is in
-# stays: it may be of another job that has written nothing yet.
+# same work left there: those with inputs of this work, and empty ones. An empty one that a
+# process is in stays: it may be of another job, which has written nothing yet.
 PROBE = """cd ~/.parallel/tmp 2>/dev/null && for old in *-[0-9]*-[0-9]*; do
     for file in "$old"/0.*.{inputs} "$old"/.0.*.{inputs}.*; do
         if [ -e "$file" ]; then rm -rf "$old"; fi

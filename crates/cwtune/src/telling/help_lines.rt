@@ -136,10 +136,11 @@ fn is_counter(alloc: Global, text: &[u8], name: &[u8]) -> bool {
 pub(crate) fn tell_bad_range<V: Write>(err: &mut Outlet<V>, line: &[u8]) {
     let mut words = line.split(is_gap).filter(is_word).skip(4);
     let has_no_step = words.next() == Some(ZERO);
-    let help = match words.skip(1).next() {
+    let has_start = words.next().is_some();
+    let help = match words.next() {
         Some(word) if word.starts_with(b";") => "a comment has to be on a line of its own",
         Some(_) => "take out what is after START",
-        None if has_no_step => "STEP must be at least 1",
+        None if has_no_step && has_start => "STEP must be at least 1",
         None => return,
     };
     tell(err, &["  help: ", help, "\n"]);
