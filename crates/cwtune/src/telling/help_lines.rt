@@ -135,12 +135,11 @@ fn is_counter(alloc: Global, text: &[u8], name: &[u8]) -> bool {
 // Writes what helps with a malformed range line: words after START, or a STEP of 0.
 pub(crate) fn tell_bad_range<V: Write>(err: &mut Outlet<V>, line: &[u8]) {
     let mut words = line.split(is_gap).filter(is_word).skip(4);
-    let has_no_step = words.next() == Some(ZERO);
-    let has_start = words.next().is_some();
+    let (step, start) = (words.next(), words.next());
     let help = match words.next() {
         Some(word) if word.starts_with(b";") => "a comment has to be on a line of its own",
         Some(_) => "take out what is after START",
-        None if has_no_step && has_start => "STEP must be at least 1",
+        None if step == Some(ZERO) && start.is_some() => "STEP must be at least 1",
         None => return,
     };
     tell(err, &["  help: ", help, "\n"]);
@@ -154,10 +153,8 @@ fn tell_byte<V: Write>(err: &mut Outlet<V>, line: &[u8]) {
     tell_number(err, "  column ", column as u64, ": ");
     match byte {
         0xef if line.starts_with(b"\xef\xbb\xbf") => {
-            tell(
-                err,
-                &["a byte order mark\n  help: save the text without it\n"],
-            );
+            let help = "a byte order mark\n  help: save the text without it\n";
+            tell(err, &[help]);
         }
         b'\x0c' => tell(err, &["a form feed\n  help: write a space\n"]),
         b'=' => tell(
@@ -166,10 +163,8 @@ fn tell_byte<V: Write>(err: &mut Outlet<V>, line: &[u8]) {
         ),
         b' '..=b'~' => {
             tell_name(err, &[byte]);
-            tell(
-                err,
-                &["\n  help: prose needs a `;` before it, also in a block that is dropped\n"],
-            );
+            let help = "\n  help: prose needs a `;` before it, also in a block that is dropped\n";
+            tell(err, &[help]);
         }
         _ => tell_number(err, "byte ", u64::from(byte), "\n"),
     }
@@ -203,18 +198,14 @@ fn tell_unknown<V: Write>(err: &mut Outlet<V>, alloc: Global, text: &[u8], line:
         let help = ": `cwtune asm --setting start` makes a warrior of a template\n";
         tell_number(err, "  help: it is the constant of line ", number, help);
     } else if is_counter(alloc, text, name) {
-        tell(
-            err,
-            &["  help: a counter has no value in an EQU: write its text out in the block\n"],
-        );
+        let help = "  help: a counter has no value in an EQU: write its text out in the block\n";
+        tell(err, &[help]);
     } else if PMARS_NAMES.contains(&name) {
         tell(err, &["  help: write the number that pMARS gives it\n"]);
     } else if let Some(like) = like_name(alloc, text, name) {
         tell(err, &["  help: "]);
         tell_name(err, like);
-        tell(
-            err,
-            &[" is another name: capital and small letters differ\n"],
-        );
+        let help = " is another name: capital and small letters differ\n";
+        tell(err, &[help]);
     }
 }

@@ -80,18 +80,14 @@ pub(crate) fn tell_template<V: Write>(
     tell_source(err, file, text, fault.line);
     match fault.kind {
         TemplateKind::BadLine => {
-            tell(
-                err,
-                &["  a range line is `;@tune NAME LOW HIGH STEP START` and nothing else\n"],
-            );
+            let form = "  a range line is `;@tune NAME LOW HIGH STEP START` and nothing else\n";
+            tell(err, &[form]);
             tell_bad_range(err, line);
         }
         TemplateKind::StartOutside => {
             tell_fault(err, alloc, fault.kind);
-            tell(
-                err,
-                &["  help: the values are LOW, LOW + STEP and so on, up to HIGH\n"],
-            );
+            let help = "  help: the values are LOW, LOW + STEP and so on, up to HIGH\n";
+            tell(err, &[help]);
         }
         TemplateKind::TooManyConstants => tell(
             err,
