@@ -20,6 +20,12 @@ from .writing import naming, replacing
 MOST_JSON_BYTES = 1 << 26
 
 
+def told_input(kind, old):
+    """Returns how a message names an input that was another one: an option with its old value."""
+    value = "given" if old is True else old or "not given"
+    return f"{kind} was {value}" if kind.startswith("--") else kind
+
+
 def untouched(shown, what):
     """Returns the fault of something that is not the user's own file or folder."""
     return Fault(f"{shown} is {what}, and is not touched", 2)
@@ -201,9 +207,8 @@ class OwnFolder:
 
     def refuse_other_inputs(self, recorded, inputs, complaint):
         """Refuses, with `complaint`, a folder that recorded other inputs than these."""
-        words = {None: "not given", False: "not given", True: "given"}
-        others = [kind + f" was {words.get(old, old)}" * kind.startswith("--")
-                  for kind, value in inputs.items() if (old := recorded.get(kind)) != value]
+        others = [told_input(kind, recorded.get(kind))
+                  for kind, value in inputs.items() if recorded.get(kind) != value]
         if others:
             raise Fault(f"{complaint} ({', '.join(others)}): give --anew to throw {self.THROWN} "
                         f"away and begin again, or another {self.INSTEAD}", 2)

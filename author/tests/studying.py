@@ -1,7 +1,7 @@
 """Plays `cwtune-study`: compares its report with the other commands, kills it and starts it again,
 and gives it other inputs, other folders and wrong words.
 """
-import fcntl, json, os, random, shutil, signal, subprocess, time
+import fcntl, json, math, os, random, shutil, signal, subprocess, time
 
 from author.lib import grid, tuning_files
 from author.lib.study.raced import is_replaced
@@ -197,10 +197,13 @@ class StudyOfPlane(StudyTrial):
         race, box, gain = (report[name] for name in ["race", "box", "gain"])
         self.same("settings race", (0, True, True), (
             status, 9 < race["settings"] <= 45, race["fights"] <= 4000))
-        self.same("the settings around the winner are tuned, and checked", (9, "accepted best"), (
+        lengths = [*map(len, grid.Grid(folder / "box.red").ranges)]
+        self.same("the settings around the winner are tuned, and checked", (
+            math.prod(lengths), "accepted best"), (
             box["settings"], " ".join(box["check"].split()[:2])))
-        self.same("the page has their totals", (3, 3), (
-            len(report["landscape"]["totals"]), len(report["landscape"]["totals"][0])))
+        totals = report["landscape"]["totals"]
+        self.same("the page has their totals", sorted(lengths),
+                  sorted([len(totals), len(totals[0])]))
         percents = [report[side]["fresh"]["percent"] for side in ["winner", "start"]]
         self.same("the gain is the difference of fights that picked nothing",
                   round(percents[0] - percents[1], 9), round(gain["percent"], 9))
