@@ -181,10 +181,10 @@ class Warriors(Trial):
             "START, setting 0: tuning 0 of 3 (0.0%), fresh 0 of 60 (0.0% +- 0.0) K=0\n"
             "over START, setting 1: +33.3% +- 0.0, a gain\n", ""),
             self.call("cwtune-holdout --schedule s.csv --rounds 20 t.red cert imp.red"))
+        status, out, _ = self.call("cwtune-holdout --rounds 1 t.red cert imp.red")
         self.same("one fight, whose error is not known", (
             0, "over START, setting 1: +33.3% +- 0.0, no difference that these fights show"),
-            (lambda came: (came.status, came.out.splitlines()[-1]))(
-                self.call("cwtune-holdout --rounds 1 t.red cert imp.red")))
+            (status, out.splitlines()[-1]))
 
     def test_json(self):
         self.tuned(";@tune K 0 2 1 0\nJMP 1-1/(K!=2)\n")
