@@ -26,7 +26,7 @@ pub(crate) fn split_labels<'a>(
     ensures own { IfOk result (λ p. p.0 ≡ own_labels source.now labels.now) }
     ensures others { IfOk result (λ p. p.1.now ≡ other_labels source.now labels.now) }
 {
-    let mut own = Vec::new(alloc);
+    let mut own = Vec::with_capacity(alloc, labels.len())?;
     let mut rest = labels;
     while let Some((label, after)) = rest.split_first() {
         match label_token(source, label.as_slice()) {
@@ -125,7 +125,7 @@ fn line_tokens(
     ensures { Returns (λ t. t) result (line_tokens (seen_context context.now) line word tokens.now) }
 {
     let (front, back) = tokens.split_at(exempt_len(context.source, word, tokens));
-    let mut kept = Vec::new(context.alloc);
+    let mut kept = Vec::with_capacity(context.alloc, tokens.len())?;
     push_tokens(&mut kept, front)?;
     replace_tokens(context, line, kept, back)
 }
