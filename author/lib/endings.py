@@ -1,5 +1,6 @@
 """Ends the commands: after a fault, as a run of `cwtune` ended, or by a signal."""
-import codecs, ctypes, errno, io, os, pathlib, re, shlex, signal, subprocess, sys, traceback
+import codecs, contextlib, ctypes, errno, io, os, pathlib, re, shlex, signal, subprocess, sys
+import traceback
 
 # The first word of a fault on standard error, by the status of the command.
 STATUS_WORDS = {1: "refused", 2: "error", 3: "failed"}
@@ -159,14 +160,21 @@ def note(text):
     say("note", text, 0)
 
 
-def tell(line):
-    """Writes a line on standard error, escaped. Once a terminal is closed, all lines are lost."""
+@contextlib.contextmanager
+def losing_lines():
+    """Has a block write on standard error. Once a terminal is closed, all lines are lost."""
     try:
-        print(escaped(line), file=sys.stderr, flush=True)
+        yield
     except OSError as error:
-        if error.errno != errno.EIO:
+        if error.errno not in (errno.EIO, errno.ENOTTY):  # it is closed, or was before
             raise
         sys.stderr = open(os.devnull, "w")
+
+
+def tell(line):
+    """Writes a line on standard error, escaped."""
+    with losing_lines():
+        print(escaped(line), file=sys.stderr, flush=True)
 
 
 def status_of(returncode):

@@ -1,13 +1,14 @@
 """Says on standard error how far a command is."""
 import os, sys, time
 
-from .endings import tell
+from .endings import losing_lines, tell
 
 
 def rewrite(line=""):
     """Rewrites the line of the terminal, cut to its width. Without a new one it is cleared."""
-    width = os.get_terminal_size(sys.stderr.fileno()).columns or 80
-    print(f"\r{line[:width - 1]}\x1b[K", end="", file=sys.stderr, flush=True)
+    with losing_lines():
+        width = os.get_terminal_size(sys.stderr.fileno()).columns or 80
+        print(f"\r{line[:width - 1]}\x1b[K", end="", file=sys.stderr, flush=True)
 
 
 class Pace:

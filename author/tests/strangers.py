@@ -57,6 +57,16 @@ start.run("cwtune-files")
 READ = """from author.lib import endings, files, watching; import sys
 watching.PACE.pause = 0; sys.argv = ['f', 'big.cert']; endings.run_tool(files.main)
 """
+# Closes the terminal of a command amid its rows, with the default for SIGHUP or with SIG_IGN.
+CLOSED = """import os, signal, sys; screen, terminal = os.openpty(); os.login_tty(terminal)
+from author.lib import endings, watching; watching.PACE.pause = 0
+signal.signal(signal.SIGHUP, getattr(signal, sys.argv[1]))
+def rows():
+    yield from range(2000)
+    os.close(screen)
+    yield from range(2000)
+endings.run_tool(lambda: list(watching.watched(rows(), 4000, 'rows')) and 0)
+"""
 # Runs a command for a user without a home.
 HOMELESS = """import os, pwd; from author.lib import start
 for name in ["HOME", "XDG_CACHE_HOME"]: os.environ.pop(name, None)
@@ -266,6 +276,10 @@ class Endings(Trial):
                                if code == EARLY else None)
             self.same("it ends, and says nothing", (-signal.SIGINT, ""),
                       (completed.returncode, completed.stderr))
+
+    def test_closed_terminals(self):
+        for action, status in [("SIG_DFL", -signal.SIGINT), ("SIG_IGN", 0)]:
+            self.same(f"SIGHUP, {action}", status, python(CLOSED, action).returncode)
 
     def test_old_pythons(self):
         """Starts commands as a Python 3.10 does, and parses as 3.6 what is read before that."""
