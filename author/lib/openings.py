@@ -11,6 +11,8 @@ from .slots import STRATEGY
 NUMBERS = re.compile(r"(-?[0-9]{1,5}):(-?[0-9]{1,5})(?::([0-9]{1,5}))?")
 FIELD = re.compile(rf"(?:{NAME}|[0-9]+)\.([A-Za-z_-][^.]*)(?:\.[0-9]*)?")
 LIST = re.compile(r"-?[0-9]{1,5}(?:,-?[0-9]{1,5})+")
+# No longer number of a text is read.
+LONGEST_NUMBER = 20
 # Opcodes with two spellings.
 SAME = {"cmp": "seq"}
 
@@ -86,9 +88,11 @@ def constant_of(spot, opening, text):
     """Returns the constant for a place, and a note if its values are not those asked for, or ''."""
     if spot.kind != "number":
         return constant_of_list(spot, spot.name, list(opening.values), text)
-    start, values = int(spot.spelled()), opening.values
-    if abs(start) > MOST_VALUE:
-        raise Fault(f"{spot.name} is {start}; values are -{MOST_VALUE} to {MOST_VALUE}")
+    spelled, values = spot.spelled(), opening.values
+    cut = spelled if len(spelled) <= LONGEST_NUMBER else f"{spelled[:LONGEST_NUMBER]}.."
+    if cut != spelled or abs(int(spelled)) > MOST_VALUE:
+        raise Fault(f"{spot.name} is {cut}; values are -{MOST_VALUE} to {MOST_VALUE}")
+    start = int(spelled)
     if isinstance(values, range):
         # Moved by less than a step so that the number is one of them, and reaching to it.
         low, high, step = min(values.start, start), max(values.stop - 1, start), values.step

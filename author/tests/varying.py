@@ -137,13 +137,16 @@ MODES = "# $ * @ { < } >"
 OPCODES = "dat mov add sub mul div mod jmp jmz jmn djn cmp seq sne slt spl nop"
 TEXTS = {"two.red": TEXT, "label.red": "K EQU 1\nMOV K, 1/K\nDAT 1/(K-1)\n",
          "ranges.red": ";@tune K 0 1 1 0\nMOV 0, 1\n",
-         "none.red": ";redcode\nK = 5\nMOV 0, K\n"}
+         "none.red": ";redcode\nK = 5\nMOV 0, K\n",
+         "big.red": f"STEP EQU 1{'0' * 5000}\nFAR EQU 70000\nDAT 0\n"}
 WRONG_RANGES = [
     *refusals_of("cwtune-vary", 1, [
         ("label.red K=1:2",
          "refused: label.red does not assemble: Asm line 3 Value DivisionByZero"),
         ("none.red", "refused: none.red does not assemble: Asm line 2 Expand Text BadByte"),
-        ("ranges.red", "refused: ranges.red: it has range lines, so it is a template already")]),
+        ("ranges.red", "refused: ranges.red: it has range lines, so it is a template already"),
+        *((f"big.red {place}=1:9", f"refused: {place} is {number}; values are -65535 to 65535")
+          for place, number in [("STEP", f"1{'0' * 19}.."), ("FAR", 70000)])]),
     *(Refusal(f"cwtune-vary two.red {word}", 1, f"refused: two.red{fault}") for word, fault in [
         ("both=1:9", ", line 6: STEP+1 is not a plain number, so both can have no range; it has "
                      "both.1=1"),
