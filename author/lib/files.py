@@ -3,17 +3,18 @@
 Example: cwtune-files my.red fights.csv my.cert
 """
 from .endings import escaped
+from .regular import open_regular
 from .tuning_files import AnyCertificate, Template, read_schedule
 from .words import command_parser, counted
 
 
 def describe(path):
-    with open(path, encoding="latin-1") as file:
-        first_field = file.read(4096).split(",", 1)[0].strip("\xef\xbb\xbf\"\r\n")
-    if first_field == "opponent":
+    with open_regular(path) as file:
+        first_field = file.read(4096).split(b",", 1)[0].strip(b"\xef\xbb\xbf\"\r\n")
+    if first_field == b"opponent":
         fights = read_schedule(path)
         return f"schedule of {counted(len(fights), 'fight')}, greatest total {fights.greatest}"
-    if first_field == "cwcert":
+    if first_field == b"cwcert":
         cert = AnyCertificate(path)
         answer = (f"none reaches the floor {cert.total}" if cert.best is None
                   else f"best {cert.best} total {cert.total}")

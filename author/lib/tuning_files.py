@@ -4,11 +4,12 @@ A file that is none of these is refused in a few words; what exactly is wrong wi
 says. A setting is its index here, as in the output of `cwtune`; `values_of_settings` of a template
 has the values of each.
 """
-import array, bisect, collections.abc, contextlib, csv, functools, itertools, math, os, re, sys
+import array, bisect, collections.abc, contextlib, csv, functools, io, itertools, math, os, re, sys
 from typing import NamedTuple
 
 from .endings import Fault, escaped
 from .grid import Grid
+from .regular import open_regular
 from .watching import watched
 
 HEADER = ["opponent", "position", "first"]
@@ -87,7 +88,7 @@ class Template(Grid):
 
     def read(self, path):
         """Returns the text. Refuses one that cannot be that of a template."""
-        with open(path, "rb") as file:
+        with open_regular(path) as file:
             text = file.read(MOST_TEMPLATE_BYTES + 1)
             size = max(len(text), os.fstat(file.fileno()).st_size)
         if size > MOST_TEMPLATE_BYTES:
@@ -284,7 +285,7 @@ class Certificate(AnyCertificate):
 
 def read_records(path, errors="strict"):
     """Yields the records of a comma-separated text; empty lines are not records."""
-    with open(path, newline="", encoding="utf-8-sig", errors=errors) as file:
+    with io.TextIOWrapper(open_regular(path), "utf-8-sig", errors, newline="") as file:
         yield from filter(None, csv.reader(file))
 
 

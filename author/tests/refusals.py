@@ -90,7 +90,7 @@ CANNOT_BE_READ = [
       for words in ["cwtune-scores none schedule.csv", "cwtune-scores step.cert none",
                     "cwtune-scores none", "cwtune-files none",
                     "cwtune-landscape none step.cert x.png"]),
-    Refusal("cwtune-scores step.cert .", 3, "failed: .: Is a directory"),
+    Refusal("cwtune-scores step.cert .", 2, "error: . is not a regular file"),
     # A symbolic link to itself.
     Refusal("cwtune-study --out loop two.red plain.red", 2,
             "error: loop is a link, and is not touched"),

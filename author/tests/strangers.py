@@ -1,5 +1,5 @@
 """Gives the commands names, texts and files that a stranger chose, and looks what they leave."""
-import ast, contextlib, fcntl, itertools, os, pathlib, re, signal, struct, subprocess, termios
+import ast, contextlib, fcntl, os, pathlib, re, signal, struct, subprocess, termios
 import time
 from unittest import mock
 
@@ -82,12 +82,6 @@ def runs(pid):
     with contextlib.suppress(OSError):
         return pathlib.Path(f"/proc/{pid}/stat").read_text().rpartition(")")[2].split()[0] != "Z"
     return False
-
-
-def wchan(pid):
-    with contextlib.suppress(OSError):
-        return pathlib.Path(f"/proc/{pid}/wchan").read_bytes()
-    return b""
 
 
 class Strangers(Trial):
@@ -175,7 +169,10 @@ class Strangers(Trial):
         os.symlink("/dev/zero", self.folder / "zero.red")
         self.refused(Refusal(words, 2, f"error: {name} is not a regular file") for words, name in [
             (f"{STUDY} t.red all", "all/a.red"), (f"{STUDY} t.red zero.red", "zero.red"),
-            (f"{STUDY} zero.red dat.red", "zero.red"), ("cwtune-vary all/a.red", "all/a.red"),
+            (f"{STUDY} zero.red dat.red", "zero.red"),
+            *((words.format("all/a.red"), "all/a.red") for words in [
+                "cwtune-vary {}", "cwtune-files {}", "cwtune-scores {} s.csv",
+                "cwtune-scores step.cert {}", "cwtune-landscape {} step.cert x.svg"]),
             ("cwtune-spread t.red s.csv CERT all/a.red", "all/a.red"),
             ("cwtune-spread --check-only t.red s.csv zero.red dat.red", "zero.red")])
         for name in ["C.1", "C.1.report", "C.1.fault"]:
@@ -341,19 +338,6 @@ echo $$ >> {self.folder}/pids; exec sleep 99""")
             jobs.start([], subprocess.DEVNULL, subprocess.DEVNULL)
         jobs.stop()
         self.same("GNU parallel is ended", -signal.SIGKILL, jobs.parallel.returncode)
-
-    def test_signals_in_open(self):
-        os.mkfifo(self.folder / "pipe")
-        for signal_number, words in itertools.product([signal.SIGINT, signal.SIGHUP], [
-                "cwtune-files pipe", "cwtune-scores pipe s.csv",
-                "cwtune-landscape pipe step.cert x.svg"]):
-            with self.started(words, stderr=subprocess.PIPE) as job:
-                # It is waiting in the open of the pipe.
-                wait_until(lambda: re.search(b"wait_for_partner|fifo_open", wchan(job.pid)), job)
-                job.send_signal(signal_number)
-                _, err = job.communicate(timeout=SECONDS)
-            self.same(f"signal {signal_number} in {words}", (-signal.SIGINT, b""),
-                      (job.returncode, err))
 
     def test_left_files(self):
         """Finds what killed runs have left, and what only looks so."""
