@@ -263,6 +263,8 @@ def main():
     for picture in filter(None, [args.picture, args.effects]):
         if picture[-4:] not in (".png", ".svg"):
             parser.error(f"the picture's name has to end with .png or .svg: {picture}")
+    if args.effects and os.path.realpath(args.effects) == os.path.realpath(args.picture):
+        parser.error(f"both pictures would be {args.picture}")
     cert, template, why_unused = cert_inputs.read_tuning(args)
     if not template.names:
         parser.error("the template has no constants to draw")

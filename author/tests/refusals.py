@@ -170,6 +170,7 @@ WRONG_WORDS = [
         ("stone.red all-fights.cert x.png --schedule schedule.csv --opponent 5",
          "--opponent 5: the opponents of the schedule are 0, 1, 2, 3, 4"),
         ("plain.red plain.cert x.png", "the template has no constants to draw"),
+        ("step.red step.cert x.svg --effects ./x.svg", "both pictures would be x.svg"),
         *((f"step.red step.cert {options}{name}",
            f"the picture's name has to end with .png or .svg: {name}")
           for options, name in [("", "x.jpg"), ("", "x"), ("", "png"),
