@@ -29,15 +29,11 @@ class Parser(argparse.ArgumentParser):
         if "--" in words:
             end = words.index("--")
             words[end:] = [self.FENCE * word.startswith("-") + word for word in words[end + 1:]]
-        args = self.parse_intermixed_args(words)
-        for name, value in vars(args).items():
-            setattr(args, name, self.without_fence(value))
-        return args
+        return self.parse_intermixed_args(words)
 
-    def without_fence(self, value):
-        if isinstance(value, list):
-            return list(map(self.without_fence, value))
-        return value.removeprefix(self.FENCE) if isinstance(value, str) else value
+    def _get_value(self, action, arg_string):
+        """Reads a word as argparse does, without the fence."""
+        return super()._get_value(action, arg_string.removeprefix(self.FENCE))
 
     def error(self, message):
         super().error(escaped(message.replace(self.FENCE, "")))

@@ -151,6 +151,9 @@ WRONG_WORDS = [
         ("step.cert schedule.csv --top x", "argument --top: invalid number value: 'x'")]),
     *usage_errors("cwtune-series", [
         ("1234 -5 -2", "argument ROUNDS: -5 is not 1 to 10000"),
+        ("-- 1234 -5 -2", "argument ROUNDS: -5 is not 1 to 10000"),
+        ("-- 1234 -x 2", "argument ROUNDS: invalid number value: '-x'"),
+        ("-- 1234 5 2 -x", "unrecognized arguments: -x"),
         ("1234 1_0 2", "argument ROUNDS: invalid number value: '1_0'"),
         ("1234 5 65", "argument OPPONENTS: 65 is not 1 to 64"),
         ("1234 5 2 --core 70000", "argument --core: 70000 is not 8 to 65535"),
