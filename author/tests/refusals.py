@@ -222,9 +222,11 @@ class Refusals(Trial):
         os.symlink("loop", self.folder / "loop")
         before = sorted(os.listdir(self.folder))
         self.refused(REFUSALS)
-        if python := python_with_matplotlib():
-            self.refused(NOT_DRAWN, python=python)
         self.same("refusals write no file", before, sorted(os.listdir(self.folder)))
+
+    def test_not_drawn(self):
+        self.need(matplotlib=python_with_matplotlib())
+        self.refused(NOT_DRAWN, python=python_with_matplotlib())
 
     def test_shown(self):
         """Shows files that have something in common with those that are refused."""
