@@ -140,7 +140,7 @@ def last_that_begins(lines, word):
 
 
 def setting_word(word):
-    if word != "start" and not re.fullmatch("[0-9]{1,7}", word):
+    if word != "start" and not re.fullmatch("[0-9]{1,10}", word):
         raise argparse.ArgumentTypeError(f"{word} is neither an index from 0 nor `start`")
     return word
 

@@ -26,7 +26,8 @@ WRONG_WORDS = [
     *refusals_of("cwtune-warrior", 2, [
         ("stone.red step.cert",
          "error: the certificate is of 21 settings, and the template has 273"),
-        ("step.red --setting 21", "error: the template has 21 settings, from 0")]),
+        *((f"step.red --setting {setting}", "error: the template has 21 settings, from 0")
+          for setting in [21, 9999999999])]),
     *usage_errors("cwtune-warrior step.red", [
         ("", "CERT is missing: give it, or --setting W"),
         ("step.cert --setting 0", "give CERT or --setting, and not both"),
