@@ -32,7 +32,8 @@ REFUSALS = [
     Refusal(f"cwtune-seek --distance=4001 {RACED}", 1,
             "refused: DAT 0 does not assemble: Rules Distance"),
     *usage_errors(f"cwtune-seek {RACED}", [
-        ("--fights=999", "argument --fights: 999 is not 1000 or more"),
+        *((f"--fights={number}", f"argument --fights: {number} is not 1000 to 1000000000000")
+          for number in [999, 10 ** 400]),
         ("--minutes=0", "argument --minutes: 0 is not 0.01 to 100000"),
         ("--minutes=x", "argument --minutes: x is not a number of minutes")]),
     Refusal(f"cwtune-seek --hosts=empty {RACED}", 2, "error: empty: no host in it"),

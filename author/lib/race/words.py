@@ -6,13 +6,14 @@ from ..words import add_shared, number_from
 from .fights import Budget
 
 # The fights of a race that is given no budget.
-DEFAULT_FIGHTS = 300000
+DEFAULT_FIGHTS, MOST_FIGHTS = 300000, 10 ** 12
 
 
 def add_budget(parser):
     group = parser.add_argument_group("race")
-    group.add_argument("--fights", type=number_from(1000), metavar="N", help="end after N fights, "
-                       f"1000 or more [default: {DEFAULT_FIGHTS}, unless --minutes is given]")
+    group.add_argument("--fights", type=number_from(1000, MOST_FIGHTS), metavar="N",
+                       help="end after N fights, 1000 or more "
+                       f"[default: {DEFAULT_FIGHTS}, unless --minutes is given]")
     group.add_argument("--minutes", type=minutes, metavar="N",
                        help="end after N minutes, such as 10 or 0.5")
     add_shared(group, "--jobs")
