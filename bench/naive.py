@@ -12,7 +12,7 @@ exceeds START's, which is more than it gained: the total has picked it.
 import math, pathlib, random, sys, tempfile
 from typing import NamedTuple
 
-from author.lib.endings import end_as, run_tool
+from author.lib.endings import Fault, end_as, run_tool
 from author.lib.grid import Grid
 from author.lib.program import NO_CANDIDATE, Rules, program_of, reading_output, run_program
 from author.lib.race.fights import processor_seconds
@@ -96,6 +96,8 @@ class Naive:
     def explore(self):
         """Plays settings from everywhere. Returns the best."""
         top = [self.play(self.grid.start_values, FEW)]
+        if top[0].share < 0:
+            raise Fault(f"{self.grid.path}: START does not assemble")
         while not self.time_is_over(EXPLORED):
             values = tuple(self.dice.choice(values) for values in self.grid.ranges)
             least = top[-1].share if len(top) == EXPLORERS else 0

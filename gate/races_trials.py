@@ -145,6 +145,11 @@ def naive_trials(program, folder):
     false = pathlib.Path("/bin/false").resolve()
     yield compare(f"bench.naive {false}", (1, "", f"refused: {false} ended with status 1\n"),
                   ran_module("bench.naive", f"--program={false}", "1", "1", template, *opponents))
+    bad = folder / "bad.red"
+    bad.write_text(";@tune K 0 1 1 0\nDAT 1/K\n")
+    yield compare("bench.naive of a START that does not assemble",
+                  (1, "", f"refused: {bad}: START does not assemble\n"),
+                  ran_module("bench.naive", f"--program={program}", "1", "1", bad, *opponents))
 
 
 def trials(program):
