@@ -1,9 +1,9 @@
 """Looks which answers the prover does without, in crates/CRATE/proofs/.
 
-Takes every Answers.antt of a crate away, and checks the crate. What is proved all the same needs no
-answers: its file is named, and with --delete it stays away. All other files are put back. All have
-to be committed, so that a check that is killed loses none. The search may take longer than an
-answer did, so look at what a check of the crate costs before and after.
+Takes every Answers.antt of a crate away, checks the crate, and puts them all back. What was proved
+all the same needs no answers: its file is named, and with --delete it is deleted then. All have to
+be committed, so that a check that is killed loses none. The search may take longer than an answer
+did, so look at what a check of the crate costs before and after.
 """
 import re, shutil, subprocess
 
