@@ -68,6 +68,6 @@ Where nothing else is said, a name means this:
 - `ranges`: the values that each constant may have; `whole`: those of one; `constant`: its index;
 - `cert`: a certificate, or its path in `args`, which are the words of a command once parsed;
 - `completed`: a run of a program that has ended;
-- `number`: which part, share or heat, counted from 1;
+- `number` in `spread`, `race.hosts` and `study.fresh`: which part, share or heat, from 1;
 - `piece`: a part or a share, and of a race some settings in some blocks.
 """

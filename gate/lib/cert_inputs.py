@@ -1,4 +1,5 @@
-"""What CERT.inputs has to say (docs/FORMATS.md). Shares no code with author.lib.cert_inputs."""
+"""What CERT.inputs has to say (docs/FORMATS.md). Shares no code with author.lib.cert_inputs, but
+for the table of the hills."""
 import hashlib, os, pathlib
 
 from author.lib.program import HILLS
