@@ -58,10 +58,11 @@ def failing():
     said = "failed: stone.red: a search ended with status 1\n"
     yield compare(" ".join(words), (3, "", said), ran_module(*words))
     yield "a listing of pMARS that is refused", refused_listing()
-    with (mock.patch.object(pmars.compare, "adapt", side_effect=Unwritable("")),
-          contextlib.redirect_stdout(None)):
-        none = pmars.compare.compare_adapted(pmars.compare.Programs(FAILING, FAILING, ""))
-    yield compare("a comparison of no adapted text", 1, none)
+    with (mock.patch.multiple(pmars.compare, adapt=mock.Mock(side_effect=Unwritable("")),
+                              ADAPTED=pathlib.Path("none")), contextlib.redirect_stdout(None)):
+        wrong = pmars.compare.compare_adapted(pmars.compare.Programs(FAILING, FAILING, ""))
+    yield compare("no text can be written, of which ROUNDS alone is expected not to",
+                  len(pmars.compare.TEXTS) - 1, wrong)
     yield "a command of a document that takes too long", left_running()
     yield from left_out()
     for text, said in CASES.items():
