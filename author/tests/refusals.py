@@ -227,6 +227,7 @@ class Refusals(Trial):
     def test_not_drawn(self):
         self.need(matplotlib=python_with_matplotlib())
         self.refused(NOT_DRAWN, python=python_with_matplotlib())
+        self.same("no picture", None, self.read("x.png"))
 
     def test_shown(self):
         """Shows files that have something in common with those that are refused."""

@@ -1,6 +1,5 @@
 """Gives the commands names, texts and files that a stranger chose, and looks what they leave."""
-import ast, contextlib, fcntl, os, pathlib, re, signal, struct, subprocess, termios
-import time
+import ast, contextlib, fcntl, os, pathlib, re, signal, struct, subprocess, termios, time
 from unittest import mock
 
 from author.lib import writing
