@@ -4,7 +4,7 @@ import os
 from author.lib.program import version_of
 from gate.lib import cert_inputs
 
-from .trial import Refusal, Trial, usage_errors
+from .trial import Refusal, Trial, python, usage_errors
 
 FILES = {
     "t.red": ";@tune K 0 1 1 0\nJMP 1-K\n",
@@ -20,6 +20,10 @@ GAIN = ("setting 1, rank 1: tuning 16 of 18 (88.9%), fresh 88.9% +- 0.0 K=1\n"
         "setting 0, rank 2: tuning 15 of 18 (83.3%), fresh 83.3% +- 0.0 K=0\n"
         "START, setting 0: tuning 15 of 18 (83.3%), fresh 83.3% +- 0.0 K=0\n"
         "over START, setting 1: +5.6% +- 0.0, a gain\n")
+# Runs a command as a process with the greatest id that Linux gives.
+LAST_PID = """import os; from author.lib import endings, start
+os.getpid = lambda: (1 << 22) - 1; start.run("cwtune-spread")
+"""
 # Command lines with a file or a rule of another tuning, by what they name.
 OTHER_INPUTS = [Refusal(words, 2, f"error: {message}") for words, message in [
     (HOLDOUT.replace("t.red", "other.red"), "other.red is not the template of the tuning"),
@@ -98,6 +102,11 @@ class Origins(Trial):
                       (status, self.read("cert.inputs")))
         self.same("cwtune-spread leaves nothing else", sorted([*FILES, "cert", "cert.inputs"]),
                   sorted(os.listdir(self.folder)))
+        longest = "c" * 236  # so that CERT.inputs.PID.new has 255 bytes
+        python(LAST_PID, f"--program={self.program}", "--jobs=1",
+               *(longest if word == "cert" else word for word in TUNE), cwd=self.folder)
+        self.same("a name of 236 bytes", cert_inputs.SUFFIX,
+                  max(os.listdir(self.folder), key=len).removeprefix(longest))
         self.write("cert.inputs", "a text\n")
         self.refused([Refusal(" ".join(["cwtune-spread", *TUNE]), 2, "error: CERT.inputs is a text "
                               "of another kind, and is not overwritten: cert.inputs")])
