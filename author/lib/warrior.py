@@ -189,10 +189,10 @@ def checked_text(args, template, setting, totals):
     rules = rules_of(args).words()
     load_file = load_file_of(f"setting {setting}", assemble(
         args.program, *rules, f"--setting={setting}", "--", template.path))
-    if args.original and (text := text_put_back(args, template, setting, totals, load_file)):
-        return text
-    text = text_of(template, setting, totals)
-    refuse_other_warrior("with its values", text, load_file, args.program, *rules)
+    text = args.original and text_put_back(args, template, setting, totals, load_file)
+    if not text:
+        text = text_of(template, setting, totals)
+        refuse_other_warrior("with its values", text, load_file, args.program, *rules)
     print_pmars_notes(text)
     return text
 
