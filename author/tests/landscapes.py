@@ -35,8 +35,8 @@ class Figure(Axes):
         file.write("\\n".join(self.calls).encode())
 
 
-def subplots(rows=1, columns=1, squeeze=True, **_):
-    calls = []
+def subplots(rows=1, columns=1, squeeze=True, sharey=False, **_):
+    calls = ["one scale"] * sharey
     grid = types.SimpleNamespace(flat=[Axes(calls) for _ in range(rows * columns)])
     return Figure(calls), grid.flat[0] if squeeze else grid
 """}
@@ -49,7 +49,8 @@ FILES = {
     **{name: (TUNING / name).read_bytes() for name in ["step.red", "step.cert"]},
 }
 # The second picture of the certificate that `tune --all` makes of t.red.
-EFFECTS = """errorbar ([0, 1], [0.0, 1.0], [0.0, 0.0])
+EFFECTS = """one scale
+errorbar ([0, 1], [0.0, 1.0], [0.0, 0.0])
 set_xlabel ('K',)
 set_ylabel ('mean total',)
 suptitle ('best setting 1: K=1, total 1 of 3',)"""
