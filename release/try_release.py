@@ -3,9 +3,10 @@
 Packs, unpacks, installs and removes it in a temporary folder, and runs the program and the commands
 of each without this checkout: nothing of it is on the PATH. Nothing is proved again.
 The manual pages and completions have to name each command and option. Without `dpkg-deb` on the
-PATH the Debian package is left out.
+PATH the Debian package is left out, and without matplotlib `cwtune-landscape`.
 """
-import contextlib, importlib, os, pathlib, re, shutil, stat, subprocess, sys, tarfile, tempfile
+import contextlib, functools, importlib, os, pathlib, re, shutil, stat, subprocess, sys, tarfile
+import tempfile
 
 from author.lib.endings import Fault, run_tool
 from author.lib.program import output_of
@@ -31,6 +32,7 @@ AUTHOR_RUNS = [
     ("cwtune-holdout --rounds 2 a.red a.cert dwarf.red", "setting "),
     ("cwtune-spread --jobs 2 a.red fights.csv b.cert dwarf.red", "vectors 3\n"),
     ("cwtune-files a.red a.cert", "a.red: template of 3 settings"),
+    ("cwtune-landscape a.red a.cert a.svg", ""),
     ("cwtune-vary dwarf.red", "step=4: line 12, "),
     ("cwtune-adapt dwarf.red", ";redcode"),
     ("cwtune-seek --fights 1000 a.red fights.csv dwarf.red", ";redcode-94\n"),
@@ -65,6 +67,13 @@ def run(words, folder, path):
     return done.returncode, done.stdout + done.stderr
 
 
+@functools.cache
+def left_out():
+    """Returns which command cannot run here, by name, and why."""
+    status, _ = run(["python3", "-c", "import matplotlib"], "/", "/")
+    return {"cwtune-landscape": "no matplotlib"} if status else {}
+
+
 def faults_of_use(prefix, zsh=dist.ZSH):
     """Yields what is wrong with a release below a prefix: a tuning, its check, and the commands."""
     programs = prefix / "bin"
@@ -83,6 +92,8 @@ def faults_of_use(prefix, zsh=dist.ZSH):
         if checked != (0, f"accepted best {best} total {total}\n"):
             yield f"check: {checked}"
         for words, start in AUTHOR_RUNS:
+            if words.split()[0] in left_out():
+                continue
             came = run(words.split(), folder, programs)
             if came[0] or not came[1].startswith(start):
                 yield f"{words}: {came}"
@@ -256,6 +267,9 @@ def trials_of_makefile():
 def trials(build):
     yield from trials_of_makefile()
     yield from trials_of_pages(str(build.path))
+    names = {words.split()[0] for words, _ in AUTHOR_RUNS} | {"cwtune-series"}
+    yield compare("commands that are run", list(manual.COMMANDS), sorted(names))
+    yield from ((f"runs of {name}", LeftOut(why)) for name, why in left_out().items())
     tried = [trial_of_tar, trial_of_install, trial_of_broken_install, trial_of_modes,
              trial_of_faults, trial_of_builds]
     if shutil.which("dpkg-deb"):
