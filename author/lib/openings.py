@@ -11,7 +11,7 @@ from .slots import STRATEGY
 NUMBERS = re.compile(r"(-?[0-9]{1,5}):(-?[0-9]{1,5})(?::([0-9]{1,5}))?")
 FIELD = re.compile(rf"(?:{NAME}|[0-9]+)\.([A-Za-z_-][^.]*)(?:\.[0-9]*)?")
 LIST = re.compile(r"-?[0-9]{1,5}(?:,-?[0-9]{1,5})+")
-# No longer number of a text is read.
+# The characters of the longest number of a text that is read.
 LONGEST_NUMBER = 20
 # Opcodes with two spellings.
 SAME = {"cmp": "seq"}
