@@ -1,11 +1,11 @@
 //! The options `--keep` and `--floor`.
-ghost use Rattle.std.specs.Prelude.{◌≡◌, ◌≤◌, ℕ, Option, IfOk, codes};
+ghost use Rattle.std.specs.Prelude.{◌≡◌, ◌≤◌, IfOk};
 ghost use Rattle.std.specs.Option.{unwrap_or};
-ghost use Rattle.clap.specs.Matches.{first_value, found_of};
+ghost use Rattle.clap.specs.Matches.{found_of};
 ghost use Rattle.tune_problem.specs.Limits.{MOST_KEPT};
 ghost use Rattle.tune_problem.specs.Ranking.{IsAim};
 ghost use Rattle.command_words.specs.CommandLine.{aim_meant, kept_asked};
-ghost use Rattle.command_words.specs.Options.{SaysNumber, IsGiven};
+ghost use Rattle.command_words.specs.Requests.{IsDemand};
 
 use crate::number_option::{CHECK_FLOOR, CHECK_KEEP};
 use crate::usage_error::BadValue;
@@ -16,8 +16,7 @@ use tune_problem::{Aim, limits};
 // Returns what a tuning, or a check, is asked for beside the optimum. `CHECK_KEEP` and
 // `CHECK_FLOOR` serve `tune` too, whose options have the same names.
 pub(crate) fn demand_of<'a>(matches: &ArgMatches<'a>) -> Result<Demand, BadValue<'a>>
-    ensures keep { IfOk result (λ demand. (given : Option ℕ) × IsGiven SaysNumber (first_value (found_of matches.now) (codes "keep")) given × (demand.keep ≡ kept_asked given)) }
-    ensures floor { IfOk result (λ demand. IsGiven SaysNumber (first_value (found_of matches.now) (codes "floor")) demand.floor) }
+    ensures { IfOk result (IsDemand (found_of matches.now)) }
 {
     Ok(Demand {
         keep: kept_asked(CHECK_KEEP.value_in(matches)?),

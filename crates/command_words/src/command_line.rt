@@ -1,6 +1,8 @@
 //! What the words of the command line ask for. The library `clap` parses them.
-ghost use Rattle.std.specs.Prelude.{◌≡◌, map, IfOk, string_bytes};
+ghost use Rattle.std.specs.Prelude.{◌≡◌, map, option_map, IfOk, string_bytes};
+ghost use Rattle.clap.specs.Matches.{found_of};
 ghost use Rattle.command_words.specs.CommandLine.{AsksForFight, command_of, command_word};
+ghost use Rattle.command_words.specs.Requests.{AreFiles, IsRequest, file_found, side_meant};
 
 use crate::clap_commands::{
     asm_command, check_command, commands, duel_command, fight_command, tune_command,
@@ -8,7 +10,9 @@ use crate::clap_commands::{
 use crate::command_word::{asks_for_fight, is_named};
 use crate::help::{command_in, has_help_option};
 use crate::method_options::MethodWords;
-use crate::options::{asm_options, check_options, fight_numbers, tune_options};
+use crate::number_option::POSITION;
+use crate::options::{check_options, raw_rules_of, tune_options};
+use crate::setting_word::setting_of;
 use crate::usage_error::{bad_value, not_first, one_file};
 use clap::{ArgMatches, Error};
 use mars_core::Side;
@@ -103,8 +107,7 @@ fn parsed_request<'a>(alloc: Global, words: &'a [String]) -> Result<Request<'a>,
         Some(("fight", matches)) => fight_request(alloc, words, matches),
         Some(("asm", matches)) => asm_request(alloc, matches),
         Some(("settings", matches)) => Ok(Request::Settings {
-            // `clap` requires the file.
-            file: matches.get_str("TEMPLATE").unwrap_or(""),
+            file: file_in(matches, "TEMPLATE"),
         }),
         Some(("tune", matches)) => tune_request(alloc, matches),
         Some(("check", matches)) => check_request(alloc, matches),
@@ -128,53 +131,69 @@ fn fight_request<'a>(
     alloc: Global,
     words: &'a [String],
     matches: &ArgMatches<'a>,
-) -> Result<Request<'a>, Error> {
+) -> Result<Request<'a>, Error>
+    ensures { IfOk result (IsRequest (found_of matches.now)) }
+{
     let Some(candidate) = matches.get_str("CANDIDATE") else {
         return request_without_files(alloc, words);
     };
     let Some(opponent) = matches.get_str("OPPONENT") else {
         return Err(one_file(duel_command(alloc)?)?);
     };
-    match fight_numbers(matches) {
-        Ok((rules, position)) => Ok(Request::Duel(DuelWords {
+    match (raw_rules_of(matches), POSITION.value_in(matches)) {
+        (Ok(rules), Ok(position)) => Ok(Request::Duel(DuelWords {
             rules,
             candidate,
             opponent,
             position,
             first: side_of(matches.get_str("first")),
         })),
-        Err(bad) => Err(bad_value(alloc, bad, duel_command(alloc)?, "cwtune fight")?),
+        (Err(bad), _) | (_, Err(bad)) => Err(bad_value(
+            alloc,
+            bad,
+            duel_command(alloc)?,
+            "cwtune fight",
+        )?),
     }
 }
 
 // Returns what `fight` without files asks for. It takes no words but `--explain`, so the words are
 // parsed again as those of a command without files, and `clap` reports any other word.
-fn request_without_files<'a>(alloc: Global, words: &'a [String]) -> Result<Request<'a>, Error> {
+fn request_without_files<'a>(alloc: Global, words: &'a [String]) -> Result<Request<'a>, Error>
+    ensures { IfOk result (λ r. r ≡ Request.Fight) }
+{
     let _nothing = commands(alloc, fight_command(alloc)?)?.try_get_matches_from(words)?;
     Ok(Request::Fight)
 }
 
 // Returns the side of `--first`, which `clap` keeps to `c` and `o`, or the default.
-fn side_of(word: Option<&str>) -> Side {
+fn side_of(word: Option<&str>) -> Side
+    ensures { result ≡ side_meant (option_map (λ w. w.now) word.entry) }
+{
     match word {
         Some("o") => Side::Opponent,
         _ => Side::Candidate,
     }
 }
 
-fn asm_request<'a>(alloc: Global, matches: &ArgMatches<'a>) -> Result<Request<'a>, Error> {
-    match asm_options(matches) {
-        Ok((rules, setting)) => Ok(Request::Asm(AsmWords {
+fn asm_request<'a>(alloc: Global, matches: &ArgMatches<'a>) -> Result<Request<'a>, Error>
+    ensures { IfOk result (IsRequest (found_of matches.now)) }
+{
+    match (raw_rules_of(matches), setting_of(matches)) {
+        (Ok(rules), Ok(setting)) => Ok(Request::Asm(AsmWords {
             rules,
-            // `clap` requires the file.
-            file: matches.get_str("FILE").unwrap_or(""),
+            file: file_in(matches, "FILE"),
             setting,
         })),
-        Err(bad) => Err(bad_value(alloc, bad, asm_command(alloc)?, "cwtune asm")?),
+        (Err(bad), _) | (_, Err(bad)) => {
+            Err(bad_value(alloc, bad, asm_command(alloc)?, "cwtune asm")?)
+        }
     }
 }
 
-fn tune_request<'a>(alloc: Global, matches: &ArgMatches<'a>) -> Result<Request<'a>, Error> {
+fn tune_request<'a>(alloc: Global, matches: &ArgMatches<'a>) -> Result<Request<'a>, Error>
+    ensures { IfOk result (IsRequest (found_of matches.now)) }
+{
     match tune_options(matches) {
         Ok((rules, part, method, demand)) => Ok(Request::Tune {
             words: tune_words(alloc, matches, rules, part)?,
@@ -185,7 +204,9 @@ fn tune_request<'a>(alloc: Global, matches: &ArgMatches<'a>) -> Result<Request<'
     }
 }
 
-fn check_request<'a>(alloc: Global, matches: &ArgMatches<'a>) -> Result<Request<'a>, Error> {
+fn check_request<'a>(alloc: Global, matches: &ArgMatches<'a>) -> Result<Request<'a>, Error>
+    ensures { IfOk result (IsRequest (found_of matches.now)) }
+{
     match check_options(matches) {
         Ok((rules, part, share, demand)) => Ok(Request::Check {
             words: tune_words(alloc, matches, rules, part)?,
@@ -196,23 +217,34 @@ fn check_request<'a>(alloc: Global, matches: &ArgMatches<'a>) -> Result<Request<
     }
 }
 
-// `clap` requires each of the files, so the empty names are never used.
 fn tune_words<'a>(
     alloc: Global,
     matches: &ArgMatches<'a>,
     rules: RawRules,
     part: Part,
-) -> Result<TuneWords<'a>, AllocError> {
+) -> Result<TuneWords<'a>, AllocError>
+    ensures { IfOk result (λ w. (w.rules ≡ rules) × ((w.part ≡ part) × AreFiles (found_of matches.now) w)) }
+{
     let mut opponents = Vec::new(alloc);
     if let Some(names) = matches.get_strs("OPPONENT") {
         opponents.extend_from_slice(names)?;
     }
     Ok(TuneWords {
         rules,
-        template: matches.get_str("TEMPLATE").unwrap_or(""),
-        schedule: matches.get_str("SCHEDULE").unwrap_or(""),
-        cert: matches.get_str("CERT").unwrap_or(""),
+        template: file_in(matches, "TEMPLATE"),
+        schedule: file_in(matches, "SCHEDULE"),
+        cert: file_in(matches, "CERT"),
         opponents,
         part,
     })
+}
+
+// Returns the name of a file that `clap` requires, so it is never the empty one.
+fn file_in<'a>(matches: &ArgMatches<'a>, file: &str) -> &'a str
+    ensures { result.now ≡ file_found (found_of matches.now) file.now }
+{
+    match matches.get_str(file) {
+        Some(name) => name,
+        None => "",
+    }
 }

@@ -1,6 +1,6 @@
 //! The option `--hill`: the rules of a hill, by its name.
 ghost use Rattle.std.specs.Prelude.{◌≡◌, option_map};
-ghost use Rattle.command_words.specs.Hills.{hill_rules, raw_rules};
+ghost use Rattle.command_words.specs.Hills.{raw_rules};
 ghost use Rattle.command_words.specs.Options.{hill_meant};
 
 use clap::builder::ValueParser;
@@ -25,24 +25,11 @@ pub(crate) fn rules_on(hill: Option<&str>) -> RawRules
     ensures { result ≡ hill_meant (option_map (λ name. name.now) hill.entry) }
 {
     match hill {
-        Some(name) => rules_of_hill(name),
-        None => standard(),
+        Some("tiny") => raw(800, 8000, 800, 20, 20),
+        Some("nano") => raw(80, 800, 80, 5, 5),
+        Some("lp") => raw(8000, 80000, 8, 200, 200),
+        _ => standard(),
     }
-}
-
-fn rules_of_hill(name: &str) -> RawRules
-    ensures { result ≡ hill_rules name.now }
-{
-    if name == "tiny" {
-        return raw(800, 8000, 800, 20, 20);
-    }
-    if name == "nano" {
-        return raw(80, 800, 80, 5, 5);
-    }
-    if name == "lp" {
-        return raw(8000, 80000, 8, 200, 200);
-    }
-    standard()
 }
 
 fn raw(core: u32, cycles: u32, tasks: u32, length: u32, distance: u32) -> RawRules

@@ -1,10 +1,10 @@
 //! The options `--cache` and `--all`.
-ghost use Rattle.std.specs.Prelude.{◌≡◌, ◌≤◌, Some, true, false, IfOk, codes};
-ghost use Rattle.clap.specs.Matches.{first_value, found_of, one_text};
+ghost use Rattle.std.specs.Prelude.{◌≡◌, ◌≤◌, IfOk};
+ghost use Rattle.clap.specs.Matches.{found_of};
 ghost use Rattle.tune_search.specs.Limits.{MOST_CAPACITY};
 ghost use Rattle.tune_search.specs.Method.{HasCapacity};
 ghost use Rattle.command_words.specs.CommandLine.{capacity_meant, method_meant};
-ghost use Rattle.command_words.specs.Options.{SaysNumber, IsGiven};
+ghost use Rattle.command_words.specs.Requests.{IsMethod};
 
 use crate::number_option::CACHE;
 use crate::usage_error::BadValue;
@@ -31,11 +31,9 @@ pub(crate) fn all_option<'a>(alloc: Global) -> Result<Arg<'a>, AllocError> {
     Ok(all)
 }
 
-// Returns how `tune` is asked to search. `clap` gives a flag the word `true` or `false`.
+// Returns how `tune` is asked to search.
 pub(crate) fn method_words<'a>(matches: &ArgMatches<'a>) -> Result<MethodWords, BadValue<'a>>
-    ensures all { one_text (found_of matches.now) (codes "all") ≡ Some (codes "true") → IfOk result (λ words. words.all ≡ true) }
-    ensures dropping { one_text (found_of matches.now) (codes "all") ≡ Some (codes "false") → IfOk result (λ words. words.all ≡ false) }
-    ensures cache { IfOk result (λ words. IsGiven SaysNumber (first_value (found_of matches.now) (codes "cache")) words.cache) }
+    ensures { IfOk result (IsMethod (found_of matches.now)) }
 {
     Ok(MethodWords {
         all: matches.get_flag("all"),

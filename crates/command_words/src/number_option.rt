@@ -3,7 +3,7 @@
 
 ghost use Rattle.std.specs.Prelude.{◌≡◌, Some, ℕ, IfOk, IfSome, IsErr};
 ghost use Rattle.clap.specs.Matches.{first_value, found_of};
-ghost use Rattle.command_words.specs.Options.{SaysNumber, IsGiven, IsSaidWrong};
+ghost use Rattle.command_words.specs.Options.{SaysNumber, IsGiven, IsMeant, IsSaidWrong};
 
 use crate::usage_error::BadValue;
 use clap::{Arg, ArgAction, ArgMatches, value_parser};
@@ -103,6 +103,17 @@ impl NumberOption {
     pub(crate) fn ranged_arg<'a>(&self, alloc: Global, most: u32) -> Arg<'a> {
         let range = value_parser!(u32).range(1..i64::from(most) + 1);
         self.arg(alloc).value_parser(range)
+    }
+
+    // Returns the number that the option is given, or `default`.
+    pub(crate) fn value_or<'a>(
+        &self,
+        matches: &ArgMatches<'a>,
+        default: u32,
+    ) -> Result<u32, BadValue<'a>>
+        ensures { IfOk result (IsMeant SaysNumber default (first_value (found_of matches.now) self.now.name.now)) }
+    {
+        Ok(self.value_in(matches)?.unwrap_or(default))
     }
 
     // Returns the number that the option is given.

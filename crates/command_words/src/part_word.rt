@@ -4,6 +4,7 @@ ghost use Rattle.clap.specs.Matches.{first_value, found_of};
 ghost use Rattle.tune_problem.specs.Parts.{whole};
 ghost use Rattle.tune_problem.specs.declared.part.Part.{Part};
 ghost use Rattle.command_words.specs.Options.{SaysPart, IsMeant, IsSaidWrong};
+ghost use Rattle.command_words.specs.Requests.{IsPart};
 
 use crate::usage_error::BadValue;
 use clap::{Arg, ArgAction, ArgMatches};
@@ -23,7 +24,7 @@ pub(crate) fn part_option<'a>(alloc: Global) -> Arg<'a> {
 
 // Returns the part that the option says, or all settings without it.
 pub(crate) fn part_of<'a>(matches: &ArgMatches<'a>) -> Result<Part, BadValue<'a>>
-    ensures meant { IfOk result (IsMeant SaysPart whole (first_value (found_of matches.now) (codes "part"))) }
+    ensures meant { IfOk result (IsPart (found_of matches.now)) }
     ensures wrong { IsErr result → IsSaidWrong SaysPart (first_value (found_of matches.now) (codes "part")) }
 {
     let word = matches.get_str("part");

@@ -1,9 +1,10 @@
 //! The option `--share` and its word `I/K`.
-ghost use Rattle.std.specs.Prelude.{IfOk, IsErr, MatchOption, codes, option_map};
+ghost use Rattle.std.specs.Prelude.{IfOk, IsErr, MatchOption, codes};
 ghost use Rattle.clap.specs.Matches.{first_value, found_of};
 ghost use Rattle.tune_problem.specs.Parts.{part};
 ghost use Rattle.tune_problem.specs.declared.part.Part.{Part};
-ghost use Rattle.command_words.specs.Options.{SaysPart, IsGiven, IsSaidWrong};
+ghost use Rattle.command_words.specs.Options.{SaysPart, IsSaidWrong};
+ghost use Rattle.command_words.specs.Requests.{IsShare};
 
 use crate::part_word::read_part;
 use crate::usage_error::BadValue;
@@ -24,7 +25,7 @@ pub(crate) fn share_option<'a>(alloc: Global) -> Arg<'a> {
 
 // Returns the share that the option says, or `None` without it.
 pub(crate) fn share_of<'a>(matches: &ArgMatches<'a>) -> Result<Option<Share>, BadValue<'a>>
-    ensures given { IfOk result (λ given. IsGiven SaysPart (first_value (found_of matches.now) (codes "share")) (option_map (λ s. part s.number s.shares) given)) }
+    ensures given { IfOk result (IsShare (found_of matches.now)) }
     ensures wrong { IsErr result → IsSaidWrong SaysPart (first_value (found_of matches.now) (codes "share")) }
 {
     let Some(word) = matches.get_str("share") else {
