@@ -1,6 +1,8 @@
-//! Tests of `command_words` and `command_runs`: `no_memory` has those of calls that do not
+//! Tests of `command_words` and `command_runs`: `program`, and in `no_memory` calls that do not
 //! allocate. What a run of the program shows is a case in `gate/cases/`.
 #![tactic(auto)]
 
 #[cfg(test)]
 mod no_memory;
+#[cfg(test)]
+mod program;

@@ -7,10 +7,10 @@ ghost use Rattle.command_runs.specs.Program.{IsProgramRun};
 
 mod telling;
 
-use command_runs::{Host, program, tell};
+use command_runs::{Host, Witness, program, tell};
 use command_words::{asks_for_fight, is_given};
 use rc_instr::Outlet;
-use std::io::{IsTerminal, Read, Write};
+use std::io::{IsTerminal, Read, Stderr, Write};
 use std::process::ExitCode;
 use std::{env, io};
 use telling::progress::{Progress, Style};
@@ -34,10 +34,28 @@ fn style_of(words: &[String], at_terminal: bool) -> Style
     }
 }
 
-// Runs `program`. At a terminal, or with `--progress` or `--explain`, its witness is `Progress`.
-fn run<R: Read, W: Write, V: Write>(
+// Makes the witness, which shows what the words and the terminal ask for.
+fn witness_of<'a>(rt: &'a HostRuntime, words: &[String]) -> Progress<&'a HostRuntime, Stderr> {
+    let at_terminal = rt.stderr().is_terminal();
+    let explains = at_terminal || is_given(words, "--explain");
+    let style = style_of(words, at_terminal);
+    let shown = Outlet::new(rt.stderr());
+    Progress::new(
+        rt.alloc(),
+        rt,
+        shown,
+        style,
+        explains,
+        asks_for_share(words),
+    )
+}
+
+// Runs the command. It takes any witness, so that its proof and its edit do not reach the
+// explanations.
+fn run<R: Read, W: Write, V: Write, T: Witness>(
     rt: &HostRuntime,
     words: &[String],
+    witness: &mut T,
     input: &mut R,
     out: &mut Outlet<W>,
     err: &mut Outlet<V>,
@@ -45,32 +63,31 @@ fn run<R: Read, W: Write, V: Write>(
     requires { out.old.failed ≡ false }
     ensures { IsProgramRun (map string_bytes words.now) (R.remaining input.old) out.old out.new result }
 {
-    let at_terminal = rt.stderr().is_terminal();
-    let explains = at_terminal || is_given(words, "--explain");
-    let style = style_of(words, at_terminal);
-    if !explains && style == Style::Hidden {
-        return program::program(rt, rt.alloc(), words, input, out, err);
-    }
-    invite(rt, words, at_terminal);
-    let shown = Outlet::new(rt.stderr());
-    let has_share = words.iter().any(is_share_option);
-    let mut progress = Progress::new(rt.alloc(), rt, shown, style, explains, has_share);
     let host = Host {
         rt,
         alloc: rt.alloc(),
-        witness: &mut progress,
+        witness,
         err,
     };
     program::watched_program(host, words, input, out)
 }
 
-fn is_share_option(word: &String) -> bool {
-    word.as_str().starts_with("--share")
+// Returns whether a share is asked for. After `--` come files.
+fn asks_for_share(words: &[String]) -> bool {
+    for word in words {
+        if word.as_str() == "--" {
+            return false;
+        }
+        if word.as_str().starts_with("--share") {
+            return true;
+        }
+    }
+    false
 }
 
 // Says at a terminal that a fight text is read: else the program would seem to hang.
-fn invite(rt: &HostRuntime, words: &[String], at_terminal: bool) {
-    if at_terminal && rt.stdin().is_terminal() && takes_fight_text(words) {
+fn invite(rt: &HostRuntime, words: &[String]) {
+    if rt.stderr().is_terminal() && rt.stdin().is_terminal() && takes_fight_text(words) {
         let mut err = Outlet::new(rt.stderr());
         tell(
             &mut err,
@@ -92,7 +109,12 @@ fn main(rt: HostRuntime) -> ExitCode {
     let mut out = Outlet::new(rt.stdout());
     let mut err = Outlet::new(rt.stderr());
     let status = match words_of(&rt) {
-        Ok(words) => run(&rt, words.as_slice(), &mut input, &mut out, &mut err),
+        Ok(words) => {
+            let words = words.as_slice();
+            invite(&rt, words);
+            let mut witness = witness_of(&rt, words);
+            run(&rt, words, &mut witness, &mut input, &mut out, &mut err)
+        }
         Err(error) => program::end_without_words(&mut err, &error),
     };
     ExitCode::from(status)
