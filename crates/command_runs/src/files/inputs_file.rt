@@ -39,9 +39,10 @@ pub(crate) fn write_inputs<R: Files + Copy>(
     name: &str,
 ) -> io::Result<()> {
     let written = replace_inputs(rt, alloc, tuning, cert, name);
-    let is_other = has_other_text(&rt, alloc, Written::Inputs, name).unwrap_or(true);
-    if written.is_err() && is_file(&rt, name) && !is_other {
-        let _ = fs::remove_file(&rt, name);
+    if written.is_err() && is_file(&rt, name) {
+        if let Ok(false) = has_other_text(&rt, alloc, Written::Inputs, name) {
+            let _ = fs::remove_file(&rt, name);
+        }
     }
     written
 }
