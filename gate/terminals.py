@@ -22,6 +22,7 @@ FILES = {
     "four.csv": "opponent,position,first\n" + "0,4000,c\n" * 4,
     "forty.red": ";@tune K 0 39 1 0\nMOV 0, 1\nDAT K\n",
 }
+FILES["--share.red"] = FILES["imp.red"]
 REPORT = report(2, 2, 0, "K=0", "4 of 6", "2 of 4")
 ONE = report(1, 1, 0, "K=1", "4 of 6", "2 of 2")
 CERT = FILES["two.cert"]
@@ -75,6 +76,8 @@ def progress(place):
     yield "--progress of a part", end(0, ONE, "0% 0 of 1 settings, 0 fights\n", CERT=PART), actual
     shown_first = place.run([*CHECK, "--share=1/2", "--progress"]).err[:22]
     yield "--progress of a share", b"100% 1 of 1 settings, ", shown_first
+    words = ["check", *RULES, "--progress", "--", *CHECK[-5:-1], "--share.red"]
+    yield "of a check against --share.red", BEGUN.encode(), place.run(words).err[:len(BEGUN)]
     actual = place.run(tune("never.red"), terminal=True)
     cleared = actual.err.startswith(AT_TERMINAL.encode() + b"refused: NoCandidate\n")
     yield "the progress is cleared before a refusal", True, cleared or actual
