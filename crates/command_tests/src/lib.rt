@@ -1,5 +1,5 @@
-//! Tests of `command_words` and `command_runs`: `program`, and in `no_memory` calls that do not
-//! allocate. What a run of the program shows is a case in `gate/cases/`.
+//! Tests of `command_words` and `command_runs`: `program` runs the function of that name, and
+//! `no_memory` has calls that do not allocate. What a run of the program shows is a case in `gate/cases/`.
 #![tactic(auto)]
 
 #[cfg(test)]

@@ -1,4 +1,5 @@
--- What the request of a command has, by the words that `clap` found for its options and files.
+-- What the request of a command has, by the words that `clap` found for its options and files. The
+-- setting of `asm` is left out.
 use Rattle.std.specs.Prelude.{◌≡◌, ℕ, List, [], Option, Some, None, map, option_map, unwrap_or, if◌then◌else◌, codes, true, false}
 use Rattle.std.specs.Option.{option_map_or}
 use Rattle.std.specs.Str.{bytes_eq}
@@ -17,7 +18,7 @@ use Rattle.command_words.specs.declared.command_line.Request.TheVariants.{Fight,
 use Rattle.command_words.specs.CommandLine.{kept_asked}
 use Rattle.command_words.specs.Options.{SaysNumber, SaysPart, IsGiven, IsMeant, AreRules}
 
--- The numbers of `--keep` and `--floor`.
+-- The numbers of `--keep` and `--floor`. A `--keep` out of its range counts as not given.
 pub record IsDemand (found : Found) (demand : Demand) : Type 0 where
   pub keep : (given : Option ℕ) × IsGiven SaysNumber (first_value found (codes "keep")) given × (demand.keep ≡ kept_asked given)
   pub floor : IsGiven SaysNumber (first_value found (codes "floor")) demand.floor
@@ -45,16 +46,17 @@ side_meant (Some word) = if bytes_eq word (codes "o") then Opponent else Candida
 abbrev pub file_found : Found → List ℕ → List ℕ
 file_found found file = unwrap_or (first_value found file) []
 
--- The files of a tuning, in the order of the words.
+-- The names of a tuning's files, the opponents in the order of the words.
 pub record AreFiles (found : Found) (words : TuneWords) : Type 0 where
   pub template : words.template.now ≡ file_found found (codes "TEMPLATE")
   pub schedule : words.schedule.now ≡ file_found found (codes "SCHEDULE")
   pub cert : words.cert.now ≡ file_found found (codes "CERT")
   pub opponents : map (λ file. file.now) words.opponents.items ≡ option_map_or raw_values (matched_of found (codes "OPPONENT")) []
 
--- A request has what the options and the files of its command say.
+-- A request has what its options and the names of its files say. The fight on standard input has no
+-- files.
 abbrev pub IsRequest : Found → Request → Type 0
-IsRequest found Fight = Unit {0}
+IsRequest found Fight = first_value found (codes "CANDIDATE") ≡ None
 IsRequest found (Duel words) =
     AreRules found words.rules × (IsGiven SaysNumber (first_value found (codes "position")) words.position
     × ((first_value found (codes "CANDIDATE") ≡ Some words.candidate.now)

@@ -106,9 +106,7 @@ fn parsed_request<'a>(alloc: Global, words: &'a [String]) -> Result<Request<'a>,
     match parsed.subcommand() {
         Some(("fight", matches)) => fight_request(alloc, words, matches),
         Some(("asm", matches)) => asm_request(alloc, matches),
-        Some(("settings", matches)) => Ok(Request::Settings {
-            file: file_in(matches, "TEMPLATE"),
-        }),
+        Some(("settings", matches)) => Ok(settings_request(matches)),
         Some(("tune", matches)) => tune_request(alloc, matches),
         Some(("check", matches)) => check_request(alloc, matches),
         _ => Ok(Request::Fight),
@@ -191,6 +189,14 @@ fn asm_request<'a>(alloc: Global, matches: &ArgMatches<'a>) -> Result<Request<'a
     }
 }
 
+fn settings_request<'a>(matches: &ArgMatches<'a>) -> Request<'a>
+    ensures { IsRequest (found_of matches.now) result }
+{
+    Request::Settings {
+        file: file_in(matches, "TEMPLATE"),
+    }
+}
+
 fn tune_request<'a>(alloc: Global, matches: &ArgMatches<'a>) -> Result<Request<'a>, Error>
     ensures { IfOk result (IsRequest (found_of matches.now)) }
 {
@@ -239,7 +245,7 @@ fn tune_words<'a>(
     })
 }
 
-// Returns the name of a file that `clap` requires, so it is never the empty one.
+// Returns the name of a file, which `clap` requires, so the empty one stands for none.
 fn file_in<'a>(matches: &ArgMatches<'a>, file: &str) -> &'a str
     ensures { result.now ≡ file_found (found_of matches.now) file.now }
 {

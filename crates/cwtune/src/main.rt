@@ -50,8 +50,8 @@ fn witness_of<'a>(rt: &'a HostRuntime, words: &[String]) -> Progress<&'a HostRun
     )
 }
 
-// Runs the command. It takes any witness, so that its proof and its edit do not reach the
-// explanations.
+// Runs the command. It takes any witness, so that neither its proof nor its wrong bodies reach
+// `Progress`.
 fn run<R: Read, W: Write, V: Write, T: Witness>(
     rt: &HostRuntime,
     words: &[String],

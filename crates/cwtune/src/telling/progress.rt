@@ -112,8 +112,10 @@ impl<C: Clock, V: Write> Progress<C, V> {
         let Ok(now) = Instant::now(&self.clock) else {
             return;
         };
-        if !is_due(self.shown, now, self.style.pause()) {
-            return;
+        if let Some(shown) = self.shown {
+            if millis_of(now.duration_since(shown)) < self.style.pause() {
+                return;
+            }
         }
         self.shown = Some(now);
         let millis = millis_between(self.began, now);
@@ -248,14 +250,6 @@ fn names_of(alloc: Global, words: &TuneWords<'_>) -> Result<FileNames, AllocErro
         template: String::from_str(alloc, words.template)?,
         opponents,
     })
-}
-
-// Returns whether the next line is due.
-fn is_due(shown: Option<Instant>, now: Instant, pause: u64) -> bool {
-    match shown {
-        Some(shown) => millis_of(now.duration_since(shown)) >= pause,
-        None => true,
-    }
 }
 
 fn millis_between(began: Option<Instant>, now: Instant) -> u64 {
