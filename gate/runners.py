@@ -61,7 +61,7 @@ def failing():
     with (mock.patch.multiple(pmars.compare, adapt=mock.Mock(side_effect=Unwritable("")),
                               ADAPTED=pathlib.Path("none")), contextlib.redirect_stdout(None)):
         wrong = pmars.compare.compare_adapted(pmars.compare.Programs(FAILING, FAILING, ""))
-    yield compare("no text can be written, of which ROUNDS alone is expected not to",
+    yield compare("no text can be written, so all but ROUNDS count as wrong",
                   len(pmars.compare.TEXTS) - 1, wrong)
     yield "a command of a document that takes too long", left_running()
     yield from left_out()

@@ -25,7 +25,7 @@ from .random_warriors import Text, random_load
 
 ROOT = pathlib.Path(__file__).resolve().parent.parent
 ADAPTED = ROOT / "author/tests/redcode"
-# What no text of `cwtune` can say, since it has P-space or ROUNDS.
+# Texts that cannot be adapted, since they use P-space or ROUNDS.
 UNWRITABLE = ["ROUNDS", "23-two-faced.red", "53-half-moon.red", "56-marble-run.red"]
 ROUNDS = 10
 SMALL = [Rules(80, 640, 8, 12, 12), Rules(101, 500, 64, 12, 20), Rules(800, 4000, 800, 20, 20),
@@ -171,8 +171,8 @@ def compare_texts(programs, dice, count, progress):
 
 def compare_adapted(programs):
     """Adapts the known texts and those of author/tests/redcode, and prints how many are compared.
-    Returns how many pMARS lists otherwise than the originals, or cannot be written and are not
-    expected to be so."""
+    Returns how many pMARS lists otherwise than the originals, or cannot be written and are not in
+    UNWRITABLE."""
     texts = {known.name: known.text.encode("latin-1") for known in TEXTS}
     texts |= {path.name: path.read_bytes() for path in sorted(ADAPTED.glob("*.red"))}
     compared = wrong = 0

@@ -69,7 +69,7 @@ def run(words, folder, path):
 
 @functools.cache
 def left_out():
-    """Returns which command cannot run here, by name, and why."""
+    """Returns the commands that cannot run here, each with the reason."""
     status, _ = run(["python3", "-c", "import matplotlib"], "/", "/")
     return {"cwtune-landscape": "no matplotlib"} if status else {}
 

@@ -162,11 +162,11 @@ def note(text):
 
 @contextlib.contextmanager
 def losing_lines():
-    """Has a block write on standard error. Once a terminal is closed, all lines are lost."""
+    """Runs a block that writes on standard error. Once a terminal is closed, all is lost."""
     try:
         yield
     except OSError as error:
-        if error.errno not in (errno.EIO, errno.ENOTTY):  # it is closed, or was before
+        if error.errno not in (errno.EIO, errno.ENOTTY):  # closed now, or before
             raise
         sys.stderr = open(os.devnull, "w")
 

@@ -11,8 +11,8 @@ from .slots import STRATEGY
 NUMBERS = re.compile(r"(-?[0-9]{1,5}):(-?[0-9]{1,5})(?::([0-9]{1,5}))?")
 FIELD = re.compile(rf"(?:{NAME}|[0-9]+)\.([A-Za-z_-][^.]*)(?:\.[0-9]*)?")
 LIST = re.compile(r"-?[0-9]{1,5}(?:,-?[0-9]{1,5})+")
-# The characters of the longest number of a text that is read.
-LONGEST_NUMBER = 20
+# The most characters of a number that are read, or shown in a fault.
+MOST_OF_NUMBER = 20
 # Opcodes with two spellings.
 SAME = {"cmp": "seq"}
 
@@ -89,7 +89,7 @@ def constant_of(spot, opening, text):
     if spot.kind != "number":
         return constant_of_list(spot, spot.name, list(opening.values), text)
     spelled, values = spot.spelled(), opening.values
-    cut = spelled if len(spelled) <= LONGEST_NUMBER else f"{spelled[:LONGEST_NUMBER]}.."
+    cut = spelled if len(spelled) <= MOST_OF_NUMBER else f"{spelled[:MOST_OF_NUMBER]}.."
     if cut != spelled or abs(int(spelled)) > MOST_VALUE:
         raise Fault(f"{spot.name} is {cut}; values are -{MOST_VALUE} to {MOST_VALUE}")
     start = int(spelled)
