@@ -73,4 +73,4 @@ def gain_numbers(difference):
 
 
 def gain_text(gain):
-    return f"{gain['percent']:+.1f}% +- {gain['error']:.1f}, {gain['words']}"
+    return f"{gain['percent']:+z.1f}% +- {gain['error']:.1f}, {gain['words']}"

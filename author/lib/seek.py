@@ -41,8 +41,8 @@ def print_outcome(grid, outcome, weights):
     else:
         gain = gain_of(outcome.points, weights)
         luck = 100 * outcome.rise - gain.mean()
-        note(f"in the fights that picked it, it was {100 * outcome.rise:+.1f}% over START; "
-             f"{luck:+.1f}% of that was luck")
+        note(f"in the fights that picked it, it was {100 * outcome.rise:+z.1f}% over START; "
+             f"{luck:+z.1f}% of that was luck")
         tell(f"over START: {gain_text(gain_numbers(gain))}")
 
 

@@ -2,6 +2,7 @@
 import contextlib, copy, html.parser, io, re
 from xml.etree import ElementTree
 
+from author.lib.gain import gain_text
 from author.lib.study import charts, maps, page as pieces, print_fresh
 from author.lib.study.report import html_of
 
@@ -149,6 +150,8 @@ class Reporting(Trial):
                 (-0.45, 1.2, "a loss", "0.5 ± 1.2 percentage points less, a loss. Keep START.")]:
             gain = report["gain"] | {"percent": percent, "error": error, "words": words}
             self.says(report, sentence, gain=gain)
+        nothing = {"percent": -0.04, "error": 0.1, "words": "no difference"}
+        self.same("a loss of nothing", "+0.0% +- 0.1, no difference", gain_text(nothing))
         self.says(report, "The winner is START itself.", start=start | {"values": winner_values})
         self.says(report, "START is not in this picture: STEP 1, FIRST 4013.",
                   start=start | {"values": winner_values | {"STEP": 1}})

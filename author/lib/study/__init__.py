@@ -178,8 +178,8 @@ def print_raced(report):
         print_fresh("START", report["start"], report)
     if report["gain"] and not (box and box["replaces"]):
         luck = race["rise"] - report["gain"]["percent"]
-        print(f"in the fights that picked it, the winner was {race['rise']:+.1f}% over START; "
-              f"{luck:+.1f}% of that was luck")
+        print(f"in the fights that picked it, the winner was {race['rise']:+z.1f}% over START; "
+              f"{luck:+z.1f}% of that was luck")
 
 
 def print_end(folder, report):

@@ -22,7 +22,7 @@ def decimal(value):
     """Returns a number with one place after the point, or a dash if there is none."""
     if value is None or not math.isfinite(value):
         return DASH
-    return f"{value:,.1f}" if abs(value) >= 10000 else f"{value:.1f}"
+    return f"{value:,.1f}" if abs(value) >= 10000 else f"{value:z.1f}"
 
 
 def integer(value):
