@@ -1,5 +1,5 @@
 """Opens regular files alone: a FIFO would keep a reader waiting, and a device may never end."""
-import errno, hashlib, os, stat
+import errno, os, stat
 
 from .endings import Fault
 from .schema import Malformed
@@ -45,6 +45,8 @@ def read_regular(most, *path, **more):
 
 def digest_of(*path, **more):
     """Returns the size and the digest of a file as CERT.inputs has them."""
+    import hashlib  # not above: with too little memory for it, it prints a traceback
+
     with open_regular(*path, **more) as file:
         size = os.fstat(file.fileno()).st_size
         return f"{size} {hashlib.file_digest(file, 'sha256').hexdigest()}"
