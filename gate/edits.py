@@ -231,8 +231,10 @@ def faults_without_edits(edits, text):
 
 def sum_of(crate, edits):
     """Returns a checksum of all that the verdict on a round depends on."""
-    rattle = os.stat(crate.kit.RATTLE)
-    digest = hashlib.sha256(f"{rattle.st_size} {rattle.st_mtime_ns} ".encode())
+    digest = hashlib.sha256()
+    for file in (crate.kit.RATTLE, crate.kit.__file__):
+        kit_file = os.stat(file)
+        digest.update(f"{kit_file.st_size} {kit_file.st_mtime_ns} ".encode())
     files = [ROOT / "gate" / name for name in ("edits.py", "functions.py")]
     files += [edit.source for edit in [*edits, crate.harmless]]
     for kit_crate, part in itertools.product([crate.kit_crate, *crate.kit_crate.below()], PARTS):

@@ -37,6 +37,7 @@ REFUSALS = [
         ("--minutes=0", "argument --minutes: 0 is not 0.01 to 100000"),
         ("--minutes=x", "argument --minutes: x is not a number of minutes")]),
     Refusal(f"cwtune-seek --hosts=empty {RACED}", 2, "error: empty: no host in it"),
+    Refusal(f"cwtune-seek --hosts=. {RACED}", 2, "error: . is not a regular file"),
     Refusal(f"cwtune-seek --hosts=none {RACED}", 3, "failed: none: No such file or directory"),
     Refusal("cwtune-seek one.red s.csv dat.red imp.red", 1,
             "refused: one.red: no range line, which begins `;@tune` at the left margin "

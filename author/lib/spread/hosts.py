@@ -8,9 +8,11 @@ No name of the user's is in a word that GNU parallel or a shell reads: the names
 the pieces are fixed, jobs of this host have its path in their environment, and the hosts are read
 from a copy of their file. What is for all pieces, as that copy, has the number 0 in its name.
 """
-import contextlib, hashlib, os, pathlib, re, shlex, shutil, signal, socket, subprocess, sys, tarfile
+import contextlib, hashlib, io, os, pathlib, re, shlex, shutil, signal, socket, subprocess, sys
+import tarfile
 
 from ..endings import Fault, tell
+from ..regular import open_regular
 from ..watching import rewrite
 from ..writing import naming
 
@@ -63,7 +65,7 @@ def refuse_missing_tools():
 def read_hosts(path):
     """Returns the lines of a file of hosts that name one, with the options of ssh in those that say
     how to run ssh. Refuses a file without any."""
-    with naming(path), open(path, errors="surrogateescape") as file:
+    with naming(path), io.TextIOWrapper(open_regular(path), errors="surrogateescape") as file:
         lines = [line.strip() for line in file]
     hosts = [re.sub(r"(^|/)ssh\s", rf"\g<0>{SSH_OPTIONS} ", line, count=1)
              for line in lines if line and not line.startswith("#")]
