@@ -139,13 +139,7 @@ pub(crate) fn records_in(text: &[u8]) -> u64 {
 
 // Counts the records of a line. A carriage return ends a record, too.
 fn records_of(line: &[u8]) -> u64 {
-    let mut count: u64 = 0;
-    for record in line.split(is_return) {
-        if !record.is_empty() {
-            count = count.saturating_add(1);
-        }
-    }
-    count
+    line.split(is_return).filter(is_word).count() as u64
 }
 
 // Returns the line at an index, from 0, or nothing if the text has fewer.
