@@ -2,10 +2,10 @@
 changes in the checkout have no effect.
 
 First `rt ci` proves and tests every crate, without the edits in must-fail/, which it would try one
-by one. Beside it edits.py judges them, over the libraries that `rt ci` has built, as far as
-processors and memory are left. Then the other modules try the program. The last line sums the steps
-up, after the lines of the trials that were left out since a tool is not installed. If `rt ci`
-fails, nothing else counts or is run.
+by one. Then the other modules try the program. Beside both edits.py judges the edits, over the
+libraries that `rt ci` has built, as far as processors and memory are left; what it says comes after
+the trials. The last line sums the steps up, after the lines of the trials that were left out since
+a tool is not installed. If `rt ci` fails, nothing else counts or is run.
 """
 import contextlib, os, pathlib, re, resource, shutil, signal, subprocess, sys, tempfile, time
 
@@ -97,11 +97,10 @@ def main():
             if is_proved:
                 with contextlib.suppress(BrokenPipeError):
                     edits.stdin.close()
+                copy_tree(whole, copy)
+                for step in STEPS:
+                    counts.append(follow(begin([*WATCHED, "-m", step], copy), left_out))
                 counts.append(follow(edits, left_out))
-        if is_proved:
-            copy_tree(whole, copy)
-        for step in STEPS if is_proved else []:
-            counts.append(follow(begin([*WATCHED, "-m", step], copy), left_out))
     used = resource.getrusage(resource.RUSAGE_CHILDREN)
     print(f"The gate took {(time.monotonic() - began) / 60:.1f} min, and "
           f"{(used.ru_utime + used.ru_stime) / 60:.1f} min of processor time.")
