@@ -2,7 +2,7 @@ pub mod Same
 pub mod Chains
 pub mod WordTable
 pub mod CheckSteps
-pub mod Numerals
+pub mod Decimals
 pub mod LoadNumbers
 pub mod LoadReading
 pub mod Powers

@@ -7,9 +7,9 @@ use Rattle.std.proofs.lemmas.Slice.Eq.{bytes_eq-Decides}
 use Rattle.std.proofs.lemmas.Bool.{and_parts}
 use Rattle.std.proofs.lemmas.Option.{same_Some}
 use borrow.Author.Tests.{ltb-true, lt-ltb}
-use Rattle.rc_instr.specs.Digits.{read_on, NoDigitFirst}
-use Rattle.rc_instr.specs.LoadReaders.{digit_count, given, if_passes, short_number_at}
-use Rattle.rc_instr.proofs.Numerals.{decimal_front, decimal_value, back_digits, decimal_one}
+use Rattle.rc_instr.specs.Digits.{digits_len, read_on, NoDigitFirst}
+use Rattle.rc_instr.specs.LoadReaders.{given, if_passes, short_number_at}
+use Rattle.rc_instr.proofs.Decimals.{decimal_front, decimal_value, back_digits, decimal_one}
 
 -- a decimal is read
 pub short_front : (n : ℕ) (rest bs : List ℕ) → n < 2 ^ 16 → NoDigitFirst rest → bs ≡ decimal n ++ rest → short_number_at bs ≡ Some (n, rest)
@@ -33,7 +33,7 @@ kept false x bytes y rest e = absurd (cc)
 pub short_some : (bs : List ℕ) (n : ℕ) (rest : List ℕ) → short_number_at bs ≡ Some (n, rest) → IsShort bs n rest
 unfolding short_number_at
 short_some bs n rest e =
-    let k = digit_count bs in
+    let k = digits_len bs in
     let ds = take k bs in
     let v = read_on 0 ds in
     let p = kept (nat_lt v 65536 && bytes_eq ds (decimal v)) v (drop k bs) n rest e in

@@ -20,7 +20,7 @@ use Rattle.rc_instr.specs.declared.instruction.Mode.{Mode}
 use Rattle.rc_instr.specs.declared.instruction.Mode.TheVariants.{Immediate, Direct, AIndirect, BIndirect, APredecrement, BPredecrement, APostincrement, BPostincrement}
 use Rattle.rc_instr.proofs.LoadNumbers.{short_front, short_some, kept}
 use Rattle.rc_instr.proofs.CheckSteps.{at_most}
-use Rattle.rc_instr.proofs.Numerals.{decimal_first}
+use Rattle.rc_instr.proofs.Decimals.{decimal_first}
 use Rattle.rc_instr.proofs.WordTable.{found_word, opcode_found, modifier_word_is}
 
 -- a reader that goes on gave something first

@@ -1,9 +1,8 @@
 -- What the parts of a load file's bytes mean, read from the front.
-use Rattle.std.specs.Prelude.{ℕ, ◌-◌, ◌*◌, Bool, ◌&&◌, ◌==◌, nat_lt, nat_le, if◌then◌else◌, List, [], ◌∷◌, length, take, drop, take_while, Option, Some, None, option_map, option_and_then}
-use Rattle.std.specs.Char.{is_ascii_digit}
+use Rattle.std.specs.Prelude.{ℕ, ◌-◌, ◌*◌, ◌^◌, Bool, ◌&&◌, ◌==◌, nat_lt, nat_le, if◌then◌else◌, List, [], ◌∷◌, take, drop, Option, Some, None, option_map, option_and_then}
 use Rattle.std.specs.Fmt.{decimal}
 use Rattle.std.specs.Str.{byte, bytes_eq}
-use Rattle.rc_instr.specs.Digits.{read_on}
+use Rattle.rc_instr.specs.Digits.{digits_len, read_on}
 use Rattle.rc_instr.specs.Words.{opcode_of, modifier_of}
 use Rattle.rc_instr.specs.LoadText.{mode_of}
 use Rattle.rc_instr.specs.declared.instruction.Instruction.{Instruction}
@@ -53,17 +52,13 @@ unfoldable pub mode_at : Reader Mode
 mode_at [] = None
 mode_at (a ∷ rest) = given (mode_of (a ∷ [])) rest
 
--- The number of digits, if they are its decimal and it is below 65536.
+-- The number of digits, if they are its decimal and it is below 2 ^ 16.
 abbrev pub short_number : List ℕ → Option ℕ
-short_number digits = let n = read_on 0 digits in if nat_lt n 65536 && bytes_eq digits (decimal n) then Some n else None
-
--- How many digits are at the front.
-abbrev pub digit_count : List ℕ → ℕ
-digit_count bytes = length (take_while is_ascii_digit bytes)
+short_number digits = let n = read_on 0 digits in if nat_lt n (2 ^ 16) && bytes_eq digits (decimal n) then Some n else None
 
 -- All digits at the front are one decimal.
 unfoldable pub short_number_at : Reader ℕ
-short_number_at bytes = given (short_number (take (digit_count bytes) bytes)) (drop (digit_count bytes) bytes)
+short_number_at bytes = given (short_number (take (digits_len bytes) bytes)) (drop (digits_len bytes) bytes)
 
 -- The value, if it passes the test.
 abbrev pub if_passes : {A : Type 0} → Bool → A → Option A

@@ -1,9 +1,8 @@
 //! Decimals in texts: 0 to 4294967295 without leading zeros, or 1 to 9 digits with or without them.
-ghost use Rattle.std.specs.Prelude.{◌≡◌, ℕ, ◌<◌, ◌≤◌, ◌^◌, true, List, ◌++◌, length, IfSome, IsSomeAnd, Some, take_while};
-ghost use Rattle.std.specs.Char.{is_ascii_digit};
+ghost use Rattle.std.specs.Prelude.{◌≡◌, ℕ, ◌<◌, ◌≤◌, ◌^◌, true, List, ◌++◌, length, IfSome, IsSomeAnd, Some};
 ghost use Rattle.std.specs.Fmt.{decimal};
 ghost use Rattle.std.specs.Str.{all_ascii_digits};
-ghost use Rattle.rc_instr.specs.Digits.{NoDigitFirst, read_on};
+ghost use Rattle.rc_instr.specs.Digits.{NoDigitFirst, digits_len, read_on};
 ghost use Rattle.rc_instr.specs.Decimal.{padded_decimal};
 
 /// Reads the decimal at the front and returns its value and the rest of `bytes`.
@@ -12,11 +11,11 @@ ghost use Rattle.rc_instr.specs.Decimal.{padded_decimal};
 /// is 0, or if the value is above 4294967295.
 pub fn decimal_at(bytes: &[u8]) -> Option<(u32, &[u8])>
     ensures found { IfSome result (λ x. (bytes.now ≡ decimal x.0 ++ x.1.now) × (x.0 < 2 ^ 32)) }
-    ensures whole { IfSome result (λ x. NoDigitFirst x.1.now) }
+    ensures all_digits { IfSome result (λ x. NoDigitFirst x.1.now) }
     ensures only { (n : ℕ) (rest : List ℕ) → n < 2 ^ 32 → NoDigitFirst rest → bytes.now ≡ decimal n ++ rest
         → IsSomeAnd result (λ x. (x.0 ≡ n) × (x.1.now ≡ rest)) }
 {
-    let (digits, rest) = bytes.split_at(digit_count(bytes));
+    let (digits, rest) = bytes.split_at(digits_len(bytes));
     match digits_number(digits) {
         Some(number) => Some((number, rest)),
         None => None,
@@ -25,7 +24,7 @@ pub fn decimal_at(bytes: &[u8]) -> Option<(u32, &[u8])>
 
 /// Reads all of `bytes` as one decimal, 0 to 4294967295. A leading zero or any other byte gives
 /// `None`.
-#[tactic(auto, using(crate::proofs::Numerals::ends))]
+#[tactic(auto, using(crate::proofs::Decimals::ends))]
 pub fn decimal_of(bytes: &[u8]) -> Option<u32>
     ensures found { IfSome result (λ n. (bytes.now ≡ decimal n) × (n < 2 ^ 32)) }
     ensures only { (n : ℕ) → n < 2 ^ 32 → bytes.now ≡ decimal n → result ≡ Some n }
@@ -58,8 +57,8 @@ pub fn padded_decimal(digits: &[u8]) -> Option<u32>
 }
 
 // Counts the digits at the front.
-fn digit_count(bytes: &[u8]) -> usize
-    ensures { result ≡ length (take_while is_ascii_digit bytes.now) }
+fn digits_len(bytes: &[u8]) -> usize
+    ensures { result ≡ digits_len bytes.now }
 {
     bytes
         .iter()
@@ -81,7 +80,7 @@ fn digits_value(digits: &[u8]) -> u64
 }
 
 // Reads `digits` as a `u32`. A leading zero or a larger value gives `None`.
-#[tactic(auto, using(crate::proofs::Numerals::decimals))]
+#[tactic(auto, using(crate::proofs::Decimals::decimals))]
 fn digits_number(digits: &[u8]) -> Option<u32>
     requires { all_ascii_digits digits.now ≡ true }
     ensures found { IfSome result (λ n. (digits.now ≡ decimal n) × (n < 2 ^ 32)) }

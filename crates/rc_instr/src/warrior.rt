@@ -120,8 +120,8 @@ impl Warrior {
         }
     }
 
-    /// Checks the warrior against `rules`: its length, and that its numbers are below the core
-    /// size.
+    /// Returns whether the warrior fits `rules`: it is not longer than they allow, and its numbers
+    /// are below the core size.
     #[tactic(auto, using(crate::proofs::CheckSteps::all_below, crate::proofs::CheckSteps::below_all))]
     pub fn fits(&self, rules: &Rules) -> bool
         ensures { IsTrue result ↔ Fits rules.now self.now }
@@ -145,7 +145,7 @@ impl Warrior {
         self.start
     }
 
-    // Returns the first fault of `code` and `start` as those of a warrior, in the order of
+    // Returns why `code` and `start` do not make a warrior, if so: the first fault in the order of
     // `WarriorError`.
     #[tactic(auto, unfolding(crate::specs::Checks::warrior_of))]
     fn refusal_of(code: &[Instruction], start: u32, rules: &Rules) -> Option<WarriorError>
@@ -165,7 +165,7 @@ impl Warrior {
     }
 }
 
-// Checks that every A-number and B-number is below `core`.
+// Returns whether every A-number and B-number is below `core`.
 fn are_below(code: &[Instruction], core: u32) -> bool
     ensures { result ≡ list_all (is_below core) code.now }
 {

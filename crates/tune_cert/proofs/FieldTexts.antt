@@ -14,7 +14,7 @@ use Rattle.std.proofs.lemmas.Option.{same_Some}
 use Rattle.std.proofs.lemmas.Slice.Eq.{bytes_eq-Decides}
 use Rattle.mars_fight.specs.Play.{ArePoints}
 use Rattle.rc_instr.specs.Digits.{read_on}
-use Rattle.rc_instr.proofs.Numerals.{decimal_value, decimal_all, decimal_first}
+use Rattle.rc_instr.proofs.Decimals.{decimal_value, decimal_all, decimal_first}
 use Rattle.tune_cert.specs.CertText.{item_text, spaced_text, list_text}
 use Rattle.tune_cert.specs.Spelling.{IsVersion, IsItem, decimal_of, version_of, points_of, item_by, item_of, items_of, listing_of}
 

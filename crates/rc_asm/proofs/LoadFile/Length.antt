@@ -12,7 +12,7 @@ use Rattle.rc_instr.specs.declared.instruction.Modifier.{Modifier}
 use Rattle.rc_instr.specs.declared.instruction.Modifier.TheVariants as mod'
 use Rattle.rc_instr.specs.declared.instruction.Mode.{Mode}
 use Rattle.rc_instr.specs.declared.instruction.Instruction.{Instruction}
-use Rattle.rc_instr.proofs.Numerals.{decimal_five}
+use Rattle.rc_instr.proofs.Decimals.{decimal_five}
 use Rattle.rc_asm.specs.Limits.{MOST_BYTES}
 use Rattle.rc_asm.proofs.LoadFile.Rows.{opcode_length, mode_len, parts_of_line}
 use Rattle.rc_asm.proofs.LoadFile.NoHeader.{parts_of_start}

@@ -20,7 +20,7 @@ use Rattle.rc_instr.specs.declared.instruction.Modifier.TheVariants as mod'
 use Rattle.rc_instr.specs.declared.instruction.Mode.{Mode}
 use Rattle.rc_instr.specs.declared.instruction.Mode.TheVariants as mode
 use Rattle.rc_instr.specs.declared.instruction.Instruction.{Instruction}
-use Rattle.rc_instr.proofs.Numerals.{decimal_all}
+use Rattle.rc_instr.proofs.Decimals.{decimal_all}
 use Rattle.rc_asm.proofs.LoadFile.Pieces.{digit_bounds}
 use Rattle.rc_asm.proofs.LoadFile.Rows.{parts_of_line}
 

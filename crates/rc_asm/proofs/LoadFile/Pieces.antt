@@ -13,7 +13,7 @@ use Rattle.rc_text.specs.declared.lexeme.Lexeme.TheVariants.{Token as TokenOf}
 use Rattle.rc_text.specs.Bytes.{LINE_FEED, is_blank, begins_name, decimal_value}
 use Rattle.rc_text.specs.Tokens.{lexeme_of, number_lexeme, tokens_after, tokens_from, with_token, token_of}
 use Rattle.rc_instr.specs.Digits.{read_on, NoDigitFirst}
-use Rattle.rc_instr.proofs.Numerals.{decimal_some, decimal_all, decimal_value as decimal_is}
+use Rattle.rc_instr.proofs.Decimals.{decimal_some, decimal_all, decimal_value as decimal_is}
 
 -- the bytes that belong to a piece are passed over
 skip : (p rest : List ℕ) (at_line_start : Bool) (at line : ℕ) → tokens_from (p ++ rest) (length p) at_line_start at line ≡ tokens_from rest 0 at_line_start (at + length p) line

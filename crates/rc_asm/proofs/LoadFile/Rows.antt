@@ -21,7 +21,7 @@ use Rattle.rc_instr.specs.declared.instruction.Modifier.TheVariants as mod'
 use Rattle.rc_instr.specs.declared.instruction.Mode.{Mode}
 use Rattle.rc_instr.specs.declared.instruction.Mode.TheVariants as mode
 use Rattle.rc_instr.specs.declared.instruction.Instruction.{Instruction}
-use Rattle.rc_instr.proofs.Numerals.{decimal_some, decimal_all}
+use Rattle.rc_instr.proofs.Decimals.{decimal_some, decimal_all}
 use Rattle.rc_asm.proofs.LoadFile.Printed.{mode_sign, IsWord, AreNumber, Plain, Below, Row, row_tokens, IsPrinted}
 use Rattle.rc_asm.proofs.LoadFile.Pieces.{front, number_word, digit_bounds}
 

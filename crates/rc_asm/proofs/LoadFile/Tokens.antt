@@ -8,7 +8,7 @@ use Rattle.rc_text.specs.Tokens.{tokens_of, tokens_from, with_token, token_of}
 use Rattle.rc_instr.specs.LoadText.{line_text, start_text, load_text}
 use Rattle.rc_instr.specs.Warrior.{IsBelow, WarriorView}
 use Rattle.rc_instr.specs.declared.instruction.Instruction.{Instruction}
-use Rattle.rc_instr.proofs.Numerals.{decimal_some}
+use Rattle.rc_instr.proofs.Decimals.{decimal_some}
 use Rattle.rc_asm.proofs.LoadFile.Printed.{Row, Opening, Printed, ArePrinted, IsStart, IsPrint, row_tokens, rows_tokens, printed_tokens}
 use Rattle.rc_asm.proofs.LoadFile.Pieces.{front, number_word}
 use Rattle.rc_asm.proofs.LoadFile.Rows.{onto, IsAt, further, word_there, row_scan}

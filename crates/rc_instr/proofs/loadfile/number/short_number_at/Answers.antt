@@ -6,7 +6,7 @@ pub returns-in_err-number : goal.returns-in_err-number
 returns-in_err-number c = rw c.from_residual.ensures (short_none c.args.bytes.now (λ n rest l h e. c.in_err-number.ensures.only n rest (omega (arith, l)) h e))
 
 pub returns-then-number-gt65535 : goal.returns-then-number-gt65535
-returns-then-number-gt65535 c = no_short c.args.bytes.now c.in_ok-number.number c.in_ok-number.rest.now (omega (arith, c.in_ok-number.ensures.found.1)) (omega arith) c.in_ok-number.ensures.whole c.in_ok-number.ensures.found.0
+returns-then-number-gt65535 c = no_short c.args.bytes.now c.in_ok-number.number c.in_ok-number.rest.now (omega (arith, c.in_ok-number.ensures.found.1)) (omega arith) c.in_ok-number.ensures.all_digits c.in_ok-number.ensures.found.0
 
 pub returns : goal.returns
-returns c = short_front c.in_ok-number.number c.in_ok-number.rest.now c.args.bytes.now (omega arith) c.in_ok-number.ensures.whole c.in_ok-number.ensures.found.0
+returns c = short_front c.in_ok-number.number c.in_ok-number.rest.now c.args.bytes.now (omega arith) c.in_ok-number.ensures.all_digits c.in_ok-number.ensures.found.0
