@@ -17,9 +17,10 @@ first_of_further = 64
 abbrev pub first_of_modes : ℕ
 first_of_modes = 128
 
--- A class fits a byte. The values from 192 on are not classes.
-abbrev pub class_count : ℕ
-class_count = 256
+-- A class has 8 bits of a word, so it is below 256. There are 192 classes: the values from 192 on
+-- are not used.
+abbrev pub class_range : ℕ
+class_range = 256
 
 -- The modifier that pairs the same numbers: F in place of I.
 abbrev pub in_pairs : Modifier → Modifier

@@ -3,17 +3,16 @@
 --   bits   0 .. 2    3 .. 6   8 .. 10   11 .. 13   15     16 .. 31   32 .. 39   48 .. 63
 --          modifier  opcode   A-mode    B-mode     mark   A-number   class      B-number
 --
--- The other bits are 0. So a part is multiplied by 2 to the power of its first bit: the mark by
--- 32768, the A-number by 65536, the class by 4294967296, the B-number by 281474976710656.
-use Rattle.std.specs.Prelude.{ℕ, Bool, ◌+◌, ◌-◌, ◌*◌, ◌/◌, ◌%◌, ◌==◌}
+-- The other bits are 0. So a part is multiplied by 2 to the power of its first bit.
+use Rattle.std.specs.Prelude.{ℕ, Bool, ◌+◌, ◌-◌, ◌*◌, ◌/◌, ◌%◌, ◌^◌, ◌==◌}
 use Rattle.rc_instr.specs.Instruction.{empty_cell}
 use Rattle.rc_instr.specs.declared.instruction.Instruction.{Instruction}
-use Rattle.mars_core.specs.Classes.{class_count, key_of, class_of, IsClassOf}
+use Rattle.mars_core.specs.Classes.{class_range, key_of, class_of, IsClassOf}
 use Rattle.mars_core.specs.Codes.{opcode_of, modifier_of, mode_of}
 
 -- The word of an instruction, without a mark.
 unfoldable pub packed : Instruction → ℕ
-packed i = key_of i + 65536 * i.a_number + 4294967296 * class_of i + 281474976710656 * i.b_number
+packed i = key_of i + 2 ^ 16 * i.a_number + 2 ^ 32 * class_of i + 2 ^ 48 * i.b_number
 
 -- The instruction of a word.
 unfoldable pub unpacked : ℕ → Instruction
@@ -21,14 +20,14 @@ unpacked w = record {
   opcode = opcode_of (w / 8 % 16);
   modifier = modifier_of (w % 8);
   a_mode = mode_of (w / 256 % 8);
-  a_number = w / 65536 % 65536;
+  a_number = w / 2 ^ 16 % 2 ^ 16;
   b_mode = mode_of (w / 2048 % 8);
-  b_number = w / 281474976710656;
+  b_number = w / 2 ^ 48;
 }
 
 -- The class that a word keeps.
 abbrev pub class_in : ℕ → ℕ
-class_in w = w / 4294967296 % class_count
+class_in w = w / 2 ^ 32 % class_range
 
 -- What the class in a word says of its instruction is true.
 pub record IsClassed (w : ℕ) : Type 0 where
@@ -36,11 +35,11 @@ pub record IsClassed (w : ℕ) : Type 0 where
 
 -- 1 if the word is marked, else 0.
 unfoldable pub mark_of : ℕ → ℕ
-mark_of w = w / 32768 % 2
+mark_of w = w / 2 ^ 15 % 2
 
 -- The word with a mark.
 unfoldable pub marked : ℕ → ℕ
-marked w = w + 32768 * (1 - mark_of w)
+marked w = w + 2 ^ 15 * (1 - mark_of w)
 
 abbrev pub is_marked : ℕ → Bool
 is_marked w = mark_of w == 1

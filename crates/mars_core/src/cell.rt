@@ -57,12 +57,12 @@ pub trait Cell: Copy {
         requires { number < 65536 }
         ensures { held result ≡ with_field field number (held self) };
 
-    /// Checks whether both cells hold the same instruction.
+    /// Returns whether both cells hold the same instruction.
     fn is_same(self, other: Self) -> bool
         ensures { result ≡ same_instruction (held self) (held other) };
 
-    /// Checks whether both cells are stored alike: the same instruction and, if packed, the same
-    /// mark and class.
+    /// Compares how the cells are stored, if packed with mark and class. `true` promises that they
+    /// hold the same instruction; `false` promises nothing.
     fn is_identical(self, other: Self) -> bool
         ensures { result ≡ true → held self ≡ held other };
 }

@@ -1,7 +1,7 @@
 //! Classes of instructions: 128 frequent ones, and one for each pair of modes. classes.py writes
 //! the tables.
 ghost use Rattle.std.specs.Prelude.{◌≡◌, ◌<◌};
-ghost use Rattle.mars_core.specs.Classes.{class_count, class_of_key, class_from_32, class_from_64, class_from_96};
+ghost use Rattle.mars_core.specs.Classes.{class_range, class_of_key, class_from_32, class_from_64, class_from_96};
 
 // Classes below this one are the most frequent instructions.
 pub(crate) const FIRST_OF_FURTHER: u64 = 64;
@@ -9,8 +9,9 @@ pub(crate) const FIRST_OF_FURTHER: u64 = 64;
 // Classes below this one are frequent instructions; the others say modes, and nothing else.
 pub(crate) const FIRST_OF_MODES: u64 = 128;
 
-// A class fits a byte. The values from 192 on are not classes.
-pub(crate) const CLASS_COUNT: u64 = 256;
+// A class has 8 bits of a word, so it is below 256. There are 192 classes: the values from 192 on
+// are not used.
+pub(crate) const CLASS_RANGE: u64 = 256;
 
 // Returns the class of a key.
 #[inline]
@@ -18,7 +19,7 @@ pub(crate) const CLASS_COUNT: u64 = 256;
 pub(crate) fn class_of_key(key: u64) -> u64
     requires { key < 16384 }
     ensures value { result ≡ class_of_key key }
-    ensures small { result < class_count }
+    ensures small { result < class_range }
 {
     match key {
         // table of keys from 0
@@ -59,12 +60,12 @@ pub(crate) fn class_of_key(key: u64) -> u64
     }
 }
 
-// Returns the class of a key that is none of the first 32.
+// Returns the class of a key that is not one of the first 32 of classes.txt.
 #[tactic(auto, unfolding(crate::specs::Classes::class_from_32))]
 fn class_from_32(key: u64) -> u64
     requires { key < 16384 }
     ensures value { result ≡ class_from_32 key }
-    ensures small { result < class_count }
+    ensures small { result < class_range }
 {
     match key {
         // table of keys from 32
@@ -105,12 +106,12 @@ fn class_from_32(key: u64) -> u64
     }
 }
 
-// Returns the class of a key that is none of the first 64.
+// Returns the class of a key that is not one of the first 64 of classes.txt.
 #[tactic(auto, unfolding(crate::specs::Classes::class_from_64))]
 fn class_from_64(key: u64) -> u64
     requires { key < 16384 }
     ensures value { result ≡ class_from_64 key }
-    ensures small { result < class_count }
+    ensures small { result < class_range }
 {
     match key {
         // table of keys from 64
@@ -151,13 +152,13 @@ fn class_from_64(key: u64) -> u64
     }
 }
 
-// Returns the class of a key that is none of the first 96. A key of no frequent instruction leads
-// to the class of its modes.
+// Returns the class of a key that is not one of the first 96 of classes.txt. If the instruction is
+// not a frequent one, the class is that of its modes.
 #[tactic(auto, unfolding(crate::specs::Classes::class_from_96))]
 fn class_from_96(key: u64) -> u64
     requires { key < 16384 }
     ensures value { result ≡ class_from_96 key }
-    ensures small { result < class_count }
+    ensures small { result < class_range }
 {
     match key {
         // table of keys from 96

@@ -5,15 +5,16 @@ ghost use Rattle.mars_core.specs.Classes.{key_of, canonical};
 ghost use Rattle.mars_core.specs.Packed.{IsClassed, packed, unpacked, is_marked, marked, empty_word};
 
 use crate::cell::Cell;
-use crate::classes::{CLASS_COUNT, class_of_key};
+use crate::classes::{CLASS_RANGE, class_of_key};
 use crate::codes::{
     CODE_COUNT, mode_code, mode_from, modifier_code, modifier_from, opcode_code, opcode_from,
 };
 use crate::number::Field;
 use rc_instr::{Instruction, Modifier, Opcode};
 
-// What the parts of a word are multiplied by: the mark, the A-number, the class and the B-number.
-// Below the mark are the modifier, the opcode and the modes (specs/Packed.antt has the table).
+// What the parts of a word are multiplied by: the mark by 2^15, the A-number by 2^16, the class by
+// 2^32 and the B-number by 2^48. Below the mark are the modifier, the opcode and the modes
+// (specs/Packed.antt has the table).
 const MARK: u64 = 32768;
 
 const A_NUMBER: u64 = 65536;
@@ -92,7 +93,7 @@ impl PackedCell {
         }
     }
 
-    // Checks whether the cell has a mark.
+    // Returns whether the cell has a mark.
     #[tactic(auto, unfolding(crate::specs::Packed::mark_of))]
     #[inline]
     pub(crate) fn is_marked(self) -> bool
@@ -128,7 +129,7 @@ impl Cell for PackedCell {
 
     #[inline]
     fn class(self) -> u64 {
-        self.word / CLASS % CLASS_COUNT
+        self.word / CLASS % CLASS_RANGE
     }
 
     #[tactic(auto, using(crate::proofs::Packing::code), unfolding(crate::specs::Packed::unpacked))]

@@ -107,7 +107,7 @@ pub(crate) fn count_down<K: Cell>(modifier: Modifier, size: u32, target: K) -> K
     }
 }
 
-// Checks whether some A-value is 0, in which case DIV and MOD end the task.
+// Returns whether some A-value is 0, in which case DIV and MOD end the task.
 #[tactic(auto, unfolding(crate::specs::Pairs::has_zero_divisor))]
 #[inline(always)]
 pub(crate) fn divides_by_zero<K: Cell>(modifier: Modifier, a: K) -> bool
@@ -120,7 +120,7 @@ pub(crate) fn divides_by_zero<K: Cell>(modifier: Modifier, a: K) -> bool
     }
 }
 
-// Checks whether all numbers that JMZ, JMN or DJN tests are `n`.
+// Returns whether all numbers that JMZ, JMN or DJN tests are `n`.
 #[tactic(auto, unfolding(crate::specs::Pairs::all_are))]
 #[inline(always)]
 pub(crate) fn all_tested_are<K: Cell>(modifier: Modifier, n: u32, b: K) -> bool
@@ -133,7 +133,7 @@ pub(crate) fn all_tested_are<K: Cell>(modifier: Modifier, n: u32, b: K) -> bool
     }
 }
 
-// Checks whether the values of every pair are equal; with I, whether the instructions are.
+// Returns whether the values of every pair are equal; with I, whether the instructions are.
 #[tactic(auto, unfolding(crate::specs::Pairs::are_equal))]
 #[inline(always)]
 pub(crate) fn all_equal<K: Cell>(modifier: Modifier, a: K, b: K) -> bool
@@ -150,7 +150,7 @@ pub(crate) fn all_equal<K: Cell>(modifier: Modifier, a: K, b: K) -> bool
     }
 }
 
-// Checks whether every A-value is less than its B-value.
+// Returns whether every A-value is less than its B-value.
 #[tactic(auto, unfolding(crate::specs::Pairs::are_less))]
 #[inline(always)]
 pub(crate) fn all_less<K: Cell>(modifier: Modifier, a: K, b: K) -> bool

@@ -20,7 +20,7 @@ pub trait Tasks: Drop {
         requires { capacity ≤ 65535 }
         ensures { IfOk result (λ t. held t ≡ queue [] capacity) };
 
-    /// Checks whether there is no task.
+    /// Returns whether there is no task.
     fn is_empty(&self) -> bool
         ensures { result ≡ (length (held self.now).items == 0) };
 
@@ -92,7 +92,7 @@ pub(crate) fn task_at<Q: Tasks>(tasks: &Q, index: usize) -> u16
     tasks.get(index).unwrap_or(0)
 }
 
-// Checks whether two queues have the same tasks.
+// Returns whether two queues have the same tasks.
 pub(crate) fn have_same_tasks<Q: Tasks>(one: &Q, other: &Q) -> bool
     ensures same { result ≡ true → (Q.held one.now).items ≡ (Q.held other.now).items }
     ensures found { (Q.held one.now).items ≡ (Q.held other.now).items → result ≡ true }
