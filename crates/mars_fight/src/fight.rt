@@ -26,8 +26,8 @@ pub struct Fight {
 }
 
 impl Fight {
-    // Checks that the opponent exists, that the position keeps the distance, and that the weight is
-    // from 1 to `MOST_WEIGHT`.
+    // Returns whether the opponent exists, the position keeps the distance, and the weight is from
+    // 1 to `MOST_WEIGHT`.
     pub(crate) fn is_fight(&self, rules: &Rules, opponents: u32) -> bool
         ensures { IsTrue result ↔ IsFight rules.now opponents self.now }
     {
@@ -64,14 +64,14 @@ pub fn play<C: Cells>(
     outcome.points
 }
 
-/// Checks that `position` is far enough from the candidate at 0, both ways round the core.
+/// Returns whether `position` is far enough from the candidate at 0, both ways round the core.
 pub fn keeps_distance(rules: &Rules, position: u32) -> bool
     ensures { IsTrue result ↔ IsPosition rules.now position }
 {
     rules.distance() <= position && position <= rules.core() - rules.distance()
 }
 
-// Checks that `weight` is from 1 to `MOST_WEIGHT`.
+// Returns whether `weight` is from 1 to `MOST_WEIGHT`.
 pub(crate) fn is_weight(weight: u32) -> bool
     ensures { IsTrue result ↔ IsWeight weight }
 {

@@ -1,8 +1,8 @@
 //! The limits of a schedule, named as in `specs/Limits.antt`. Code writes `limits::NAME`, so that a
 //! bare NAME in a clause is the definition.
 
-// The fights of a schedule.
+// The most fights of a schedule.
 pub(crate) const MOST_FIGHTS: usize = 10_000;
 
-// The weight of a fight.
+// The greatest weight of a fight.
 pub(crate) const MOST_WEIGHT: u32 = 1000;

@@ -39,7 +39,7 @@ pub(crate) fn read_columns(fields: &ByteRecord) -> Option<Columns>
     }
 }
 
-// Checks the names of the first three fields.
+// Returns whether the first three fields have the names of a header.
 fn begins_header(opponent: &[u8], position: &[u8], first: &[u8]) -> bool
     ensures { result ≡ begins_header opponent.now position.now first.now }
 {

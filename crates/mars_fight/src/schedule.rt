@@ -81,8 +81,8 @@ impl Schedule {
         self.fights.as_slice()
     }
 
-    /// Checks that every fight's opponent is one of `opponents`, that its position is at least the
-    /// distance of the rules and at most the core size minus the distance, and that its weight is
+    /// Returns whether in every fight the opponent is one of `opponents`, the position is at least
+    /// the distance of the rules and at most the core size minus the distance, and the weight is
     /// from 1 to 1000.
     pub fn fits(&self, rules: &Rules, opponents: u32) -> bool
         ensures { IsTrue result ↔ All (IsFight rules.now opponents) self.now }
@@ -92,7 +92,7 @@ impl Schedule {
             .all(|fight| fight.is_fight(rules, opponents))
     }
 
-    /// Checks that every fight has the weight 1.
+    /// Returns whether every fight has the weight 1.
     pub fn plain(&self) -> bool
         ensures { IsTrue result ↔ IsPlain self.now }
     {
