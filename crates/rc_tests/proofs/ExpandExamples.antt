@@ -3,7 +3,7 @@ use Rattle.std.specs.Prelude.{◌≡◌, refl, ℕ, List, [], ◌∷◌, ◌++�
 use Rattle.std.specs.Result.{result_ok}
 use Rattle.rc_text.specs.Reading.{before_operand, after_operand}
 use Rattle.rc_text.specs.declared.token.Sign.TheVariants.{Hash, Comma, Plus, Star}
-use Rattle.rc_text.specs.Symbols.{Symbol, Identifier, Numeral, Mark, name_of, symbols_of}
+use Rattle.rc_text.specs.Symbols.{Symbol, Identifier, Decimal, Mark, name_of, symbols_of}
 use Rattle.rc_instr.specs.Rules.{rules_view}
 use Rattle.rc_expand.specs.declared.line.Line.{Line}
 use Rattle.rc_text.specs.NameClasses.{is_opcode_word}
@@ -44,15 +44,15 @@ has_lines ls = is_some (lines_of (text_of ls))
 -- A counter is joined to a name, and becomes a number elsewhere.
 copies_of_a_line : shown_lines (codes "i FOR 2" ∷ codes "x&i DAT #i" ∷ codes "ROF" ∷ codes "JMP x01" ∷ [])
     ≡ Some (
-    shown (codes "x01" ∷ []) (Identifier (codes "DAT") ∷ Mark Hash ∷ Numeral 1 ∷ [])
-    ∷ shown (codes "x02" ∷ []) (Identifier (codes "DAT") ∷ Mark Hash ∷ Numeral 2 ∷ [])
+    shown (codes "x01" ∷ []) (Identifier (codes "DAT") ∷ Mark Hash ∷ Decimal 1 ∷ [])
+    ∷ shown (codes "x02" ∷ []) (Identifier (codes "DAT") ∷ Mark Hash ∷ Decimal 2 ∷ [])
     ∷ shown [] (Identifier (codes "JMP") ∷ Identifier (codes "x01") ∷ []) ∷ [])
 unfolding expansion_of first_pass equs_of line_of replaced unrolled given_names is_taken count_of opening copied_line replaced_tokens is_free is_opcode word_of_name raw_line_of is_opcode_word before_operand after_operand
 copies_of_a_line = refl
 
 -- An EQU name stands for tokens, not for a value.
 tokens_in_place : shown_lines (codes "s EQU 2+3" ∷ codes "DAT #0, #s*2" ∷ [])
-    ≡ Some (shown [] (Identifier (codes "DAT") ∷ Mark Hash ∷ Numeral 0 ∷ Mark Comma ∷ Mark Hash ∷ Numeral 2 ∷ Mark Plus ∷ Numeral 3 ∷ Mark Star ∷ Numeral 2 ∷ []) ∷ [])
+    ≡ Some (shown [] (Identifier (codes "DAT") ∷ Mark Hash ∷ Decimal 0 ∷ Mark Comma ∷ Mark Hash ∷ Decimal 2 ∷ Mark Plus ∷ Decimal 3 ∷ Mark Star ∷ Decimal 2 ∷ []) ∷ [])
 unfolding expansion_of first_pass equs_of line_of replaced unrolled given_names is_taken count_of opening copied_line replaced_tokens is_free is_opcode word_of_name raw_line_of is_opcode_word before_operand after_operand
 tokens_in_place = refl
 
@@ -64,7 +64,7 @@ nested_blocks = refl
 
 -- A joined name that spells the counter of an inner block is that counter.
 joined_counter : shown_lines (codes "i FOR 1" ∷ codes "x01 FOR 2" ∷ codes "DAT x&i" ∷ codes "ROF" ∷ codes "ROF" ∷ [])
-    ≡ Some (shown [] (Identifier (codes "DAT") ∷ Numeral 1 ∷ []) ∷ shown [] (Identifier (codes "DAT") ∷ Numeral 2 ∷ []) ∷ [])
+    ≡ Some (shown [] (Identifier (codes "DAT") ∷ Decimal 1 ∷ []) ∷ shown [] (Identifier (codes "DAT") ∷ Decimal 2 ∷ []) ∷ [])
 unfolding expansion_of first_pass equs_of line_of replaced unrolled given_names is_taken count_of opening copied_line replaced_tokens is_free is_opcode word_of_name raw_line_of is_opcode_word before_operand after_operand
 joined_counter = refl
 

@@ -7,7 +7,7 @@ use Rattle.rc_text.specs.declared.token.Sign.{Sign}
 use Rattle.rc_text.specs.declared.token.Sign.TheVariants.{Open, Close}
 use Rattle.rc_text.specs.declared.fault.EvalFault.{EvalFault}
 use Rattle.rc_text.specs.declared.fault.EvalFault.TheVariants.{Syntax, TooDeep}
-use Rattle.rc_text.specs.Symbols.{Symbol, Numeral, Identifier, Mark, Foreign}
+use Rattle.rc_text.specs.Symbols.{Symbol, Decimal, Identifier, Mark, Foreign}
 use Rattle.rc_text.specs.Grammar.{spelling_of, LOOSEST_LEVEL, level_of, is_prefix, depth_of}
 use Rattle.rc_text.specs.Values.{DEEPEST, opens_too_many, HasNoTree}
 use Rattle.rc_text.specs.Reading.{Algebra, Frame, Paren, Before, Left, open_count, Continuation, reduction, at_bottom, at_paren, is_close, is_open, before_operand, after_operand}
@@ -73,7 +73,7 @@ module _ {A : Type 0} (m : Algebra A) where
     -- opened
     pub before_too_deep : (ws : List Symbol) (S : List (Frame A)) → m.limit ≡ DEEPEST → before_operand m ws S ≡ Err TooDeep → opens_too_many (open_count S) ws ≡ true
     before_too_deep [] S l h = cc
-    before_too_deep (Numeral n ∷ ws) S l h = after_too_deep ws (m.literal n) S l h
+    before_too_deep (Decimal n ∷ ws) S l h = after_too_deep ws (m.literal n) S l h
     before_too_deep (Identifier n ∷ ws) S l h = after_too_deep ws (m.named n) S l h
     before_too_deep (Mark s ∷ ws) S l h =
         elim (chosen (is_open s) _ _ (Err TooDeep) h) [
@@ -104,7 +104,7 @@ module _ {A : Type 0} (m : Algebra A) where
             | inr (not, f) ↦ cc
           ]
         ]
-    after_too_deep (Numeral n ∷ ws) x S l h = cc
+    after_too_deep (Decimal n ∷ ws) x S l h = cc
     after_too_deep (Identifier n ∷ ws) x S l h = cc
     after_too_deep (Foreign ∷ ws) x S l h = cc
 
@@ -141,7 +141,7 @@ module _ {A : Type 0} (m : Algebra A) where
     -- reading ends in no other fault
     pub before_ends : (ws : List Symbol) (S : List (Frame A)) (e : EvalFault) → before_operand m ws S ≡ Err e → EndsReading e
     before_ends [] S e h = ends Syntax e (Err Syntax) tt refl h
-    before_ends (Numeral n ∷ ws) S e h = after_ends ws (m.literal n) S e h
+    before_ends (Decimal n ∷ ws) S e h = after_ends ws (m.literal n) S e h
     before_ends (Identifier n ∷ ws) S e h = after_ends ws (m.named n) S e h
     before_ends (Mark s ∷ ws) S e h =
         elim (chosen (is_open s) _ _ (Err e) h) [
@@ -167,7 +167,7 @@ module _ {A : Type 0} (m : Algebra A) where
             | inr (not, f) ↦ ends Syntax e (Err Syntax) tt refl f
           ]
         ]
-    after_ends (Numeral n ∷ ws) x S e h = ends Syntax e (Err Syntax) tt refl h
+    after_ends (Decimal n ∷ ws) x S e h = ends Syntax e (Err Syntax) tt refl h
     after_ends (Identifier n ∷ ws) x S e h = ends Syntax e (Err Syntax) tt refl h
     after_ends (Foreign ∷ ws) x S e h = ends Syntax e (Err Syntax) tt refl h
 
@@ -205,7 +205,7 @@ module _ {A : Type 0} (m : Algebra A) (limit : ℕ) (wider : m.limit ≤ limit) 
     -- a fault of the grammar is one also where more parentheses may be open
     pub before_syntax : (ws : List Symbol) (S : List (Frame A)) → before_operand m ws S ≡ Err Syntax → before_operand (widened m limit) ws S ≡ Err Syntax
     before_syntax [] S h = refl
-    before_syntax (Numeral n ∷ ws) S h = after_syntax ws (m.literal n) S h
+    before_syntax (Decimal n ∷ ws) S h = after_syntax ws (m.literal n) S h
     before_syntax (Identifier n ∷ ws) S h = after_syntax ws (m.named n) S h
     before_syntax (Mark s ∷ ws) S h =
         elim (chosen (is_open s) _ _ (Err Syntax) h) [
@@ -231,7 +231,7 @@ module _ {A : Type 0} (m : Algebra A) (limit : ℕ) (wider : m.limit ≤ limit) 
             | inr (not, f) ↦ rw (off, not) refl
           ]
         ]
-    after_syntax (Numeral n ∷ ws) x S h = refl
+    after_syntax (Decimal n ∷ ws) x S h = refl
     after_syntax (Identifier n ∷ ws) x S h = refl
     after_syntax (Foreign ∷ ws) x S h = refl
 

@@ -3,7 +3,7 @@ use Rattle.std.proofs.Common.{◌≡◌, ℕ, suc, ◌+◌, ◌≤◌, ◌<◌, 
 use Rattle.std.proofs.lemmas.Bool.Decides.{nat_tests}
 use Rattle.rc_text.specs.declared.token.Sign.{Sign}
 use Rattle.rc_text.specs.declared.token.Sign.TheVariants.{Open, Close, Plus, Minus, Star, Slash, Percent, Less, Greater, LessEqual, GreaterEqual, Equal, NotEqual, And, Or}
-use Rattle.rc_text.specs.Symbols.{Symbol, Numeral, Identifier, Mark, Foreign}
+use Rattle.rc_text.specs.Symbols.{Symbol, Decimal, Identifier, Mark, Foreign}
 use Rattle.rc_text.specs.Grammar.{Tree, Literal, Named, Group, Prefix, Infix, spelling_of, LOOSEST_LEVEL, OPERAND_LEVEL, level_of, is_prefix, tightness, IsGrammatical, depth_of}
 use Rattle.rc_text.specs.Reading.{Algebra, Frame, Paren, Before, Left, open_count, Continuation, reduction, at_bottom, at_paren, is_close, is_open, before_operand, after_operand, FitsFrames, Stops}
 
@@ -19,7 +19,7 @@ meaning_in m (Infix a s b) = m.infix' (meaning_in m a) s (meaning_in m b)
 pub stops_more : (n m : ℕ) (k : List Symbol) → n ≤ m → Stops n k → Stops m k
 stops_more n m [] le h = tt
 stops_more n m (Mark s ∷ ws) le h = omega arith
-stops_more n m (Numeral v ∷ ws) le h = tt
+stops_more n m (Decimal v ∷ ws) le h = tt
 stops_more n m (Identifier v ∷ ws) le h = tt
 stops_more n m (Foreign ∷ ws) le h = tt
 
@@ -74,7 +74,7 @@ module _ {A : Type 0} (m : Algebra A) where
   unfolding after_operand before_operand
   after_before [] x s S = refl
   after_before (Mark r ∷ ws) x s S = refl
-  after_before (Numeral n ∷ ws) x s S = refl
+  after_before (Decimal n ∷ ws) x s S = refl
   after_before (Identifier n ∷ ws) x s S = refl
   after_before (Foreign ∷ ws) x s S = refl
 
@@ -86,7 +86,7 @@ module _ {A : Type 0} (m : Algebra A) where
       let in_parens = reduction_left LOOSEST_LEVEL (at_paren m (after_operand m ws)) x l s S (omega arith) in
       let in_operator = reduction_left (level_of r) (λ y T. before_operand m ws (Left y r ∷ T)) x l s S (omega arith) in
       rw (in_parens, in_operator) refl
-  after_left (Numeral n ∷ ws) x l s S h stops = refl
+  after_left (Decimal n ∷ ws) x l s S h stops = refl
   after_left (Identifier n ∷ ws) x l s S h stops = refl
   after_left (Foreign ∷ ws) x l s S h stops = refl
 

@@ -11,7 +11,7 @@ use Rattle.rc_text.specs.declared.token.Kind.TheVariants.{Name, Number, Sign as 
 use Rattle.rc_text.specs.declared.token.Token.{Token}
 use Rattle.rc_text.specs.declared.fault.EvalFault.{EvalFault}
 use Rattle.rc_text.specs.declared.fault.EvalFault.TheVariants.{Syntax, TooDeep}
-use Rattle.rc_text.specs.Symbols.{Symbol, Numeral, Identifier, Mark, Foreign, symbol_of, symbols_of, symbol_of_kind, name_of}
+use Rattle.rc_text.specs.Symbols.{Symbol, Decimal, Identifier, Mark, Foreign, symbol_of, symbols_of, symbol_of_kind, name_of}
 use Rattle.rc_text.specs.Grammar.{LOOSEST_LEVEL, OPERAND_LEVEL, level_of, is_prefix}
 use Rattle.rc_text.specs.Values.{Meaning, Outcome, name_outcome, prefix_outcome, infix_outcome, DEEPEST}
 use Rattle.rc_text.specs.Reading.{Frame, Paren, Before, Left, open_count, is_open, before_operand, after_operand, FitsFrames, Stops, ReadsOperand, RefusesOperand, BeginsWithoutClose, values, is_prefix_kind, signed_by, signed_outcome}
@@ -19,7 +19,7 @@ use Rattle.rc_text.proofs.ReadTrees.{after_before, after_left, after_operator, n
 
 module _ (names : Meaning) (depth : ℕ) where
   -- a number is read
-  pub number_read : (n : ℕ) (ws : List Symbol) → ReadsOperand names OPERAND_LEVEL depth (Numeral n ∷ ws) (Ok (pos n)) ws
+  pub number_read : (n : ℕ) (ws : List Symbol) → ReadsOperand names OPERAND_LEVEL depth (Decimal n ∷ ws) (Ok (pos n)) ws
   unfolding before_operand after_operand
   number_read n ws S b o = refl
 
@@ -99,7 +99,7 @@ module _ (names : Meaning) (depth : ℕ) where
   unfolding before_operand after_operand
   stuck [] x S stops not_close = refl
   stuck (Mark s ∷ ws) x S stops not_close = let e : nat_lt 0 (level_of s) ≡ false = grind (arith, nat_tests) in rw (not_close, e) refl
-  stuck (Numeral n ∷ ws) x S stops not_close = refl
+  stuck (Decimal n ∷ ws) x S stops not_close = refl
   stuck (Identifier n ∷ ws) x S stops not_close = refl
   stuck (Foreign ∷ ws) x S stops not_close = refl
 

@@ -6,7 +6,7 @@ use Rattle.std.proofs.lemmas.Bool.Decides.{nat_tests}
 use Rattle.rc_text.specs.declared.token.Sign.{Sign}
 use Rattle.rc_text.specs.declared.token.Sign.TheVariants.{Open, Close}
 use Rattle.rc_text.specs.declared.fault.EvalFault.{EvalFault}
-use Rattle.rc_text.specs.Symbols.{Symbol, Numeral, Identifier, Mark, Foreign}
+use Rattle.rc_text.specs.Symbols.{Symbol, Decimal, Identifier, Mark, Foreign}
 use Rattle.rc_text.specs.Grammar.{Tree, Literal, Named, Group, Prefix, Infix, spelling_of, LOOSEST_LEVEL, PREFIX_LEVEL, level_of, is_prefix, tightness, IsGrammatical, depth_of}
 use Rattle.rc_text.specs.Reading.{Algebra, Frame, Paren, Before, Left, open_count, Continuation, reduction, at_bottom, at_paren, is_close, is_open, before_operand, after_operand, FitsFrames}
 use Rattle.rc_text.proofs.ReadTrees.{meaning_in, below_more, level_le_6}
@@ -139,7 +139,7 @@ module _ {A : Type 0} (m : Algebra A) where
     -- where an operand has to come
     pub whole_before : (ws : List Symbol) (y : A) {T : List (Frame Tree)} {S : List (Frame A)} → Stand m T S → open_count S ≤ m.limit → before_operand m ws S ≡ Ok y → Whole m (before T ++ ws) y
     whole_before [] y stand room h = cc
-    whole_before (Numeral n ∷ ws) y {T} {S} stand room h =
+    whole_before (Decimal n ∷ ws) y {T} {S} stand room h =
         whole_after ws y (Literal n) (m.literal n) stand (record { grammatical = tt; value = refl; room = omega arith }) (omega arith) h
     whole_before (Identifier n ∷ ws) y {T} {S} stand room h =
         whole_after ws y (Named n) (m.named n) stand (record { grammatical = tt; value = refl; room = omega arith }) (omega arith) h
@@ -179,6 +179,6 @@ module _ {A : Type 0} (m : Algebra A) where
             | inr (not, f) ↦ cc
           ]
         ]
-    whole_after (Numeral n ∷ ws) y t x stand means tight h = cc
+    whole_after (Decimal n ∷ ws) y t x stand means tight h = cc
     whole_after (Identifier n ∷ ws) y t x stand means tight h = cc
     whole_after (Foreign ∷ ws) y t x stand means tight h = cc

@@ -5,7 +5,7 @@ use Rattle.std.proofs.lemmas.Bool.Decides.{nat_tests}
 use Rattle.rc_text.specs.declared.token.Token.{Token}
 use Rattle.rc_text.specs.declared.fault.EvalFault.{EvalFault}
 use Rattle.rc_text.specs.declared.fault.EvalFault.TheVariants.{Syntax}
-use Rattle.rc_text.specs.Symbols.{Symbol, Numeral, Identifier, Mark, Foreign, symbol_of, symbols_of}
+use Rattle.rc_text.specs.Symbols.{Symbol, Decimal, Identifier, Mark, Foreign, symbol_of, symbols_of}
 use Rattle.rc_text.specs.Grammar.{LOOSEST_LEVEL, level_of}
 use Rattle.rc_text.specs.Values.{Meaning, Outcome, DEEPEST}
 use Rattle.rc_text.specs.Reading.{Left, is_close, before_operand, after_operand, Stops, ReadsOperand, RefusesOperand, values}
@@ -16,7 +16,7 @@ unfolding before_operand after_operand
 over names [] x stops h = absurd (omega arith)
 over names (Mark s ∷ ws) x stops h = let e : nat_lt 0 (level_of s) ≡ false = grind (arith, nat_tests) in
     elim (is_close s) as (λ c. (cond c (Err Syntax) (cond (nat_lt 0 (level_of s)) (before_operand (values names DEEPEST) ws (Left x s ∷ [])) (Err Syntax))) ≡ Err Syntax) [ true ↦ refl | false ↦ rw e refl ]
-over names (Numeral n ∷ ws) x stops h = refl
+over names (Decimal n ∷ ws) x stops h = refl
 over names (Identifier n ∷ ws) x stops h = refl
 over names (Foreign ∷ ws) x stops h = refl
 

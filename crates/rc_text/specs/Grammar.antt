@@ -2,7 +2,7 @@
 use Rattle.std.specs.Prelude.{ℕ, suc, ◌≤◌, ◌<◌, max, Bool, true, false, List, [], ◌∷◌, ◌++◌, IsTrue}
 use Rattle.rc_text.specs.declared.token.Sign.{Sign}
 use Rattle.rc_text.specs.declared.token.Sign.TheVariants.{Open, Close, Plus, Minus, Star, Slash, Percent, Bang, Less, Greater, LessEqual, GreaterEqual, Equal, NotEqual, And, Or}
-use Rattle.rc_text.specs.Symbols.{Symbol, Numeral, Identifier, Mark}
+use Rattle.rc_text.specs.Symbols.{Symbol, Decimal, Identifier, Mark}
 
 -- An expression: a decimal, a name, an expression in parentheses, a prefix operator and its
 -- operand, or an infix operator between its two operands.
@@ -15,7 +15,7 @@ pub data Tree : Type 0 where
 
 -- The symbols of a tree, from the left.
 abbrev pub spelling_of : Tree → List Symbol
-spelling_of (Literal n) = Numeral n ∷ []
+spelling_of (Literal n) = Decimal n ∷ []
 spelling_of (Named name) = Identifier name ∷ []
 spelling_of (Group t) = Mark Open ∷ (spelling_of t ++ Mark Close ∷ [])
 spelling_of (Prefix s t) = Mark s ∷ spelling_of t

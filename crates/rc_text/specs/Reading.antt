@@ -11,7 +11,7 @@ use Rattle.rc_text.specs.declared.token.Kind.TheVariants.{Sign as SignOf}
 use Rattle.rc_text.specs.declared.token.Token.{Token}
 use Rattle.rc_text.specs.declared.fault.EvalFault.{EvalFault}
 use Rattle.rc_text.specs.declared.fault.EvalFault.TheVariants.{Syntax, TooDeep}
-use Rattle.rc_text.specs.Symbols.{Symbol, Numeral, Identifier, Mark, Foreign, symbols_of}
+use Rattle.rc_text.specs.Symbols.{Symbol, Decimal, Identifier, Mark, Foreign, symbols_of}
 use Rattle.rc_text.specs.Grammar.{LOOSEST_LEVEL, PREFIX_LEVEL, level_of, is_prefix}
 use Rattle.rc_text.specs.Values.{Meaning, Outcome, name_outcome, prefix_outcome, infix_outcome, DEEPEST}
 
@@ -77,7 +77,7 @@ is_open _ = false
 unfoldable mutual
   pub before_operand : {A : Type 0} → Algebra A → List Symbol → List (Frame A) → Read A
   before_operand m [] frames = Err Syntax
-  before_operand m (Numeral n ∷ rest) frames = after_operand m rest (m.literal n) frames
+  before_operand m (Decimal n ∷ rest) frames = after_operand m rest (m.literal n) frames
   before_operand m (Identifier name ∷ rest) frames = after_operand m rest (m.named name) frames
   before_operand m (Mark s ∷ rest) frames =
       if is_open s then (if nat_lt (open_count frames) m.limit then before_operand m rest (Paren ∷ frames) else Err TooDeep) else

@@ -9,7 +9,7 @@ use Rattle.rc_text.specs.declared.token.Token.{Token}
 -- A decimal by its value, a name by its bytes, a sign, or what no expression has: `;assert` or a
 -- line end.
 pub data Symbol : Type 0 where
-  Numeral : (n : ℕ) → Symbol
+  Decimal : (n : ℕ) → Symbol
   Identifier : (name : List ℕ) → Symbol
   Mark : (s : Sign) → Symbol
   Foreign : Symbol
@@ -24,7 +24,7 @@ name_of source t = slice_range source t.lo t.hi ++ flat_map counter_text t.joine
 
 abbrev pub symbol_of_kind : Kind → List ℕ → Symbol
 symbol_of_kind Name name = Identifier name
-symbol_of_kind (Number n) name = Numeral n
+symbol_of_kind (Number n) name = Decimal n
 symbol_of_kind (SignOf s) name = Mark s
 symbol_of_kind Assert name = Foreign
 symbol_of_kind LineEnd name = Foreign

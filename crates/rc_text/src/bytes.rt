@@ -5,28 +5,29 @@ ghost use Rattle.std.specs.List.{prefix_len};
 ghost use Rattle.rc_text.specs.Bytes.{is_blank, begins_name, continues_name, is_same_word, begins_with_word};
 ghost use Rattle.rc_text.specs.Tokens.{comment_len};
 
-/// Checks for a space, a tab or a carriage return. A line feed is not a blank: it ends the line.
+/// Returns whether `byte` is a space, a tab or a carriage return. A line feed is not a blank: it
+/// ends the line.
 pub fn is_blank(byte: u8) -> bool
     ensures { result ≡ is_blank byte }
 {
     byte == b' ' || byte == b'\t' || byte == b'\r'
 }
 
-/// Compares two words, ignoring the case of ASCII letters.
+/// Returns whether two words are equal, ignoring the case of ASCII letters.
 pub fn is_same_word(word: &[u8], name: &[u8]) -> bool
     ensures { result ≡ is_same_word word.now name.now }
 {
     word.eq_ignore_ascii_case(name)
 }
 
-// Checks for a letter or `_`.
+// Returns whether `byte` is a letter or `_`.
 pub(crate) fn begins_name(byte: u8) -> bool
     ensures { result ≡ begins_name byte }
 {
     byte.is_ascii_alphabetic() || byte == b'_'
 }
 
-// Checks for a letter, a digit or `_`.
+// Returns whether `byte` is a letter, a digit or `_`.
 pub(crate) fn continues_name(byte: u8) -> bool
     ensures { result ≡ continues_name byte }
 {
@@ -63,7 +64,7 @@ pub(crate) fn digits_len(text: &[u8]) -> usize
     text.iter().take_while(|byte| byte.is_ascii_digit()).count()
 }
 
-// Checks whether `text` begins with `word`, in letters of any case.
+// Returns whether `text` begins with `word`, in letters of any case.
 pub(crate) fn begins_with_word(word: &[u8], text: &[u8]) -> bool
     ensures { result ≡ begins_with_word word.now text.now }
 {

@@ -23,7 +23,7 @@ pub enum NameClass {
     Free,
 }
 
-/// Checks whether a name is an opcode, in letters of any case.
+/// Returns whether a name is an opcode, in letters of any case.
 #[tactic(auto, unfolding(crate::specs::NameClasses::is_opcode_word))]
 pub fn is_opcode_word(name: &[u8]) -> bool
     ensures { result ≡ is_opcode_word name.now }
@@ -31,7 +31,7 @@ pub fn is_opcode_word(name: &[u8]) -> bool
     opcode_named(name).is_some()
 }
 
-/// Checks whether a name is an opcode or a directive, in letters of any case (class `Reserved`).
+/// Returns whether a name is an opcode or a directive, in letters of any case (class `Reserved`).
 /// Cheaper than `name_class`, which tells the other classes apart too.
 pub fn is_reserved_name(name: &[u8]) -> bool
     ensures { result ≡ (is_reserved name.now && is_name name.now) }
@@ -60,7 +60,7 @@ fn continues(rest: &[u8]) -> bool
     rest.iter().all(|byte| continues_name(*byte))
 }
 
-// Checks for a letter or `_`, and then letters, digits and `_`.
+// Returns whether `bytes` are a letter or `_`, and then letters, digits and `_`.
 #[tactic(auto, using(crate::proofs::WordSteps::name_of_more, crate::proofs::WordSteps::name_of_none))]
 fn is_name(bytes: &[u8]) -> bool
     ensures { result ≡ is_name bytes.now }
@@ -71,21 +71,21 @@ fn is_name(bytes: &[u8]) -> bool
     }
 }
 
-// Compares a name with `word`, case included.
+// Returns whether `name` is `word`, case included.
 fn is_exactly(word: &[u8], name: &[u8]) -> bool
     ensures { result ≡ bytes_eq name.now word.now }
 {
     name == word
 }
 
-// Checks for an opcode or a directive.
+// Returns whether a name is an opcode or a directive.
 fn is_reserved(name: &[u8]) -> bool
     ensures { result ≡ is_reserved name.now }
 {
     is_opcode_word(name) || is_directive(name)
 }
 
-// Checks for a directive. All have three letters.
+// Returns whether a name is a directive. All have three letters.
 fn is_directive(name: &[u8]) -> bool
     ensures { result ≡ is_one_of directives name.now }
 {
@@ -99,7 +99,8 @@ fn is_directive(name: &[u8]) -> bool
     }
 }
 
-// Checks for ORG or END (1994 draft), or EQU, FOR or ROF (pMARS), in lower case.
+// Returns whether three letters are ORG or END (1994 draft), or EQU, FOR or ROF (pMARS), in lower
+// case.
 #[inline(always)]
 fn is_directive_word(first: u8, second: u8, third: u8) -> bool
     ensures { result ≡ is_lower_of directives (first ∷ second ∷ third ∷ []) }
@@ -114,7 +115,7 @@ fn is_directive_word(first: u8, second: u8, third: u8) -> bool
     }
 }
 
-// Checks for a predefined name (pMARS), in capitals only.
+// Returns whether a name is predefined (pMARS), in capitals only.
 fn is_predefined(name: &[u8]) -> bool
     ensures { result ≡ is_predefined name.now }
 {

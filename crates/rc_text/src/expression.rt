@@ -108,7 +108,7 @@ fn group<'a, N: Names>(
     }
 }
 
-// Reads a number, a name or a group.
+// Reads a decimal, a name or a group.
 #[cycle(expression)]
 fn primary<'a, N: Names>(
     source: &[u8],
@@ -135,7 +135,7 @@ fn primary<'a, N: Names>(
     }
 }
 
-// Reads prefix operators and the number, name or group after them.
+// Reads prefix operators and the decimal, name or group after them.
 #[cycle(expression)]
 fn operand<'a, N: Names>(
     source: &[u8],

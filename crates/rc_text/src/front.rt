@@ -64,7 +64,7 @@ pub(crate) fn split_signs<'a>(tokens: &'a [Token]) -> (&'a [Token], &'a [Token])
     tokens.split_at(sign_count(tokens))
 }
 
-// Checks for a prefix operator: `+`, `-` or `!`.
+// Returns whether a token is a prefix operator: `+`, `-` or `!`.
 fn is_prefix_kind(kind: Kind) -> bool
     ensures { result ≡ is_prefix_kind kind }
 {

@@ -46,7 +46,7 @@ pub(crate) fn header_of(text: &[u8]) -> Extent
     }
 }
 
-// Checks whether the line at hand is the `;redcode` line. `rest` is what is left of the text,
+// Returns whether the line at hand is the `;redcode` line. `rest` is what is left of the text,
 // `begins` says that the line begins here, and `found` that the word was seen earlier in it.
 fn is_header_line(rest: &[u8], begins: bool, found: bool) -> bool
     ensures { result ≡ (found || (begins && begins_with_word (codes ";redcode") rest.now)) }

@@ -100,14 +100,14 @@ fn decimal(digits: &[u8]) -> u64
     value
 }
 
-// Checks for `;assert` and a blank.
+// Returns whether `text` begins with `;assert`, in letters of any case, and a blank.
 fn is_assert(text: &[u8]) -> bool
     ensures { result ≡ is_assert text.now }
 {
     begins_with_word(b";assert", text) && text.len() > 7 && is_blank(text[7])
 }
 
-// Reads the number that `text` begins with, up to 2^32 - 1.
+// Reads the decimal that `text` begins with, up to 2^32 - 1.
 #[tactic(auto, using(crate::proofs::NumberSteps::all_digits))]
 fn number(text: &[u8]) -> Lexeme
     ensures { let len = prefix_len is_ascii_digit text.now in

@@ -59,7 +59,7 @@ impl<'a> Lexer<'a> {
 
     /// Takes the next token, or returns `None` at the end of the text.
     ///
-    /// Refuses a byte that no token begins with (`BadByte`) and a number above 4294967295
+    /// Refuses a byte that no token begins with (`BadByte`) and a decimal above 4294967295
     /// (`NumberTooLarge`). At the end and at a fault nothing changes, so every later call returns
     /// the same.
     pub fn next_token(&mut self) -> Result<Option<Token>, LexFault>

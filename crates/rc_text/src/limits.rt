@@ -1,7 +1,7 @@
 //! The limits of an expression, named as in `specs/`. Code writes `limits::DEEPEST`, so that a bare
 //! `DEEPEST` in a clause is the definition.
 
-// The parentheses that may be open at once.
+// How deep parentheses may be nested.
 pub(crate) const DEEPEST: u8 = 64;
 
 // The level of `||`, the loosest operator.

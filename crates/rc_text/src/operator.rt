@@ -26,7 +26,7 @@ pub(crate) fn level_of(sign: Sign) -> u8
     }
 }
 
-// Checks whether a sign may come before an operand.
+// Returns whether a sign may come before an operand.
 pub(crate) fn is_prefix(sign: Sign) -> bool
     ensures { result ≡ is_prefix sign }
 {

@@ -107,7 +107,7 @@ impl Joined {
         self.counters.len()
     }
 
-    /// Checks whether no counter is joined.
+    /// Returns whether no counter is joined.
     pub fn is_empty(&self) -> bool
         ensures { IsTrue result ↔ (self.now ≡ []) }
     {

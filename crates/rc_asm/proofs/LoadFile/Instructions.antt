@@ -11,7 +11,7 @@ use Rattle.rc_text.specs.declared.token.Kind.TheVariants.{Sign as SignOf}
 use Rattle.rc_text.specs.declared.token.Token.{Token}
 use Rattle.rc_text.specs.Values.{Meaning}
 use Rattle.rc_text.specs.Reading.{evaluation_of, before_operand, after_operand}
-use Rattle.rc_text.specs.Symbols.{Symbol, Numeral, Mark, symbol_of_kind, name_of, symbols_of}
+use Rattle.rc_text.specs.Symbols.{Symbol, Decimal, Mark, symbol_of_kind, name_of, symbols_of}
 use Rattle.rc_expand.specs.Read.Lines.{is_name_kind, is_dot, is_dot_kind, is_unjoined, bytes_of, into_first}
 use Rattle.rc_instr.specs.Words.{opcode_text, modifier_text, opcode_named, modifier_named}
 use Rattle.rc_instr.proofs.WordTable.{opcode_back, modifier_back}
@@ -66,12 +66,12 @@ mode_there t m k = ap mode_of_kind k ∙ mode_back m
 -- ---- numbers
 
 -- a number alone has its value
-pub plain_value : (names : Meaning) (n : ℕ) → evaluation_of names (Numeral n ∷ []) ≡ Ok (pos n)
+pub plain_value : (names : Meaning) (n : ℕ) → evaluation_of names (Decimal n ∷ []) ≡ Ok (pos n)
 unfolding before_operand after_operand
 plain_value names n = refl
 
 -- a number after a minus sign has its negative value
-minus_value : (names : Meaning) (n : ℕ) → n < 2 ^ 63 → evaluation_of names (Mark Minus ∷ Numeral (suc n) ∷ []) ≡ Ok (negsuc n)
+minus_value : (names : Meaning) (n : ℕ) → n < 2 ^ 63 → evaluation_of names (Mark Minus ∷ Decimal (suc n) ∷ []) ≡ Ok (negsuc n)
 unfolding before_operand after_operand
 minus_value names n h = let e = lt-ltb n (2 ^ 63) h in rw e refl
 
