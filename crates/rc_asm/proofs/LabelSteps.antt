@@ -13,9 +13,9 @@ use Rattle.rc_expand.specs.NameTables.{with_name}
 use Rattle.std.specs.Str.{bytes_eq}
 use Rattle.std.proofs.lemmas.Slice.Eq.{bytes_eq-Decides}
 use Rattle.rc_text.specs.Symbols.{name_of}
-use Rattle.rc_asm.specs.Names.{Labels, Agree, code_lines_after, labels_from}
+use Rattle.rc_asm.specs.Names.{Labels, Agree, address_after, labels_from}
 
-pub after_most : (w : LineWord) (address next : ℕ) → next ≡ code_lines_after w address → next ≤ address + 1
+pub after_most : (w : LineWord) (address next : ℕ) → next ≡ address_after w address → next ≤ address + 1
 after_most Bare address next h = omega (arith, h)
 after_most Code address next h = omega (arith, h)
 after_most Org address next h = omega (arith, h)
@@ -83,9 +83,9 @@ address_found f t o all name e m = ap (option_map f) e ∙ (sym (found_among f t
 
 -- the labels of a line are added
 pub labels_next : (source : List ℕ) (rest others : List Line) (l : Line) (old new whole : Labels) (address next : ℕ) → rest ≡ l ∷ others
-    → ((r : Labels) → Agree (new ++ r) (old ++ (map (λ t. (name_of source t, address)) l.labels ++ r))) → next ≡ code_lines_after l.word address
+    → ((r : Labels) → Agree (new ++ r) (old ++ (map (λ t. (name_of source t, address)) l.labels ++ r))) → next ≡ address_after l.word address
     → Agree (old ++ labels_from source address rest) whole → Agree (new ++ labels_from source next others) whole
 labels_next source rest others l old new whole address next e n b w name =
     ap (λ k. entry_of (new ++ labels_from source k others) name) b
-    ∙ (n (labels_from source (code_lines_after l.word address) others) name
+    ∙ (n (labels_from source (address_after l.word address) others) name
     ∙ (ap (λ ls. entry_of (old ++ labels_from source address ls) name) (sym e) ∙ w name))

@@ -1,6 +1,6 @@
 -- The limit of a text.
 use Rattle.std.specs.Prelude.{ℕ}
 
--- The bytes of a text.
+-- The most bytes of a text.
 abbrev pub MOST_BYTES : ℕ
 MOST_BYTES = 65536

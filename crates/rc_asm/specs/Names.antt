@@ -20,14 +20,14 @@ abbrev pub Labels : Type 0
 Labels = List (List ℕ × ℕ)
 
 -- The address after a line at `address`.
-abbrev pub code_lines_after : LineWord → ℕ → ℕ
-code_lines_after Code address = address + 1
-code_lines_after _ address = address
+abbrev pub address_after : LineWord → ℕ → ℕ
+address_after Code address = address + 1
+address_after _ address = address
 
 -- Each label of the lines with its address; the first line is at `address`.
 abbrev pub labels_from : List ℕ → ℕ → List Line → Labels
 labels_from source address [] = []
-labels_from source address (l ∷ ls) = map (λ t. (name_of source t, address)) l.labels ++ labels_from source (code_lines_after l.word address) ls
+labels_from source address (l ∷ ls) = map (λ t. (name_of source t, address)) l.labels ++ labels_from source (address_after l.word address) ls
 
 abbrev pub labels_of : List ℕ → List Line → Labels
 labels_of source lines = labels_from source 0 lines

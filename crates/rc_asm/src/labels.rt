@@ -2,7 +2,7 @@
 ghost use Rattle.std.specs.Prelude.{◌≡◌, ◌<◌, ◌+◌, ◌^◌, IfOk, OnOk, option_map};
 ghost use Rattle.rc_text.specs.Symbols.{name_of};
 ghost use Rattle.rc_expand.specs.Names.{entry_of};
-ghost use Rattle.rc_asm.specs.Names.{code_lines_after, labels_of};
+ghost use Rattle.rc_asm.specs.Names.{address_after, labels_of};
 
 use rc_expand::{Line, LineWord, NameTable};
 use rc_text::Token;
@@ -68,7 +68,7 @@ impl Labels {
         let mut rest = lines;
         while let Some((line, after)) = rest.split_first() {
             labels.insert_all(alloc, source, line.labels.as_slice(), address)?;
-            address = code_lines_after(line.word, address);
+            address = address_after(line.word, address);
             rest = after;
         }
         Ok(labels)
@@ -83,9 +83,9 @@ impl Labels {
 }
 
 // Returns the address after a line at `address`.
-pub(crate) fn code_lines_after(word: LineWord, address: usize) -> usize
+pub(crate) fn address_after(word: LineWord, address: usize) -> usize
     requires { address < 2 ^ 63 }
-    ensures { result ≡ code_lines_after word address }
+    ensures { result ≡ address_after word address }
 {
     match word {
         LineWord::Code => address + 1,

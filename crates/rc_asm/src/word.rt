@@ -56,7 +56,7 @@ pub(crate) fn is_dot(token: &Token) -> bool
     matches!(token.kind, Kind::Sign(Sign::Dot))
 }
 
-// Checks for a name without a joined counter.
+// Returns whether a token is a name without a joined counter.
 fn is_plain(token: &Token) -> bool
     ensures { result ≡ is_plain token.now }
 {
