@@ -17,8 +17,7 @@ first_of_further = 64
 abbrev pub first_of_modes : ℕ
 first_of_modes = 128
 
--- A class has 8 bits of a word, so it is below 256. There are 192 classes: the values from 192 on
--- are not used.
+-- A class has 8 bits of a word. The values from 192 on are not classes.
 abbrev pub class_range : ℕ
 class_range = 256
 

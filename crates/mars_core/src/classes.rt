@@ -9,8 +9,7 @@ pub(crate) const FIRST_OF_FURTHER: u64 = 64;
 // Classes below this one are frequent instructions; the others say modes, and nothing else.
 pub(crate) const FIRST_OF_MODES: u64 = 128;
 
-// A class has 8 bits of a word, so it is below 256. There are 192 classes: the values from 192 on
-// are not used.
+// A class has 8 bits of a word. The values from 192 on are not classes.
 pub(crate) const CLASS_RANGE: u64 = 256;
 
 // Returns the class of a key.

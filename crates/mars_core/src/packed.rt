@@ -13,8 +13,7 @@ use crate::number::Field;
 use rc_instr::{Instruction, Modifier, Opcode};
 
 // What the parts of a word are multiplied by: the mark by 2^15, the A-number by 2^16, the class by
-// 2^32 and the B-number by 2^48. Below the mark are the modifier, the opcode and the modes
-// (specs/Packed.antt has the table).
+// 2^32 and the B-number by 2^48. specs/Packed.antt has the table, with the parts below the mark.
 const MARK: u64 = 32768;
 
 const A_NUMBER: u64 = 65536;

@@ -66,10 +66,9 @@ impl<C: Cells> Snapshot<C> {
         self.due = 0;
     }
 
-    // Returns how many cycles ago the state was taken, if the state now is known to be the same
-    // one. `None` promises nothing, so it only delays the end of a tie: each cell is compared as it
-    // is stored, and a cell that got its mark after the state was taken hides that this state is
-    // back. Only a state that is taken later can then be found again.
+    // Returns how many cycles ago the state was taken, if it is found to be back. `None` promises
+    // nothing: marks are compared too, so a cell that is first written after the state was taken
+    // hides that it is back, and only a state that is taken later can be found again.
     pub(crate) fn period(
         &mut self,
         cells: &C,
@@ -114,9 +113,8 @@ impl<C: Cells> Snapshot<C> {
     }
 }
 
-// Compares two stores of one size. If the result is the size, their cells are equal. Any other
-// result promises nothing: it is an address at which they are stored differently, `likely` if it is
-// one, else the first.
+// Returns the size only if two stores of one size have equal cells. Any other result promises
+// nothing: it is an address at which they are stored differently, `likely` if it is one.
 fn differing_address<C: Cells>(x: &C, y: &C, likely: u32) -> u32
     requires size { length (C.items x.now) ≡ length (C.items y.now) }
     ensures { result ≡ length (C.items y.now) → C.items x.now ≡ C.items y.now }

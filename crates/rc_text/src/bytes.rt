@@ -5,8 +5,7 @@ ghost use Rattle.std.specs.List.{prefix_len};
 ghost use Rattle.rc_text.specs.Bytes.{is_blank, begins_name, continues_name, is_same_word, begins_with_word};
 ghost use Rattle.rc_text.specs.Tokens.{comment_len};
 
-/// Returns whether `byte` is a space, a tab or a carriage return. A line feed is not a blank: it
-/// ends the line.
+/// Returns whether `byte` is a space, a tab or a carriage return. A line feed ends the line.
 pub fn is_blank(byte: u8) -> bool
     ensures { result ≡ is_blank byte }
 {

@@ -99,8 +99,7 @@ fn is_directive(name: &[u8]) -> bool
     }
 }
 
-// Returns whether three letters are ORG or END (1994 draft), or EQU, FOR or ROF (pMARS), in lower
-// case.
+// Returns whether these letters are `org` or `end` (1994 draft), `equ`, `for` or `rof` (pMARS).
 #[inline(always)]
 fn is_directive_word(first: u8, second: u8, third: u8) -> bool
     ensures { result ≡ is_lower_of directives (first ∷ second ∷ third ∷ []) }
