@@ -18,7 +18,7 @@ use Rattle.rc_expand.specs.declared.read.raw_line.RawWord.TheVariants as word
 use Rattle.rc_expand.specs.declared.fault.ExpandFault.{ExpandFault}
 use Rattle.rc_expand.specs.declared.line.Line.{Line}
 use Rattle.rc_expand.specs.declared.line.LineWord.TheVariants as line
-use Rattle.rc_expand.specs.Read.Lines.{is_name_kind, is_reserved_class, is_unjoined, bytes_of, is_free, word_of_name, word_of_kind, no_labels, label_split, line_with_word, line_after_labels, raw_line_of, line_of_tokens, up_to_end, lines_from}
+use Rattle.rc_expand.specs.Read.Lines.{is_name_kind, is_reserved_class, is_unjoined, bytes_of, is_unreserved_name, word_of_name, word_of_kind, no_labels, label_split, line_with_word, line_after_labels, raw_line_of, line_of_tokens, up_to_end, lines_from}
 use Rattle.rc_expand.specs.Read.Tree.{BlockTree, NoLine, OneLine, line_before, blocks_of}
 use Rattle.rc_expand.specs.Names.{GivenNamesView}
 use Rattle.rc_instr.specs.Results.{mapped, and_then}
@@ -152,12 +152,12 @@ raw_line_is AStart t ts = refl
 
 module _ (source : List ℕ) where
   -- the word of a plain line is not a label
-  not_free : (p : PlainLine) → IsPlain source p → is_free source p.first ≡ false
-  unfolding is_free
-  not_free p h = (λ x. is_name_kind (h.kind x) && not (is_unjoined (h.joined x) && is_reserved_class (class_of (h.bytes x)))) ∙ ap not (text_reserved p.word)
+  not_unreserved : (p : PlainLine) → IsPlain source p → is_unreserved_name source p.first ≡ false
+  unfolding is_unreserved_name
+  not_unreserved p h = (λ x. is_name_kind (h.kind x) && not (is_unjoined (h.joined x) && is_reserved_class (class_of (h.bytes x)))) ∙ ap not (text_reserved p.word)
 
   -- and so no label comes before it
-  no_label : (t : Token) (ts : List Token) → is_free source t ≡ false → label_split source (t ∷ ts) ≡ no_labels (t ∷ ts)
+  no_label : (t : Token) (ts : List Token) → is_unreserved_name source t ≡ false → label_split source (t ∷ ts) ≡ no_labels (t ∷ ts)
   no_label t [] f = rw f refl
   no_label t (u ∷ []) f = rw f refl
   no_label t (u ∷ v ∷ ts) f = rw f refl
@@ -166,7 +166,7 @@ module _ (source : List ℕ) where
   raw_line_there : (p : PlainLine) → IsPlain source p → raw_line_of source p.first.line (p.first ∷ p.others) ≡ plain_raw_line p
   unfolding raw_line_of
   raw_line_there p h =
-      ap (λ l. line_after_labels source p.first.line l.labels l.after) (no_label p.first p.others (not_free p h))
+      ap (λ l. line_after_labels source p.first.line l.labels l.after) (no_label p.first p.others (not_unreserved p h))
       ∙ (λ x. line_with_word (word_of_kind (h.kind x) (h.bytes x)) p.first.line [] p.first p.others)
       ∙ raw_line_is p.word p.first p.others
 

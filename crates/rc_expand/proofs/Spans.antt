@@ -22,7 +22,7 @@ use Rattle.rc_expand.specs.Contexts.{ContextView}
 use Rattle.rc_expand.specs.Read.{text_lines, equ_token, with_equ_name, equs_after_line, equs_from, equs_of, first_pass_of_blocks, first_pass}
 use Rattle.rc_expand.specs.Read.Faults.{text_fault}
 use Rattle.rc_expand.specs.Read.Tree.{BlockTree, NoLine, OneLine, Block, Parts, line_before, rof_before, for_before, parts_by, parts_from, blocks_of}
-use Rattle.rc_expand.specs.Read.Lines.{choose, is_free, is_colon, has_modifier, label_token, label_split, line_with_word, line_after_labels, raw_line_of, word_of, line_of_tokens, has_end, up_to_end, lines_unless_fault, lines_from, bare_line, is_name_token}
+use Rattle.rc_expand.specs.Read.Lines.{choose, is_unreserved_name, is_colon, has_modifier, label_token, label_split, line_with_word, line_after_labels, raw_line_of, word_of, line_of_tokens, has_end, up_to_end, lines_unless_fault, lines_from, bare_line, is_name_token}
 use Rattle.rc_expand.specs.Unroll.{UnrolledSoFarView, Step, nothing_unrolled, has_room, with_line, with_copy, copies_from, with_earlier, is_bare_rof, rof_check, line_check, one_line, one_copy, one_block, unrolled_in, unrolled}
 use Rattle.rc_expand.specs.Unroll.Copies.{BlockCopyView, NumberingView, numbering_by, is_in_block, line_in_copy, line_in, all_of, is_counter, with_number, with_counter, joins, copied_from, copied_tokens, copied_code, copied_rest, or_spoiled, copied_line}
 use Rattle.rc_expand.specs.Unroll.Openings.{OpeningView, earlier_of, opening_with_counter, count_of, counter_name, counter_of, opening}
@@ -286,8 +286,8 @@ module _ (source : List ℕ) where
   -- names of one label
   label_in : (l : List Token) → Ls l → IfSome (label_token source l) (LiesIn source)
   label_in [] h = tt
-  label_in (t ∷ []) h = either (λ o. IfSome o (LiesIn source)) (is_free source t) _ _ h.0 tt
-  label_in (t ∷ u ∷ []) h = either (λ o. IfSome o (LiesIn source)) (is_free source t && is_colon u) _ _ h.0 tt
+  label_in (t ∷ []) h = either (λ o. IfSome o (LiesIn source)) (is_unreserved_name source t) _ _ h.0 tt
+  label_in (t ∷ u ∷ []) h = either (λ o. IfSome o (LiesIn source)) (is_unreserved_name source t && is_colon u) _ _ h.0 tt
   label_in (t ∷ u ∷ v ∷ ts) h = tt
 
   own_stepped : (o : Option Token) (ts : List Token) → IfSome o (LiesIn source) → Ls ts → Ls (own_label_then source o ts)

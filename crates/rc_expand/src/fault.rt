@@ -39,7 +39,7 @@ pub enum ExpandKind {
     #[error("out of memory")]
     OutOfMemory,
     /// An EQU, FOR or ROF is malformed or misplaced, or a ninth counter is joined to a name.
-    #[error("malformed or misplaced directive")]
+    #[error("malformed or misplaced directive, or more than 8 counters joined")]
     BadDirective,
     /// A line or a count has more than 4096 tokens, or takes more than 4096 EQU replacements.
     #[error("more than 4096 tokens or EQU replacements in a line")]

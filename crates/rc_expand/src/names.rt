@@ -72,7 +72,7 @@ pub(crate) fn is_joined_name(bytes: &[u8], counters: &[u16], name: &[u8]) -> boo
     rest.is_empty()
 }
 
-// Checks for a constant or a predefined name, CURLINE included.
+// Returns whether a name is a constant or a predefined name, CURLINE included.
 #[tactic(auto, unfolding(crate::specs::Names::is_taken))]
 pub(crate) fn is_taken(given: &GivenNames, source: &[u8], token: &Token) -> bool
     ensures { result ≡ is_taken (seen_given_names given.now) (name_of source.now token.now) }

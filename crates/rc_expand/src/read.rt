@@ -1,6 +1,6 @@
 //! The first pass: the lines of a text up to END, each with its labels, its word and what comes
 //! after it. Each FOR needs its ROF, and each EQU line outside of blocks gives a name and its
-//! tokens. Nothing is copied or replaced yet.
+//! tokens. No block is unrolled and no EQU name replaced yet.
 ghost use Rattle.std.specs.Prelude.{Ok};
 ghost use Rattle.rc_expand.specs.Results.{Returns};
 ghost use Rattle.rc_expand.specs.Contexts.{seen_given_names};

@@ -63,7 +63,7 @@ pub(crate) fn is_dot(token: &Token) -> bool
     matches!(token.kind, Kind::Sign(Sign::Dot))
 }
 
-// Checks that no counter is joined to a token.
+// Returns whether no counter is joined to a token.
 pub(crate) fn is_unjoined(token: &Token) -> bool
     ensures { result ≡ is_unjoined token.now.joined }
 {

@@ -14,7 +14,7 @@ use Rattle.rc_instr.specs.declared.instruction.Mode.TheVariants as mode
 use Rattle.rc_text.specs.declared.fault.EvalFault.TheVariants.{UnknownName}
 use Rattle.rc_text.specs.NameClasses.{is_opcode_word}
 use Rattle.rc_expand.specs.Names.{given_names, is_taken}
-use Rattle.rc_expand.specs.Read.Lines.{is_free, is_opcode, word_of_name, raw_line_of}
+use Rattle.rc_expand.specs.Read.Lines.{is_unreserved_name, is_opcode, word_of_name, raw_line_of}
 use Rattle.rc_expand.specs.Replace.{replaced_tokens}
 use Rattle.rc_expand.specs.Unroll.{unrolled}
 use Rattle.rc_expand.specs.Unroll.Copies.{copied_line}
@@ -60,29 +60,29 @@ i o m a x b y = record { opcode = o; modifier = m; a_mode = a; a_number = x; b_m
 
 -- An EQU name stands for tokens, not for a value; the one operand of DAT is its B-operand.
 with_equ : shown (rules_view 16 20 4 4 4) (codes "s EQU 2+3" ∷ codes "DAT #0, #s*2" ∷ []) ≡ Some (i op.Dat mod'.F mode.Immediate 0 mode.Immediate 8 ∷ [], pos 0)
-unfolding after_line outcome_of warrior_of opcode_in modifier_in parts with_operands with_modifier after_opcode form_of stands_for given_names core_number operand_at instruction_of_parts instruction_of_form instruction_at default_modifier_of expansion_of first_pass equs_of line_of replaced unrolled is_taken count_of opening copied_line replaced_tokens is_free is_opcode word_of_name raw_line_of is_opcode_word before_operand after_operand
+unfolding after_line outcome_of warrior_of opcode_in modifier_in parts with_operands with_modifier after_opcode form_of stands_for given_names core_number operand_at instruction_of_parts instruction_of_form instruction_at default_modifier_of expansion_of first_pass equs_of line_of replaced unrolled is_taken count_of opening copied_line replaced_tokens is_unreserved_name is_opcode word_of_name raw_line_of is_opcode_word before_operand after_operand
 with_equ = refl
 
 -- Division rounds toward zero; a number is taken modulo the core size.
 negative_number : code_of (codes "DAT #-7/2" ∷ []) ≡ Some (i op.Dat mod'.F mode.Direct 0 mode.Immediate 13 ∷ [])
-unfolding after_line outcome_of warrior_of opcode_in modifier_in parts with_operands with_modifier after_opcode form_of stands_for given_names core_number operand_at instruction_of_parts instruction_of_form instruction_at default_modifier_of expansion_of first_pass equs_of line_of replaced unrolled is_taken count_of opening copied_line replaced_tokens is_free is_opcode word_of_name raw_line_of is_opcode_word before_operand after_operand
+unfolding after_line outcome_of warrior_of opcode_in modifier_in parts with_operands with_modifier after_opcode form_of stands_for given_names core_number operand_at instruction_of_parts instruction_of_form instruction_at default_modifier_of expansion_of first_pass equs_of line_of replaced unrolled is_taken count_of opening copied_line replaced_tokens is_unreserved_name is_opcode word_of_name raw_line_of is_opcode_word before_operand after_operand
 negative_number = refl
 
 -- A name with a joined counter can be a label; in an operand a label is a distance.
 joined_names : code_of (codes "i FOR 2" ∷ codes "x&i DAT #i" ∷ codes "ROF" ∷ codes "JMP x01" ∷ [])
     ≡ Some (i op.Dat mod'.F mode.Direct 0 mode.Immediate 1 ∷ i op.Dat mod'.F mode.Direct 0 mode.Immediate 2 ∷ i op.Jmp mod'.B mode.Direct 14 mode.Direct 0 ∷ [])
-unfolding after_line outcome_of warrior_of opcode_in modifier_in parts with_operands with_modifier after_opcode form_of stands_for given_names core_number operand_at instruction_of_parts instruction_of_form instruction_at default_modifier_of expansion_of first_pass equs_of line_of replaced unrolled is_taken count_of opening copied_line replaced_tokens is_free is_opcode word_of_name raw_line_of is_opcode_word before_operand after_operand
+unfolding after_line outcome_of warrior_of opcode_in modifier_in parts with_operands with_modifier after_opcode form_of stands_for given_names core_number operand_at instruction_of_parts instruction_of_form instruction_at default_modifier_of expansion_of first_pass equs_of line_of replaced unrolled is_taken count_of opening copied_line replaced_tokens is_unreserved_name is_opcode word_of_name raw_line_of is_opcode_word before_operand after_operand
 joined_names = refl
 
 -- Default modifiers, and CMP as SEQ.
 default_modifiers : code_of (codes "mov #1, 2" ∷ codes "add 1, #2" ∷ codes "cmp 1, 2" ∷ codes "slt #1, 2" ∷ [])
     ≡ Some (i op.Mov mod'.AB mode.Immediate 1 mode.Direct 2 ∷ i op.Add mod'.B mode.Direct 1 mode.Immediate 2 ∷ i op.Seq mod'.I mode.Direct 1 mode.Direct 2 ∷ i op.Slt mod'.AB mode.Immediate 1 mode.Direct 2 ∷ [])
-unfolding after_line outcome_of warrior_of opcode_in modifier_in parts with_operands with_modifier after_opcode form_of stands_for given_names core_number operand_at instruction_of_parts instruction_of_form instruction_at default_modifier_of expansion_of first_pass equs_of line_of replaced unrolled is_taken count_of opening copied_line replaced_tokens is_free is_opcode word_of_name raw_line_of is_opcode_word before_operand after_operand
+unfolding after_line outcome_of warrior_of opcode_in modifier_in parts with_operands with_modifier after_opcode form_of stands_for given_names core_number operand_at instruction_of_parts instruction_of_form instruction_at default_modifier_of expansion_of first_pass equs_of line_of replaced unrolled is_taken count_of opening copied_line replaced_tokens is_unreserved_name is_opcode word_of_name raw_line_of is_opcode_word before_operand after_operand
 default_modifiers = refl
 
 -- Precedence, comparison and negation.
 expressions : code_of (codes "DAT 2+3*4, (1<2)+!0" ∷ []) ≡ Some (i op.Dat mod'.F mode.Direct 14 mode.Direct 2 ∷ [])
-unfolding after_line outcome_of warrior_of opcode_in modifier_in parts with_operands with_modifier after_opcode form_of stands_for given_names core_number operand_at instruction_of_parts instruction_of_form instruction_at default_modifier_of expansion_of first_pass equs_of line_of replaced unrolled is_taken count_of opening copied_line replaced_tokens is_free is_opcode word_of_name raw_line_of is_opcode_word before_operand after_operand
+unfolding after_line outcome_of warrior_of opcode_in modifier_in parts with_operands with_modifier after_opcode form_of stands_for given_names core_number operand_at instruction_of_parts instruction_of_form instruction_at default_modifier_of expansion_of first_pass equs_of line_of replaced unrolled is_taken count_of opening copied_line replaced_tokens is_unreserved_name is_opcode word_of_name raw_line_of is_opcode_word before_operand after_operand
 expressions = refl
 
 -- A warrior with a header, an assertion, EQU, labels, ORG and END.
@@ -91,20 +91,20 @@ dwarf : shown (rules_view 8000 80000 8000 100 100) (codes "From: a mail header" 
       i op.Dat mod'.F mode.Immediate 0 mode.Immediate 0 ∷ i op.Add mod'.AB mode.Immediate 4 mode.Direct 7999 ∷ i op.Mov mod'.I mode.Direct 7998 mode.BIndirect 7998 ∷ i op.Jmp mod'.B mode.Direct 7998 mode.Direct 0 ∷ [],
       pos 1,
     )
-unfolding after_line outcome_of warrior_of opcode_in modifier_in parts with_operands with_modifier after_opcode form_of stands_for given_names core_number operand_at instruction_of_parts instruction_of_form instruction_at default_modifier_of expansion_of first_pass equs_of line_of replaced unrolled is_taken count_of opening copied_line replaced_tokens is_free is_opcode word_of_name raw_line_of is_opcode_word before_operand after_operand
+unfolding after_line outcome_of warrior_of opcode_in modifier_in parts with_operands with_modifier after_opcode form_of stands_for given_names core_number operand_at instruction_of_parts instruction_of_form instruction_at default_modifier_of expansion_of first_pass equs_of line_of replaced unrolled is_taken count_of opening copied_line replaced_tokens is_unreserved_name is_opcode word_of_name raw_line_of is_opcode_word before_operand after_operand
 dwarf = refl
 
 -- A malformed line is reported before an earlier line whose expression has no value.
 form_before_value : fault_of (codes "DAT x" ∷ codes "MOV 1" ∷ []) ≡ Some (at_line 2 MissingOperand)
-unfolding after_line outcome_of warrior_of opcode_in modifier_in parts with_operands with_modifier after_opcode form_of stands_for given_names core_number operand_at instruction_of_parts instruction_of_form instruction_at default_modifier_of expansion_of first_pass equs_of line_of replaced unrolled is_taken count_of opening copied_line replaced_tokens is_free is_opcode word_of_name raw_line_of is_opcode_word before_operand after_operand
+unfolding after_line outcome_of warrior_of opcode_in modifier_in parts with_operands with_modifier after_opcode form_of stands_for given_names core_number operand_at instruction_of_parts instruction_of_form instruction_at default_modifier_of expansion_of first_pass equs_of line_of replaced unrolled is_taken count_of opening copied_line replaced_tokens is_unreserved_name is_opcode word_of_name raw_line_of is_opcode_word before_operand after_operand
 form_before_value = refl
 
 -- A second comma is reported before a missing operand.
 two_commas : fault_of (codes "MOV ,," ∷ []) ≡ Some (at_line 1 ExtraText)
-unfolding after_line outcome_of warrior_of opcode_in modifier_in parts with_operands with_modifier after_opcode form_of stands_for given_names core_number operand_at instruction_of_parts instruction_of_form instruction_at default_modifier_of expansion_of first_pass equs_of line_of replaced unrolled is_taken count_of opening copied_line replaced_tokens is_free is_opcode word_of_name raw_line_of is_opcode_word before_operand after_operand
+unfolding after_line outcome_of warrior_of opcode_in modifier_in parts with_operands with_modifier after_opcode form_of stands_for given_names core_number operand_at instruction_of_parts instruction_of_form instruction_at default_modifier_of expansion_of first_pass equs_of line_of replaced unrolled is_taken count_of opening copied_line replaced_tokens is_unreserved_name is_opcode word_of_name raw_line_of is_opcode_word before_operand after_operand
 two_commas = refl
 
 -- A name without a value.
 unknown_name : fault_of (codes "NOP" ∷ codes "DAT x" ∷ []) ≡ Some (at_line 2 (Value UnknownName))
-unfolding after_line outcome_of warrior_of opcode_in modifier_in parts with_operands with_modifier after_opcode form_of stands_for given_names core_number operand_at instruction_of_parts instruction_of_form instruction_at default_modifier_of expansion_of first_pass equs_of line_of replaced unrolled is_taken count_of opening copied_line replaced_tokens is_free is_opcode word_of_name raw_line_of is_opcode_word before_operand after_operand
+unfolding after_line outcome_of warrior_of opcode_in modifier_in parts with_operands with_modifier after_opcode form_of stands_for given_names core_number operand_at instruction_of_parts instruction_of_form instruction_at default_modifier_of expansion_of first_pass equs_of line_of replaced unrolled is_taken count_of opening copied_line replaced_tokens is_unreserved_name is_opcode word_of_name raw_line_of is_opcode_word before_operand after_operand
 unknown_name = refl

@@ -123,7 +123,7 @@ const EXPANSION_TEXTS: [(ExpandKind, &str); 11] = [
     (ExpandKind::OutOfMemory, "line 3: out of memory"),
     (
         ExpandKind::BadDirective,
-        "line 3: malformed or misplaced directive",
+        "line 3: malformed or misplaced directive, or more than 8 counters joined",
     ),
     (
         ExpandKind::TooManyTokens,

@@ -5,7 +5,7 @@ use Rattle.std.proofs.lemmas.List.{drop_all, drop-drop, append-nil}
 use Rattle.rc_text.specs.declared.token.Token.{Token}
 use Rattle.rc_text.specs.declared.class.NameClass.TheVariants.{NoName, Reserved, Predefined, Free}
 use Rattle.rc_text.specs.NameClasses.{is_name, is_reserved, is_predefined, class_of}
-use Rattle.rc_expand.specs.Read.Lines.{is_reserved_class, is_ampersand, is_colon, is_free, label_goes_on, tail_len, begins_label, LabelSplit, label_split, no_labels}
+use Rattle.rc_expand.specs.Read.Lines.{is_reserved_class, is_ampersand, is_colon, is_unreserved_name, label_goes_on, tail_len, begins_label, LabelSplit, label_split, no_labels}
 use Rattle.rc_expand.proofs.Each.{split_at, split_two}
 
 both_true : (a b : Bool) → a && b ≡ true → b ≡ true
@@ -33,7 +33,7 @@ module _ (source : List ℕ) where
   goes_on_short ts i h = short_list (drop i ts) (omega (arith, length-drop i ts))
 
   -- whether the next two tokens go on
-  pub goes_on_at : (ts : List Token) (i : ℕ) (u v : Token) → i + 1 < length ts → u ≡ get_or ts i u → v ≡ get_or ts (i + 1) v → label_goes_on source (drop i ts) ≡ (is_ampersand u && is_free source v)
+  pub goes_on_at : (ts : List Token) (i : ℕ) (u v : Token) → i + 1 < length ts → u ≡ get_or ts i u → v ≡ get_or ts (i + 1) v → label_goes_on source (drop i ts) ≡ (is_ampersand u && is_unreserved_name source v)
   goes_on_at ts i u v h e f = ap (label_goes_on source) (split_two ts i u v h e f)
 
   tail_goes_on : (ts : List Token) → label_goes_on source ts ≡ true → tail_len source ts ≡ suc (suc (tail_len source (drop 2 ts)))
@@ -79,7 +79,7 @@ module _ (source : List ℕ) where
   tail_end ts i h = ap (tail_len source) (drop_all i ts h)
 
   -- whether a label begins, by its token
-  pub begins_at : (ts : List Token) (i : ℕ) (t : Token) → i < length ts → t ≡ get_or ts i t → begins_label source (drop i ts) ≡ is_free source t
+  pub begins_at : (ts : List Token) (i : ℕ) (t : Token) → i < length ts → t ≡ get_or ts i t → begins_label source (drop i ts) ≡ is_unreserved_name source t
   begins_at ts i t h e = ap (begins_label source) (split_at ts i t h e)
 
   -- no label begins at the end
@@ -95,21 +95,21 @@ module _ (source : List ℕ) where
   no_label (t ∷ u ∷ []) e = rw e
   no_label (t ∷ u ∷ v ∷ ts) e = rw e
 
-  first_label : (t : Token) (ts : List Token) → is_free source t ≡ true → label_split source (t ∷ ts) ≡ record { labels = (t ∷ take (tail_len source ts) ts) ∷ (label_split source (drop (tail_len source ts) ts)).labels; after = (label_split source (drop (tail_len source ts) ts)).after }
+  first_label : (t : Token) (ts : List Token) → is_unreserved_name source t ≡ true → label_split source (t ∷ ts) ≡ record { labels = (t ∷ take (tail_len source ts) ts) ∷ (label_split source (drop (tail_len source ts) ts)).labels; after = (label_split source (drop (tail_len source ts) ts)).after }
   first_label t [] e = rw e
   first_label t (u ∷ []) e = by_colon (is_colon u) refl where
     by_colon : (b : Bool) → is_colon u ≡ b → label_split source (t ∷ u ∷ []) ≡ record { labels = (t ∷ take (tail_len source (u ∷ [])) (u ∷ [])) ∷ (label_split source (drop (tail_len source (u ∷ [])) (u ∷ []))).labels; after = (label_split source (drop (tail_len source (u ∷ [])) (u ∷ []))).after }
     by_colon true c = rw (e, c)
     by_colon false c = rw (e, c)
-  first_label t (u ∷ v ∷ ts) e = by_link (is_ampersand u && is_free source v) refl (first_label v ts) where
-    by_colon : (b : Bool) → is_ampersand u && is_free source v ≡ false → is_colon u ≡ b → label_split source (t ∷ u ∷ v ∷ ts) ≡ record { labels = (t ∷ take (tail_len source (u ∷ v ∷ ts)) (u ∷ v ∷ ts)) ∷ (label_split source (drop (tail_len source (u ∷ v ∷ ts)) (u ∷ v ∷ ts))).labels; after = (label_split source (drop (tail_len source (u ∷ v ∷ ts)) (u ∷ v ∷ ts))).after }
+  first_label t (u ∷ v ∷ ts) e = by_link (is_ampersand u && is_unreserved_name source v) refl (first_label v ts) where
+    by_colon : (b : Bool) → is_ampersand u && is_unreserved_name source v ≡ false → is_colon u ≡ b → label_split source (t ∷ u ∷ v ∷ ts) ≡ record { labels = (t ∷ take (tail_len source (u ∷ v ∷ ts)) (u ∷ v ∷ ts)) ∷ (label_split source (drop (tail_len source (u ∷ v ∷ ts)) (u ∷ v ∷ ts))).labels; after = (label_split source (drop (tail_len source (u ∷ v ∷ ts)) (u ∷ v ∷ ts))).after }
     by_colon true l c = rw (e, l, c)
     by_colon false l c = rw (e, l, c)
 
-    by_link : (b : Bool) → is_ampersand u && is_free source v ≡ b
-        → (is_free source v ≡ true → label_split source (v ∷ ts) ≡ record { labels = (v ∷ take (tail_len source ts) ts) ∷ (label_split source (drop (tail_len source ts) ts)).labels; after = (label_split source (drop (tail_len source ts) ts)).after })
+    by_link : (b : Bool) → is_ampersand u && is_unreserved_name source v ≡ b
+        → (is_unreserved_name source v ≡ true → label_split source (v ∷ ts) ≡ record { labels = (v ∷ take (tail_len source ts) ts) ∷ (label_split source (drop (tail_len source ts) ts)).labels; after = (label_split source (drop (tail_len source ts) ts)).after })
         → label_split source (t ∷ u ∷ v ∷ ts) ≡ record { labels = (t ∷ take (tail_len source (u ∷ v ∷ ts)) (u ∷ v ∷ ts)) ∷ (label_split source (drop (tail_len source (u ∷ v ∷ ts)) (u ∷ v ∷ ts))).labels; after = (label_split source (drop (tail_len source (u ∷ v ∷ ts)) (u ∷ v ∷ ts))).after }
-    by_link true l ih = rw (e, l, ih (both_true (is_ampersand u) (is_free source v) l))
+    by_link true l ih = rw (e, l, ih (both_true (is_ampersand u) (is_unreserved_name source v) l))
     by_link false l ih = by_colon (is_colon u) l refl
 
   label_step : (ts : List Token) → true ≡ begins_label source ts

@@ -124,8 +124,8 @@ module _ (source : List ℕ) where
 
   -- A name that is not reserved; with joined counters it ends with a digit, as no reserved word
   -- does.
-  unfoldable pub is_free : Token → Bool
-  is_free t = is_name_token t && not (is_unjoined t.joined && is_reserved_class (class_of (bytes_of t)))
+  unfoldable pub is_unreserved_name : Token → Bool
+  is_unreserved_name t = is_name_token t && not (is_unjoined t.joined && is_reserved_class (class_of (bytes_of t)))
 
   unfoldable pub is_opcode : Token → Bool
   is_opcode t = is_name_token t && (is_unjoined t.joined && is_opcode_word (bytes_of t))
@@ -134,18 +134,18 @@ module _ (source : List ℕ) where
   abbrev pub has_modifier : Token → Token → Token → Bool
   has_modifier t u v = is_opcode t && (is_dot u && is_name_token v)
 
-  -- A label is a free name, or free names joined by `&`, with an optional colon. By cases: `&` and
-  -- a free name go on with the label, a colon ends it, and anything else begins what comes next.
+  -- A label is an unreserved name, or such names joined by `&`, with an optional colon. By cases:
+  -- `&` and a name go on with the label, a colon ends it, and anything else begins what comes next.
   abbrev pub label_split : List Token → LabelSplit
   label_split [] = no_labels []
-  label_split (t ∷ []) = choose (is_free t) (λ i. begin_label t (no_labels [])) (λ i. no_labels (t ∷ []))
+  label_split (t ∷ []) = choose (is_unreserved_name t) (λ i. begin_label t (no_labels [])) (λ i. no_labels (t ∷ []))
   label_split (t ∷ u ∷ []) =
-      choose (is_free t)
+      choose (is_unreserved_name t)
       (λ i. choose (is_colon u) (λ j. into_label t (begin_label u (no_labels []))) (λ j. begin_label t (label_split (u ∷ []))))
       (λ i. no_labels (t ∷ u ∷ []))
   label_split (t ∷ u ∷ v ∷ ts) =
-      choose (is_free t)
-      (λ i. choose (is_ampersand u && is_free v) (λ j. into_label t (into_label u (label_split (v ∷ ts))))
+      choose (is_unreserved_name t)
+      (λ i. choose (is_ampersand u && is_unreserved_name v) (λ j. into_label t (into_label u (label_split (v ∷ ts))))
       (λ j. choose (is_colon u) (λ k. into_label t (begin_label u (label_split (v ∷ ts)))) (λ k. begin_label t (label_split (u ∷ v ∷ ts)))))
       (λ i. no_labels (t ∷ u ∷ v ∷ ts))
 
@@ -153,21 +153,21 @@ module _ (source : List ℕ) where
   abbrev pub tail_len : List Token → ℕ
   tail_len [] = 0
   tail_len (u ∷ []) = if is_colon u then 1 else 0
-  tail_len (u ∷ v ∷ ts) = choose (is_ampersand u && is_free v) (λ i. suc (suc (tail_len ts))) (λ i. if is_colon u then 1 else 0)
+  tail_len (u ∷ v ∷ ts) = choose (is_ampersand u && is_unreserved_name v) (λ i. suc (suc (tail_len ts))) (λ i. if is_colon u then 1 else 0)
 
   abbrev pub begins_label : List Token → Bool
   begins_label [] = false
-  begins_label (t ∷ ts) = is_free t
+  begins_label (t ∷ ts) = is_unreserved_name t
 
   -- A label goes on with `&` and a name.
   abbrev pub label_goes_on : List Token → Bool
-  label_goes_on (u ∷ v ∷ ts) = is_ampersand u && is_free v
+  label_goes_on (u ∷ v ∷ ts) = is_ampersand u && is_unreserved_name v
   label_goes_on _ = false
 
   -- The name of a label that is a single name, with or without its colon.
   abbrev pub label_token : List Token → Option Token
-  label_token (t ∷ []) = if is_free t then Some t else None
-  label_token (t ∷ u ∷ []) = if is_free t && is_colon u then Some t else None
+  label_token (t ∷ []) = if is_unreserved_name t then Some t else None
+  label_token (t ∷ u ∷ []) = if is_unreserved_name t && is_colon u then Some t else None
   label_token _ = None
 
   abbrev pub if_unjoined : Token → Option Token

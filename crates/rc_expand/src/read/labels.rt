@@ -2,7 +2,7 @@
 ghost use Rattle.std.specs.Prelude.{◌≡◌, [], IfSome, option_map};
 ghost use Rattle.rc_expand.specs.Read.Lines.{label_token, plain_token};
 
-use crate::read::words::is_free;
+use crate::read::words::is_unreserved_name;
 use crate::tokens::{is_colon, is_unjoined};
 use rc_text::Token;
 
@@ -11,12 +11,12 @@ pub(crate) fn label_token<'a>(source: &[u8], label: &'a [Token]) -> Option<&'a T
     ensures { option_map (λ t. t.now) result ≡ label_token source.now label.now }
 {
     match label {
-        [token] => if is_free(source, token) {
+        [token] => if is_unreserved_name(source, token) {
             Some(token)
         } else {
             None
         },
-        [token, colon] => if is_free(source, token) && is_colon(colon) {
+        [token, colon] => if is_unreserved_name(source, token) && is_colon(colon) {
             Some(token)
         } else {
             None

@@ -2,7 +2,7 @@
 ghost use Rattle.std.specs.Prelude.{◌≡◌, ◌≢◌, ◌++◌, [], ◌+◌, ◌≤◌, ◌&&◌, IsTrue, length, drop, IfOk, MatchResult, Ok, Err, None};
 ghost use Rattle.rc_text.specs.Tokens.{TakesToken};
 ghost use Rattle.rc_text.specs.Gaps.{is_line_end};
-ghost use Rattle.rc_expand.specs.Read.Lines.{raw_line_of, is_free, is_ampersand, label_goes_on, tail_len, begins_label, label_split, line_of_tokens, has_end};
+ghost use Rattle.rc_expand.specs.Read.Lines.{raw_line_of, is_unreserved_name, is_ampersand, label_goes_on, tail_len, begins_label, label_split, line_of_tokens, has_end};
 ghost use Rattle.rc_expand.specs.Results.{Returns};
 ghost use Rattle.rc_expand.specs.Read.{text_lines};
 ghost use Rattle.rc_expand.specs.Read.Faults.{IsEnding};
@@ -10,7 +10,7 @@ ghost use Rattle.rc_expand.specs.Read.Faults.{IsEnding};
 use crate::fault::{ExpandFault, ExpandKind, at_line};
 use crate::line::Tokens;
 use crate::read::raw_line::{Labels, RawLine, RawWord};
-use crate::read::words::{is_free, word_of};
+use crate::read::words::{is_unreserved_name, word_of};
 use crate::tokens::{clone_token, clone_tokens, is_ampersand, is_colon};
 use rc_text::{Kind, Lexer, Token};
 use std::alloc::{AllocError, Global};
@@ -42,7 +42,7 @@ fn next_token(lexer: &mut Lexer) -> Result<Option<Token>, ExpandFault>
 {
     match lexer.next_token() {
         Ok(token) => Ok(token),
-        Err(cause) => Err(at_line(lexer.line(), ExpandKind::Text(cause))),
+        Err(fault) => Err(at_line(lexer.line(), ExpandKind::Text(fault))),
     }
 }
 
@@ -131,13 +131,13 @@ fn read_labels(
     Ok((labels, at))
 }
 
-// Checks whether a label begins at index `at`.
+// Returns whether a label begins at index `at`.
 #[tactic(auto, using(crate::proofs::Reading::LabelSteps::begins_at, crate::proofs::Reading::LabelSteps::begins_none))]
 fn begins_label(source: &[u8], tokens: &[Token], at: usize) -> bool
     ensures result { result ≡ begins_label source.now (drop at tokens.now) }
     ensures room { IsTrue result → at + 1 ≤ length tokens.now }
 {
-    at < tokens.len() && is_free(source, &tokens[at])
+    at < tokens.len() && is_unreserved_name(source, &tokens[at])
 }
 
 // Returns the index after a label whose first name is the token before `from`.
@@ -158,7 +158,7 @@ fn label_end(source: &[u8], tokens: &[Token], from: usize) -> usize
     end
 }
 
-// Checks whether a label goes on at index `at` with `&` and a name.
+// Returns whether a label goes on at index `at` with `&` and a name.
 #[tactic(auto, using(crate::proofs::Reading::LabelSteps::goes_on_at, crate::proofs::Reading::LabelSteps::goes_on_short))]
 fn label_goes_on(source: &[u8], tokens: &[Token], at: usize) -> bool
     requires { at ≤ length tokens.now }
@@ -169,7 +169,7 @@ fn label_goes_on(source: &[u8], tokens: &[Token], at: usize) -> bool
 }
 
 fn is_ampersand_name(source: &[u8], sign: &Token, name: &Token) -> bool
-    ensures { result ≡ (is_ampersand sign.now && is_free source.now name.now) }
+    ensures { result ≡ (is_ampersand sign.now && is_unreserved_name source.now name.now) }
 {
-    is_ampersand(sign) && is_free(source, name)
+    is_ampersand(sign) && is_unreserved_name(source, name)
 }

@@ -138,7 +138,7 @@ impl<'a> Numbering<'a> {
         Ok(Some((name, after)))
     }
 
-    // Checks whether `&` and the counter come after `name`, at index `at` of `tokens`.
+    // Returns whether `&` and the counter come after `name`, at index `at` of `tokens`.
     #[tactic(auto, using(crate::proofs::Unrolling::Copies::joins_at, crate::proofs::Unrolling::Copies::joins_short))]
     fn joins(&self, name: &Token, tokens: &[Token], at: usize) -> bool
         requires { at < length tokens.now }
@@ -148,7 +148,7 @@ impl<'a> Numbering<'a> {
         at + 1 < tokens.len() && self.is_join(name, &tokens[at], &tokens[at + 1])
     }
 
-    // Checks for a name, `&` and the counter.
+    // Returns whether three tokens are a name, `&` and the counter.
     fn is_join(&self, name: &Token, sign: &Token, used: &Token) -> bool
         ensures { result ≡ (is_name_token name.now && (is_ampersand sign.now && is_counter (seen_numbering self.now) used.now)) }
     {
@@ -165,7 +165,7 @@ impl<'a> Numbering<'a> {
         }
     }
 
-    // Checks whether a token is the name of the counter.
+    // Returns whether a token is the name of the counter.
     fn is_counter(&self, token: &Token) -> bool
         ensures { result ≡ is_counter (seen_numbering self.now) token.now }
     {

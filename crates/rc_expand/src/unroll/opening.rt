@@ -70,9 +70,9 @@ fn counter_fault(line: u64, label: &[Token]) -> ExpandFault
     }
 }
 
-// Checks for a label that was the name of an enclosing block's counter, written without `&`:
-// copying has put a number in its place. A number with joined counters was a joined name, and so
-// is not such a label.
+// Returns whether a label was the name of an enclosing block's counter, written without `&`:
+// copying has put a number in its place. A number with joined counters was a joined name, so it is
+// not such a label.
 fn is_enclosing_counter(label: &[Token]) -> bool
     ensures { result ≡ is_enclosing_counter label.now }
 {
@@ -83,7 +83,7 @@ fn is_enclosing_counter(label: &[Token]) -> bool
     }
 }
 
-// Checks for a number to which no counter is joined.
+// Returns whether a token is a number to which no counter is joined.
 fn is_plain_number(token: &Token) -> bool
     ensures { result ≡ is_plain_number token.now }
 {

@@ -182,14 +182,14 @@ fn clone_copies<'a>(
     Ok(cloned)
 }
 
-// Checks that no copy has a counter. A line in `copies` is then as the text has it.
+// Returns whether no copy has a counter. A line in `copies` is then as the text has it.
 pub(crate) fn have_no_counter(copies: &[BlockCopy]) -> bool
     ensures { result ≡ have_no_counter copies.now }
 {
     copies.iter().all(|copy| copy.counter.is_none())
 }
 
-// Checks whether a line has too few tokens to join nine counters to one name, in however many
+// Returns whether a line has too few tokens to join nine counters to one name, in however many
 // copies.
 pub(crate) fn is_short_line(raw: &RawLine) -> bool
     ensures { result ≡ is_short_line raw.now }

@@ -19,7 +19,7 @@ pub(crate) struct UnrolledSoFar<'a> {
 
 impl<'a> Model for UnrolledSoFar<'a> {
     ghost use Rattle.std.specs.Prelude.{◌+◌, ◌≤◌, length};
-    ghost use Rattle.rc_expand.specs.declared.limits.TheConstants.{MOST_LINES};
+    ghost use Rattle.rc_expand.specs.Limits.{MOST_LINES};
     ghost use Rattle.rc_expand.specs.Unroll.{UnrolledSoFarView};
 
     ghost Value = { UnrolledSoFarView };
