@@ -1,5 +1,5 @@
 //! Whether words ask for help. If they do, help is shown whatever else is wrong with them.
-ghost use Rattle.std.specs.Prelude.{◌≡◌, false, map, IsTrue, string_bytes};
+ghost use Rattle.std.specs.Prelude.{◌≡◌, ◌↔◌, false, map, IsTrue, string_bytes};
 ghost use Rattle.command_words.specs.CommandLine.{is_command};
 ghost use Rattle.command_words.specs.Help.{command_in, is_rule, takes_value, is_help_option, has_help_option, begins_with_help, MentionsHelp};
 
@@ -7,7 +7,7 @@ ghost use Rattle.command_words.specs.Help.{command_in, is_rule, takes_value, is_
 /// `--help`, `-h`, `--version` or `-V` before `--`, unless it is the value of an option. A run that
 /// only prints the text of `clap` succeeds only if they do.
 pub fn mentions_help(words: &[String]) -> bool
-    ensures { IsTrue result → MentionsHelp (map string_bytes words.now) }
+    ensures { IsTrue result ↔ MentionsHelp (map string_bytes words.now) }
 {
     begins_with_help(words) || has_help_option(words, command_in(words), true)
 }
