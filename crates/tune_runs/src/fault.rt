@@ -58,7 +58,7 @@ pub enum RunFault {
     #[error("schedule: {0}")]
     Schedule(ScheduleFault),
     /// No setting of the template, or of the part that is tuned, assembles.
-    #[error("no setting of the template assembles")]
+    #[error("no setting assembles")]
     NoCandidate,
     /// A writer failed.
     #[error("cannot write the output")]

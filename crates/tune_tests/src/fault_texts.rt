@@ -113,10 +113,7 @@ const RUN_TEXTS: [(RunFault, &str); 14] = [
         }),
         "schedule: record 8: no such opponent",
     ),
-    (
-        RunFault::NoCandidate,
-        "no setting of the template assembles",
-    ),
+    (RunFault::NoCandidate, "no setting assembles"),
     (RunFault::Write, "cannot write the output"),
     (RunFault::OutOfMemory, "out of memory"),
     (RunFault::Part, "no such part of the settings"),
