@@ -27,8 +27,7 @@ pub use read::{read_cert, read_statement};
 pub use share::Share;
 pub use tune_problem::{
     Answer, Best, Cert, Found, Inputs, Listing, Ranking, Row, Rows, Silent, Standing, Statement,
-    Watcher, cert_version, fight_count, fight_points, fight_weight, greatest_total,
-    setting_warrior,
+    Watcher,
 };
 pub use verdict::{Judgement, Reason, Verdict};
 pub use write::{write_answer, write_cert};

@@ -11,8 +11,7 @@ ghost use Rattle.tune_runs.specs.Report.{number_line, of_line, constant_text, co
 use itoa::Buffer;
 use rc_instr::OutOfMemory;
 use std::alloc::Global;
-use tune_cert::greatest_total;
-use tune_problem::{Aim, Best, Inputs};
+use tune_problem::{Aim, Best, Inputs, greatest_total};
 use tune_search::Findings;
 
 // Makes the report of what a search found.
