@@ -1,5 +1,5 @@
-//! Laws of the text of certificates and of their checks, beside those of `tune_problem`. A law is a
-//! function with an empty body: its contract is what is proved.
+//! Laws of the text of certificates and of their checks, beside those of `tune_problem`: functions
+//! with an empty body, whose contract is what is proved.
 ghost use Rattle.std.specs.Prelude.{◌≡◌, ◌↔◌, ◌≤◌, ℕ, true, List, Ok, Err};
 ghost use Rattle.tables.specs.Records.{Fields, records_of};
 ghost use Rattle.tune_problem.specs.Parts.{whole};
@@ -60,9 +60,9 @@ pub fn accepted_in_every_share_is_valid()
 {}
 
 /// States that a check of all rows with a demand accepts a statement exactly if it meets the
-/// demand: it is a valid certificate of its best setting, and exact if a ranking is asked for; or
-/// one that no setting reaches the floor that is asked for. The check then names its answer, and
-/// the ranking that its rows list.
+/// demand. With a best setting the statement must be a valid certificate of it, and exact if a
+/// ranking is asked for. Else its floor must be the one that is asked for, and its rows must show
+/// that no setting reaches it. The check then names the answer, and the ranking that the rows list.
 pub fn a_demand_is_met()
     ensures { (p : Problem) (demand : Demand) (s : Statement) → IsProblem p → ShareAccepts p demand whole s ↔ MeetsDemand p demand s }
 {}

@@ -1,4 +1,4 @@
-//! Laws of the definitions. A law is a function with an empty body: its contract is what is proved.
+//! Laws of the definitions: functions with an empty body, whose contract is what is proved.
 ghost use Rattle.std.specs.Prelude.{◌≡◌, ◌↔◌, ◌<◌, ◌≤◌, ℕ, ℤ, List, length, flat_map};
 ghost use Rattle.std.specs.List.{range_with_len};
 ghost use Rattle.tune_problem.specs.Parts.{part, whole, part_of};

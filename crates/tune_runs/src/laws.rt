@@ -1,5 +1,5 @@
-//! Laws of tunings and their certificates. A law is a function with an empty body: its contract is
-//! what is proved.
+//! Laws of tunings and their certificates: functions with an empty body, whose contract is what is
+//! proved.
 ghost use Rattle.std.specs.Prelude.{◌≡◌, ◌≤◌, ◌⊎◌, ℕ, Bool, List, Some, None, true, Err, IsTrue};
 ghost use Rattle.tune_problem.specs.Inputs.{InputsView};
 ghost use Rattle.tune_problem.specs.Parts.{ForEach};

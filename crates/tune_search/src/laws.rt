@@ -1,4 +1,4 @@
-//! Laws of the search. A law is a function with an empty body: its contract is what is proved.
+//! Laws of the search: functions with an empty body, whose contract is what is proved.
 ghost use Rattle.std.specs.Prelude.{◌≡◌, ◌<◌, ◌≤◌, ◌*◌, ℕ, List, None};
 ghost use Rattle.rc_instr.specs.Warrior.{WarriorView};
 ghost use Rattle.tune_problem.specs.Problem.{Problem, IsProblem};

@@ -1,4 +1,4 @@
-//! Laws of the definitions. A law is a function with an empty body: its contract is what is proved.
+//! Laws of the definitions: functions with an empty body, whose contract is what is proved.
 ghost use Rattle.std.specs.Prelude.{◌<◌, ℕ, List, length};
 ghost use Rattle.tune_template.specs.Ranges.{Ranges, HasRanges};
 ghost use Rattle.tune_template.specs.Vectors.{vectors_of};
