@@ -50,7 +50,9 @@ abbrev pub kept_asked : Option ℕ → Option ℕ
 kept_asked None = None
 kept_asked (Some keep) = if nat_le 1 keep && nat_le keep MOST_KEPT then Some keep else None
 
--- The aim of a tuning with this demand: one setting and the floor 0, unless they are given.
+-- The aim of a tuning with this demand: one setting and the floor 0, unless they are given. It is
+-- an aim whatever the demand is, since `tune_for_run` takes no other. If `keep` is within its
+-- limits, it is `aim_of` of `tune_runs`.
 abbrev pub aim_meant : Demand → Aim
 aim_meant demand = record { keep = unwrap_or (kept_asked demand.keep) 1; floor = unwrap_or demand.floor 0 }
 

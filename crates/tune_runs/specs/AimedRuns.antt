@@ -15,7 +15,8 @@ use Rattle.tune_runs.specs.CheckRun.{WritesCheck, accepted_words, answer_text}
 use Rattle.tune_runs.specs.Runs.{Writer, Gets}
 
 -- The aim of a tuning that is asked for what a check demands: it keeps one setting if `keep` is
--- None, and has the floor 0 if `floor` is None.
+-- None, and has the floor 0 if `floor` is None. A `keep` out of its limits gives no aim, which
+-- `IsAsked` rules out.
 abbrev pub aim_of : Demand → Aim
 aim_of demand = record { keep = unwrap_or demand.keep 1; floor = unwrap_or demand.floor 0 }
 
