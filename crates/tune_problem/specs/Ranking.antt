@@ -1,5 +1,5 @@
--- The ranking of candidates: a list of `Best`, each a setting with its total, the greatest total
--- first, then the smaller index.
+-- The ranking of candidates: a list of `Best`, which here is any setting with its total. The
+-- greatest total is first, then the smaller index.
 use Rattle.std.specs.Prelude.{◌≡◌, ℕ, ◌-◌, ◌<◌, ◌≤◌, ◌⊎◌, Bool, true, false, ◌&&◌, nat_le, if◌then◌else◌, List, [], ◌∷◌, length, take, slice_get, Option, Some, None}
 use Rattle.std.specs.List.{AllByRecursion}
 use Rattle.rc_instr.specs.Warrior.{WarriorView}
@@ -26,8 +26,8 @@ beats_lead c v (Some lead) = beats c v lead.total lead.vector
 
 -- A ranking with one more setting, which comes before the first that it beats.
 unfoldable pub ranked : Best → List Best → List Best
-ranked best [] = best ∷ []
-ranked best (x ∷ xs) = if beats best.total best.vector x.total x.vector then best ∷ x ∷ xs else x ∷ ranked best xs
+ranked x [] = x ∷ []
+ranked x (y ∷ ys) = if beats x.total x.vector y.total y.vector then x ∷ y ∷ ys else y ∷ ranked x ys
 
 -- The `keep`-th of a ranking, which a setting has to beat, or None if the ranking is shorter.
 abbrev pub last_kept : Aim → List Best → Option Best
@@ -59,13 +59,13 @@ first_of ranking = slice_get ranking 0
 -- ---- what a ranking is
 
 -- A candidate among some settings, with its total, which reaches the floor.
-pub record IsRanked (p : Problem) (aim : Aim) (among : ℕ → Type 0) (best : Best) : Type 0 where
+pub record IsRanked (p : Problem) (aim : Aim) (among : ℕ → Type 0) (x : Best) : Type 0 where
   pub warrior : WarriorView
-  pub inside : best.vector < p.count
-  pub is_among : among best.vector
-  pub candidate : p.warrior best.vector ≡ Some warrior
-  pub scores : total_of p warrior ≡ best.total
-  pub reaches : aim.floor ≤ best.total
+  pub inside : x.vector < p.count
+  pub is_among : among x.vector
+  pub candidate : p.warrior x.vector ≡ Some warrior
+  pub scores : total_of p warrior ≡ x.total
+  pub reaches : aim.floor ≤ x.total
 
 -- One setting comes before another in a ranking.
 abbrev pub Ahead : Best → Best → Type 0
@@ -78,8 +78,8 @@ InOrder (x ∷ xs) = AllByRecursion (Ahead x) xs × InOrder xs
 
 -- The setting is in the list, with this total.
 abbrev pub In : Best → List Best → Type 0
-In best [] = ⊥
-In best (x ∷ xs) = (best ≡ x) ⊎ In best xs
+In x [] = ⊥
+In x (y ∷ ys) = (x ≡ y) ⊎ In x ys
 
 -- The first of the ranking of some settings: at most `keep`, in order, each with its total; any
 -- other candidate among them does not contend.

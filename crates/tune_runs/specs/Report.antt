@@ -14,7 +14,7 @@ use Rattle.tune_search.specs.declared.findings.Findings.{Findings}
 
 -- A setting with its total, and each constant with its value.
 pub record NamedSetting : Type 0 where
-  pub best : Best
+  pub setting : Best
   pub constants : Table
 
 -- What a report says.
@@ -65,14 +65,14 @@ none_lines floor most = codes "best -\n" ++ codes "constants -\n" ++ of_line (co
 unfoldable pub best_lines : (floor most : ℕ) → Option NamedSetting → List ℕ
 best_lines floor most None = none_lines floor most
 best_lines floor most (Some s) =
-    number_line (codes "best ") s.best.vector
+    number_line (codes "best ") s.setting.vector
     ++ constants_line s.constants
-    ++ of_line (codes "total ") s.best.total most
+    ++ of_line (codes "total ") s.setting.total most
 
 -- `rank I setting W total T NAME=value ..`, with nothing after T if there are no constants.
 unfoldable pub rank_line : (rank : ℕ) → NamedSetting → List ℕ
 rank_line rank s =
-    codes "rank " ++ decimal rank ++ codes " setting " ++ decimal s.best.vector ++ codes " total " ++ decimal s.best.total
+    codes "rank " ++ decimal rank ++ codes " setting " ++ decimal s.setting.vector ++ codes " total " ++ decimal s.setting.total
     ++ constants_text s.constants ++ codes "\n"
 
 -- The lines of a ranking, whose first setting has this rank.
@@ -96,11 +96,11 @@ constants_with i (Some values) = constants_of i.template.ranges.names values
 
 -- The setting with the values that it gives the constants.
 abbrev pub named_setting : InputsView → Best → NamedSetting
-named_setting i best = record { best = best; constants = constants_with i (slice_get (settings_of i) best.vector) }
+named_setting i x = record { setting = x; constants = constants_with i (slice_get (settings_of i) x.vector) }
 
 -- The setting is one of the part's.
 abbrev pub IsSettingOf : InputsView → Best → Type 0
-IsSettingOf i best = best.vector < length (settings_of i)
+IsSettingOf i x = x.vector < length (settings_of i)
 
 -- The settings that have a line: those of the ranking, if more than one is asked for.
 abbrev pub named_ranking : InputsView → Option ℕ → List Best → List NamedSetting

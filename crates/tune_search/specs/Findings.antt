@@ -45,8 +45,8 @@ best_from floor g = if nat_le floor g.total then Some (record { vector = g.best;
 
 -- The row of a setting lists every fight, or is `Same` of one that does.
 abbrev pub IsFull : Problem → List Row → Best → Type 0
-IsFull p rows best = (u : ℕ) × (row : List (ℕ × ℕ)) × (slice_get rows u ≡ Some (Cap row)) × (length row ≡ p.fights)
-    × ((u ≡ best.vector) ⊎ (slice_get rows best.vector ≡ Some (Same u)))
+IsFull p rows x = (u : ℕ) × (row : List (ℕ × ℕ)) × (slice_get rows u ≡ Some (Cap row)) × (length row ≡ p.fights)
+    × ((u ≡ x.vector) ⊎ (slice_get rows x.vector ≡ Some (Same u)))
 
 -- What a search by a method finds if it is asked for the first of the ranking.
 pub record IsSearchFor (p : Problem) (aim : Aim) (method : Method) (f : Findings) : Type 0 where
