@@ -4,7 +4,7 @@ ghost use Rattle.command_words.specs.CommandLine.{AsksForFight, command_of, comm
 
 use crate::command_line::Request;
 
-/// Checks for the shortest words of a fight: none, or `fight` alone.
+/// Returns whether the words are the shortest of a fight: none, or `fight` alone.
 pub fn asks_for_fight(words: &[String]) -> bool
     ensures { IsTrue result ↔ AsksForFight (map string_bytes words.now) }
 {

@@ -111,8 +111,9 @@ abbrev pub IsExactFor : Problem → Option Aim → List Row → Type 0
 IsExactFor p None rows = Unit {0}
 IsExactFor p (Some aim) rows = IsExact p aim rows
 
--- A statement meets a demand if it is a valid certificate of its best setting, with rows that are
--- exact if a ranking is asked for; or one that no candidate reaches the floor that is asked for.
+-- A statement with a best setting meets a demand if it is a valid certificate of it, with rows that
+-- are exact if a ranking is asked for. Any other meets it if its floor is the one that is asked
+-- for, and its rows show that no candidate reaches this floor.
 abbrev pub MeetsBy : Problem → Demand → Statement → Answer → Type 0
 MeetsBy p demand s (TheBest best) = IsValid p (cert_with s.version s.count s.rows best) × IsExactFor p (aim_for demand (TheBest best)) s.rows
 MeetsBy p demand s (NoneFrom floor) = (demand.floor ≡ Some floor) × (s.count ≡ p.count) × IsValidBelow p floor s.version s.rows

@@ -97,7 +97,7 @@ pub fn check_for<T: Watcher>(
     }
 }
 
-// Returns the verdict that a judgement without a demand is: that names no floor.
+// Returns a judgement as a verdict. One without a demand names no floor.
 fn verdict_of(judgement: &Judgement) -> Verdict
     ensures { (v : VerdictView) → judgement.now ≡ judged v → result ≡ v }
 {
@@ -156,7 +156,7 @@ fn check_statement<T: Watcher>(
     }
 }
 
-// Checks whether the record of the answer is right: a best setting has its row, and a floor is the
+// Returns whether the record of the answer is right: a best setting has its row, and a floor is the
 // one that is asked for.
 fn is_answered(inputs: &Inputs, demand: Demand, statement: &Statement) -> bool
     ensures { result ≡ is_answered (problem_of inputs.now) demand statement.now.rows statement.now.answer }
@@ -170,7 +170,7 @@ fn is_answered(inputs: &Inputs, demand: Demand, statement: &Statement) -> bool
     }
 }
 
-// Checks whether the version is one for the schedule: version 1 is for schedules in which every
+// Returns whether the version is one for the schedule: version 1 is for schedules in which every
 // fight counts once.
 fn is_version_of(inputs: &Inputs, statement: &Statement) -> bool
     ensures { result ≡ is_version_of (problem_of inputs.now) statement.now.version }
@@ -181,7 +181,7 @@ fn is_version_of(inputs: &Inputs, statement: &Statement) -> bool
     true
 }
 
-// Checks whether there is a row for each setting, and this count is claimed.
+// Returns whether there is a row for each setting, and this count is claimed.
 fn has_row_count(inputs: &Inputs, statement: &Statement) -> bool
     ensures { result ≡ has_row_count (problem_of inputs.now) statement.now }
 {

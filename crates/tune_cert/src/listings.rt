@@ -14,7 +14,7 @@ use mars_fight::MOST_POINTS;
 use rc_instr::Warrior;
 use tune_problem::{Inputs, Watcher, fight_count, fight_points, fight_weight, greatest_total};
 
-// Checks whether a cap row lists each of the `fights` fights, in order.
+// Returns whether a cap row lists each of the `fights` fights, in order.
 pub(crate) fn lists_all(fights: u32, listed: &[(u32, u8)]) -> bool
     ensures { result ≡ lists_all fights 0 listed.now }
 {
@@ -28,7 +28,7 @@ pub(crate) fn lists_all(fights: u32, listed: &[(u32, u8)]) -> bool
     next == u64::from(fights)
 }
 
-// Checks whether the fights of a cap row rise, so that none is listed twice.
+// Returns whether the fights of a cap row rise, so that none is listed twice.
 pub(crate) fn is_rising(listed: &[(u32, u8)]) -> bool
     ensures { result ≡ rises 0 listed.now }
 {
@@ -42,7 +42,7 @@ pub(crate) fn is_rising(listed: &[(u32, u8)]) -> bool
     true
 }
 
-// Checks whether every listed fight exists.
+// Returns whether every listed fight exists.
 pub(crate) fn are_fights(inputs: &Inputs, listed: &[(u32, u8)]) -> bool
     ensures { result ≡ are_fights (problem_of inputs.now) listed.now }
 {
@@ -55,7 +55,7 @@ pub(crate) fn are_fights(inputs: &Inputs, listed: &[(u32, u8)]) -> bool
     true
 }
 
-// Checks whether every listed fight exists and gives the listed points. Plays the fights in order
+// Returns whether every listed fight exists and gives the listed points. Plays the fights in order
 // and stops at the first that does not.
 pub(crate) fn have_points<T: Watcher>(
     arena: &mut Arena<PackedCells>,

@@ -103,9 +103,9 @@ pub(crate) fn check_same(
     }
 }
 
-// Checks the row of setting `vector` that refers to setting `other`: that must have a cap row of
-// rising fights and the same warrior, and the cap must not beat the best for `vector` either. Takes
-// the listed points as they are: whether they are right is a check of the row of `other`.
+// Checks the row of setting `vector` that refers to setting `other`, which must have the same
+// warrior and a cap row of rising fights. Its cap must stay below as one of `vector`, too. Takes
+// the listed points as they are, since the row of `other` is checked itself.
 fn check_reference(
     alloc: Global,
     claim: &Claim<'_>,
@@ -144,7 +144,7 @@ fn check_reference(
     Ok(None)
 }
 
-// Checks whether the row of a best setting lists every fight in order, with scores that add up to
+// Returns whether the row of a best setting lists every fight in order, with scores that add up to
 // its total.
 pub(crate) fn is_best_row(inputs: &Inputs, rows: &Rows, best: Best) -> bool
     ensures { result ≡ is_best_row (problem_of inputs.now) best.total (slice_get rows.now best.vector) }
@@ -169,7 +169,7 @@ pub(crate) fn cap_row(rows: &Rows, vector: u32) -> Option<&[(u32, u8)]>
     }
 }
 
-// Checks whether setting `vector` is the best one by an answer, or its cap `cap` stays below.
+// Returns whether `answer` names setting `vector`, or the cap `cap` of that setting stays below.
 fn is_best_or_below(answer: Answer, vector: u32, cap: u32) -> bool
     ensures { result ≡ (names answer vector || stays_below answer cap vector) }
 {
@@ -185,7 +185,7 @@ fn is_named(answer: Answer, vector: u32) -> bool
     }
 }
 
-// Checks whether cap `cap` of setting `vector` does not beat the best setting, or is below the
+// Returns whether cap `cap` of setting `vector` does not beat the best setting, or is below the
 // floor that no setting is said to reach.
 fn stays_below(answer: Answer, vector: u32, cap: u32) -> bool
     ensures { result ≡ stays_below answer cap vector }
@@ -196,8 +196,8 @@ fn stays_below(answer: Answer, vector: u32, cap: u32) -> bool
     }
 }
 
-// Checks whether a row, as one of setting `vector`, lists every fight, or its cap `cap` does not
-// contend with the ranking that the rows list. Without an aim every row is exact.
+// Returns whether a row lists every fight or, as one of setting `vector` with the cap `cap`, does
+// not contend with the ranking that the rows list. Without an aim every row is exact.
 #[tactic(auto, unfolding(crate::specs::Checks::is_exact))]
 fn is_exact(claim: &Claim<'_>, vector: u32, listed: &[(u32, u8)], cap: u32) -> bool
     requires { cap ≡ listed_cap (problem_of claim.now.inputs.now) listed.now }

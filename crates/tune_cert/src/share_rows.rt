@@ -93,7 +93,7 @@ fn check_rows_alone<T: Watcher>(
     Ok(None)
 }
 
-// Checks that no row from `first` to just before `end` refers to another setting.
+// Returns whether no row from `first` to just before `end` refers to another setting.
 fn none_refer(claim: &Claim<'_>, first: u32, end: u32) -> bool
     requires inside { end ≤ length claim.now.statement.now.rows }
     ensures { IsTrue result → None ≡ for_claim wrong_same claim.now (settings_between first end) }
@@ -134,7 +134,7 @@ fn check_rows_same<T: Watcher>(
     Ok(None)
 }
 
-// Checks whether a row refers to another setting. Such rows are checked, and told, last.
+// Returns whether a row refers to another setting. Such rows are checked last.
 fn refers(row: &Row) -> bool
     ensures { result ≡ refers row.now }
 {

@@ -9,7 +9,7 @@ use rc_instr::{Instruction, OutOfMemory, Warrior};
 use std::alloc::{AllocError, Global};
 use tune_problem::{Inputs, setting_warrior};
 
-// Returns `None` for each of `count` settings: no warrior is made yet.
+// Makes a list of `count` times `None`: no warrior is made yet.
 pub(crate) fn no_warriors(alloc: Global, count: u32) -> Result<Vec<Option<Warrior>>, AllocError>
     ensures { IfOk result (λ ws. ws.items ≡ replicate count None) }
 {
@@ -20,8 +20,8 @@ pub(crate) fn no_warriors(alloc: Global, count: u32) -> Result<Vec<Option<Warrio
     Ok(warriors)
 }
 
-// Checks whether settings `vector` and `other` assemble, to equal warriors. The warrior of `other`
-// is kept.
+// Returns whether settings `vector` and `other` assemble to equal warriors. Keeps the warrior of
+// `other`.
 pub(crate) fn share_warrior(
     alloc: Global,
     inputs: &Inputs,

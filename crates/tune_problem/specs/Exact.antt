@@ -48,7 +48,7 @@ total_at p rows v = option_and_then (shown_total p) (listed_at rows v)
 
 -- ---- the ranking of these totals
 
--- The first of a ranking, with setting v, if its total is shown.
+-- The ranking after setting v, if the total of v is shown; else as it was.
 abbrev pub ranking_shown : Aim → ℕ → Option ℕ → List Best → List Best
 ranking_shown aim v None ranking = ranking
 ranking_shown aim v (Some total) ranking = next_ranking aim total v ranking

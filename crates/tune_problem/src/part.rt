@@ -26,7 +26,7 @@ impl Part {
         }
     }
 
-    // Checks that this is a part of `count` settings.
+    // Returns whether this is a part of `count` settings.
     pub(crate) fn is_part_of(self, count: u32) -> bool
         ensures { IsTrue result ↔ IsPart self count }
     {

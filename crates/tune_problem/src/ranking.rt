@@ -52,7 +52,7 @@ impl Ranking {
     /// Ranks setting `vector` with the total `cap`, if that contends: puts it before the first
     /// setting that it beats, and removes the last one if there are then more than `aim` keeps.
     ///
-    /// Fails only if out of memory, and is then as it was.
+    /// Fails only if out of memory. The ranking is then as it was.
     pub fn rank(&mut self, aim: Aim, cap: u32, vector: u32) -> Result<(), AllocError>
         ensures ranked { OnOk result (self.new ≡ next_ranking aim cap vector self.old) }
         ensures kept { OnErr result (self.new ≡ self.old) }
@@ -68,7 +68,7 @@ impl Ranking {
     }
 }
 
-/// Checks whether cap `cap` of setting `vector` contends: it reaches the floor of `aim`, and beats
+/// Returns whether cap `cap` of setting `vector` contends: it reaches the floor of `aim`, and beats
 /// the last setting that `aim` keeps of `ranking`. If `ranking` is shorter than that, the cap need
 /// only reach the floor.
 pub fn contends(aim: Aim, cap: u32, vector: u32, ranking: &[Best]) -> bool
@@ -82,7 +82,7 @@ pub fn contends(aim: Aim, cap: u32, vector: u32, ranking: &[Best]) -> bool
         )
 }
 
-// Checks whether cap `cap` of setting `vector` beats the lead. Every cap does if there is none.
+// Returns whether cap `cap` of setting `vector` beats the lead. Every cap does if there is none.
 fn beats_lead(cap: u32, vector: u32, lead: Option<Best>) -> bool
     ensures { result ≡ beats_lead cap vector lead }
 {

@@ -25,7 +25,7 @@ pub(crate) fn capacity_of(method: Method) -> u32
     }
 }
 
-// Checks whether setting `vector`, at cap `cap`, is dropped against the floor and the ranking.
+// Returns whether setting `vector`, at cap `cap`, is dropped against the floor and the ranking.
 pub(crate) fn drops(method: Method, aim: Aim, cap: u32, vector: u32, ranking: &[Best]) -> bool
     ensures { result ≡ drops method aim cap vector ranking.now }
 {

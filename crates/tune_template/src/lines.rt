@@ -33,7 +33,7 @@ pub(crate) fn first_word<'a>(line: &'a [u8]) -> Option<(&'a [u8], &'a [u8])>
     Some(word.split_at(word_len(word)))
 }
 
-/// Checks whether a line is a range line: `;@tune` at the front, with a blank or nothing after it.
+/// Returns whether a line is a range line: `;@tune` at the front, with a blank or nothing after it.
 /// So `;@tuned` is a comment.
 pub fn is_range_line(line: &[u8]) -> bool
     ensures { result ≡ is_range_line line.now }
@@ -65,7 +65,7 @@ fn word_len(text: &[u8]) -> usize
     text.iter().take_while(|byte| !is_blank(**byte)).count()
 }
 
-// Checks for a blank at the front, or an empty text.
+// Returns whether a text is empty or begins with a blank.
 fn begins_blank(text: &[u8]) -> bool
     ensures { result ≡ begins_blank text.now }
 {

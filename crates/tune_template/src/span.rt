@@ -21,9 +21,9 @@ pub struct Span {
 }
 
 impl Span {
-    // Makes a span of the values from `low` up to `high`, in which `start` must be.
+    // Makes the span of `low`, `low + step`, .. up to `high`, with `start` as one of its values.
     //
-    // Refuses `EmptyRange` before `StartOutside`.
+    // Returns `EmptyRange` before `StartOutside`.
     #[tactic(auto, unfolding(crate::specs::Spans::span_of))]
     pub(crate) fn try_new(low: i32, high: i32, step: u16, start: i32) -> Result<Span, TemplateKind>
         requires low { negsuc 65534 ≤ℤ low }

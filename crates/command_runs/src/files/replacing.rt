@@ -139,7 +139,7 @@ fn follow<F: Files>(rt: &F, alloc: Global, path: &mut PathBuf) -> io::Result<boo
     Ok(true)
 }
 
-// Checks whether reading a link failed because the name is not a link, or no file has it.
+// Returns whether reading a link failed because the name is not a link, or no file has it.
 fn is_not_a_link(kind: io::ErrorKind) -> bool {
     kind == io::ErrorKind::InvalidInput || kind == io::ErrorKind::NotFound
 }

@@ -117,7 +117,7 @@ fn a_cap_that_contends_is_too_high(rt: HostRuntime) -> Result<(), Fail> {
     Ok(())
 }
 
-// A `same` row ranks with the total of the row that it names.
+// A `same` row ranks with the total of the row to which it refers.
 #[test]
 fn equal_warriors_are_ranked(rt: HostRuntime) -> Result<(), Fail> {
     let inputs = inputs_of(rt.alloc(), FOUR_EQUAL)?;
@@ -132,8 +132,8 @@ fn equal_warriors_are_ranked(rt: HostRuntime) -> Result<(), Fail> {
     Ok(())
 }
 
-// The cap of the row that is named does not contend with setting 2, but as that of setting 1 it
-// does.
+// The cap of setting 3 is 4, which does not beat setting 2. Setting 1 refers to that row, and by its
+// smaller index the same cap beats setting 2.
 #[test]
 fn a_same_row_contends_as_its_own_setting(rt: HostRuntime) -> Result<(), Fail> {
     let inputs = inputs_of(rt.alloc(), FOUR_EQUAL)?;
@@ -149,7 +149,7 @@ fn a_same_row_contends_as_its_own_setting(rt: HostRuntime) -> Result<(), Fail> {
     Ok(())
 }
 
-// What does not reach the floor is not ranked, and need not be shown.
+// Settings below the floor are not ranked, and need not be shown.
 #[test]
 fn a_floor_leaves_less_to_show(rt: HostRuntime) -> Result<(), Fail> {
     let inputs = inputs_of(rt.alloc(), THREE_UNEQUAL)?;

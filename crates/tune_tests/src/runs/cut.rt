@@ -9,8 +9,8 @@ use std::alloc::Global;
 use std::test::Fail;
 use tune_runs::{RunFault, asm_run, check_run, fight_run, tune_run};
 
-// Checks that a run that writes `text` ended as it should on a writer that takes `writes` writes:
-// with `Write` and the first pieces of the text, or with the whole text.
+// Returns whether a run that writes `text` ended as it should on a writer that takes `writes`
+// writes: with `Write` and the first pieces of the text, or with the whole text.
 fn is_cut(ended: Result<(), RunFault>, taken: &[u8], writes: usize, text: &[u8]) -> bool {
     let most = writes.saturating_mul(PIECE);
     if most < text.len() {

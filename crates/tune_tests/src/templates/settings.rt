@@ -4,7 +4,7 @@ use crate::fixtures::{ONE_IMP, TWO_CONSTANTS};
 use std::test::Fail;
 use tune_template::Template;
 
-// Checks that the setting of index `index` has `values`.
+// Returns whether there is a setting at `index`, with these values.
 fn is_vector(template: &Template, index: u32, values: &[i64]) -> bool {
     if index >= template.count() {
         return false;
@@ -22,7 +22,7 @@ const VECTORS: [(u32, i64, i64); 6] = [
     (5, 1, 9),
 ];
 
-// Checks that a template has two constants, of these names.
+// Returns whether a template has two constants, of these names.
 fn has_names(template: &Template, first: &[u8], second: &[u8]) -> bool {
     match template.names() {
         [one, other] => one.as_slice() == first && other.as_slice() == second,
