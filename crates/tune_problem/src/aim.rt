@@ -8,3 +8,8 @@ pub struct Aim {
     /// The least total, 0 for any.
     pub floor: u32,
 }
+
+impl Aim {
+    /// Asks for the best setting alone, whatever its total.
+    pub const BEST: Aim = Aim { keep: 1, floor: 0 };
+}

@@ -71,7 +71,7 @@ pub fn tune_run<W: Write, V: Write>(
             rules,
             part: Part::whole(),
         },
-        Aim { keep: 1, floor: 0 },
+        Aim::BEST,
         Method::Dropping { capacity },
         &mut Silent,
         report,
@@ -90,8 +90,8 @@ pub fn tune_run<W: Write, V: Write>(
 /// `total below F of M`, where M is the greatest total possible.
 ///
 /// By either method the settings and their totals are the same. The capacity, if `method` has one,
-/// is 1 to 65536. Neither outlet may have failed. `tune_run` is this run for part 1 of 1 with keep
-/// 1 and the floor 0.
+/// is 1 to 65536. Neither outlet may have failed. `tune_run` is this run for part 1 of 1 with
+/// `Aim::BEST`.
 ///
 /// # Errors
 ///

@@ -43,7 +43,7 @@ pub fn search(alloc: Global, inputs: &Inputs, capacity: u32) -> Result<Found, Se
     // these. `NoCandidate` says that no setting assembles.
     ensures { MatchResult result (IsSearch (problem_of inputs.now) (Method.Dropping capacity)) (IsRefused (problem_of inputs.now)) }
 {
-    let aim = Aim { keep: 1, floor: 0 };
+    let aim = Aim::BEST;
     let method = Method::Dropping { capacity };
     let findings = search_for(alloc, inputs, aim, method, &mut Silent)?;
     match findings.into_found() {
@@ -60,7 +60,7 @@ pub fn search(alloc: Global, inputs: &Inputs, capacity: u32) -> Result<Found, Se
 /// `keep`-th setting of the ranking so far, if that many are ranked. The start setting plays all
 /// its fights, since the others learn their order from them. A setting that shares the fights of
 /// another is ranked with the total of the other. A floor drops settings before the ranking does,
-/// and so saves fights. `search` is this search with keep 1 and the floor 0.
+/// and so saves fights. `search` is this search with `Aim::BEST`.
 ///
 /// `Method::PlayingAll` visits the settings and plays their fights in the same orders, but drops
 /// and remembers none: the row of each setting that assembles is `Cap` with all fights. Both find

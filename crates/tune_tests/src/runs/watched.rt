@@ -85,7 +85,7 @@ fn tune(
 {
     let mut report = Outlet::new(Vec::new(alloc));
     let mut cert = Outlet::new(Vec::new(alloc));
-    let aim = Aim { keep: 1, floor: 0 };
+    let aim = Aim::BEST;
     tune_for_run(alloc, texts, aim, method, told, &mut report, &mut cert)
 }
 

@@ -15,7 +15,7 @@ const METHODS: [(Method, u64); 2] = [
 #[test]
 fn a_search_tells_how_far_it_is(rt: HostRuntime) -> Result<(), Fail> {
     let inputs = inputs_of(rt.alloc(), FIRST_REFUSED)?;
-    let aim = Aim { keep: 1, floor: 0 };
+    let aim = Aim::BEST;
     let best = Some(imp(1));
     for &(method, fights) in &METHODS {
         let mut notes = Notes::new();
