@@ -34,7 +34,6 @@ abbrev pub load_file_output : List ℕ → Option WhichSetting → RulesView →
 load_file_output source None rules = asm_output source rules
 load_file_output source (Some which) rules = setting_output source which rules
 
--- The load file was written.
 abbrev pub WritesLoadFile : List ℕ → Option WhichSetting → RulesView → Writer → Type 0
 WritesLoadFile source setting rules out = Writes (load_file_output source setting rules) tt out
 

@@ -40,6 +40,5 @@ duel_named d = do
 abbrev pub duel_output : Duel → Result (Unit {0} × List ℕ) RunFault
 duel_output d = line_of (duel_named d)
 
--- The line was written.
 abbrev pub WritesDuel : Duel → Writer → Type 0
 WritesDuel d out = Writes (duel_output d) tt out

@@ -49,6 +49,5 @@ line_of fight = do
 abbrev pub fight_output : List ℕ → Result (Unit {0} × List ℕ) RunFault
 fight_output text = line_of (fight_named text)
 
--- The line was written.
 abbrev pub WritesFight : List ℕ → Writer → Type 0
 WritesFight text out = Writes (fight_output text) tt out

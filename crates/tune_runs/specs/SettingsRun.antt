@@ -33,6 +33,5 @@ settings_output source = do
   t ← with_fault template_fault (template_of source)
   Ok (tt, settings_text t)
 
--- The text was written.
 abbrev pub WritesSettings : List ℕ → Writer → Type 0
 WritesSettings source out = Writes (settings_output source) tt out
