@@ -22,7 +22,6 @@ pub struct Span {
 
 impl Span {
     // Makes the span of `low`, `low + step`, .. up to `high`, with `start` as one of its values.
-    //
     // Returns `EmptyRange` before `StartOutside`.
     #[tactic(auto, unfolding(crate::specs::Spans::span_of))]
     pub(crate) fn try_new(low: i32, high: i32, step: u16, start: i32) -> Result<Span, TemplateKind>
