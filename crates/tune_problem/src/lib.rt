@@ -21,8 +21,7 @@ pub use cert::{Cert, Found, Listing, Row, Rows};
 pub use inputs::Inputs;
 pub use part::Part;
 pub use problem::{
-    beats, cert_version, fight_count, fight_points, fight_weight, greatest_total, part_size,
-    setting_warrior, start_setting,
+    beats, cert_version, fight_count, fight_points, fight_weight, greatest_total, setting_warrior,
 };
 pub use ranking::{Ranking, contends};
 pub use statement::{Answer, Statement};

@@ -2,7 +2,6 @@
 ghost use Rattle.std.specs.Prelude.{◌≡◌, ◌<◌, ◌≤◌, IfOk, IfSome, length};
 ghost use Rattle.rc_instr.specs.Warrior.{IsWarrior, Fits};
 ghost use Rattle.tune_problem.specs.Problem.{problem_of};
-ghost use Rattle.tune_template.specs.Limits.{MOST_SETTINGS};
 ghost use Rattle.tune_problem.specs.Optimum.{beats, greatest_of};
 ghost use Rattle.tune_problem.specs.Valid.{IsOwnVersion};
 ghost use Rattle.mars_core.specs.Arena.{IsBlank, fights_after};
@@ -17,7 +16,7 @@ use rc_asm::AsmKind;
 use rc_instr::{OutOfMemory, Warrior};
 use std::alloc::Global;
 
-/// Assembles the template with the values of setting `vector`, which must be below `part_size`.
+/// Assembles the template with the values of setting `vector`, which must be below `Inputs::count`.
 ///
 /// Returns `None` if the text does not assemble with these values, or not to a warrior that fits
 /// the rules, and `OutOfMemory` if memory runs out: that says nothing about the setting.
@@ -114,24 +113,7 @@ pub fn fight_count(inputs: &Inputs) -> u32
     inputs.schedule().fights().len() as u32
 }
 
-/// Returns the number of settings of the part that is tuned, 1 to 1000000: `Inputs::count`.
-pub fn part_size(inputs: &Inputs) -> u32
-    ensures count { result ≡ (problem_of inputs.now).count }
-    ensures few { result ≤ MOST_SETTINGS }
-{
-    inputs.count()
-}
-
-/// Returns the index of the start setting: of START, or 0 if the part does not have START. It is
-/// `Inputs::start_number`.
-pub fn start_setting(inputs: &Inputs) -> u32
-    ensures start { result ≡ (problem_of inputs.now).start }
-    ensures inside { result < (problem_of inputs.now).count }
-{
-    inputs.start_number()
-}
-
-/// Checks whether cap `cap` of setting `vector` beats `best`: it is greater than the total of
+/// Returns whether cap `cap` of setting `vector` beats `best`: it is greater than the total of
 /// `best`, or equal and `vector` is the smaller index.
 pub fn beats(cap: u32, vector: u32, best: Best) -> bool
     ensures { result ≡ beats cap vector best.total best.vector }

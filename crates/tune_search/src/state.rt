@@ -18,10 +18,7 @@ use crate::sharing::copies;
 use mars_core::{Arena, PackedCells};
 use rc_instr::OutOfMemory;
 use std::alloc::{AllocError, Global};
-use tune_problem::{
-    Aim, Inputs, Listing, Ranking, Row, Rows, Watcher, cert_version, fight_count, part_size,
-    start_setting,
-};
+use tune_problem::{Aim, Inputs, Listing, Ranking, Row, Rows, Watcher, cert_version, fight_count};
 
 // A search between two visits.
 #[derive(Drop)]
@@ -52,14 +49,14 @@ impl State {
         ensures { IfOk result (IsState inputs.now aim method 0) }
     {
         let arena = Arena::<PackedCells>::try_new(alloc, inputs.rules())?;
-        let rows = blank_rows(alloc, part_size(inputs))?;
+        let rows = blank_rows(alloc, inputs.count())?;
         let order = all_in_order(alloc, fight_count(inputs))?;
         let cache = Cache::with_capacity(alloc, capacity_of(method))?;
         Ok(State {
             method,
             aim,
             arena,
-            start: start_setting(inputs),
+            start: inputs.start_number(),
             found: Findings {
                 version: cert_version(inputs),
                 ranking: Ranking::new(alloc),
@@ -94,7 +91,7 @@ impl State {
         let Some(other) = self.cache.recall(&entrant.text) else {
             return self.fight(alloc, inputs, visits, entrant, watcher);
         };
-        prove!(visits < part_size(inputs));
+        prove!(visits < inputs.count());
         self.found.candidates += 1;
         let copied = copies(self.start, other.vector, vector, self.found.ranking.first());
         self.found.ranking.rank(self.aim, other.cap, vector)?;
@@ -125,7 +122,7 @@ impl State {
         requires unknown { lookup (same_text entrant.text.items) self.old.cache.known ≡ None }
         ensures { OnOk result (IsState inputs.now self.old.aim self.old.method (visits + 1) self.new) }
     {
-        prove!(visits < part_size(inputs));
+        prove!(visits < inputs.count());
         let challenge = Challenge {
             method: self.method,
             entrant: &entrant,

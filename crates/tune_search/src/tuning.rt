@@ -13,7 +13,7 @@ use crate::method::Method;
 use crate::state::State;
 use mars_core::{Arena, PackedCells};
 use std::alloc::Global;
-use tune_problem::{Aim, Best, Found, Inputs, Silent, Standing, Watcher, part_size};
+use tune_problem::{Aim, Best, Found, Inputs, Silent, Standing, Watcher};
 
 /// Finds the optimum: the first setting of the part that is tuned with the greatest total in the
 /// fights of the schedule. Plays only fights that can matter.
@@ -86,11 +86,11 @@ pub fn search_for<T: Watcher>(
     ensures { MatchResult result (λ f. IsSearchFor (problem_of inputs.now) aim method f × (0 < f.candidates)) (IsRefused (problem_of inputs.now)) }
 {
     let mut state = State::begin(alloc, inputs, aim, method)?;
-    for visits in 0..part_size(inputs) {
+    for visits in 0..inputs.count() {
         state.visit(alloc, inputs, visits, watcher)?;
         watcher.see(standing(
             visits + 1,
-            part_size(inputs),
+            inputs.count(),
             &state.arena,
             state.found.ranking.first(),
         ));

@@ -10,7 +10,7 @@ use rc_instr::read_loadfile;
 use std::test::Fail;
 use tune_problem::{
     Best, Inputs, Part, beats, cert_version, fight_count, fight_points, fight_weight,
-    greatest_total, part_size, start_setting,
+    greatest_total,
 };
 use tune_template::Template;
 
@@ -57,7 +57,6 @@ fn inputs_are_looked_at(rt: HostRuntime) -> Result<(), Fail> {
     };
     assert_eq!(rt; (part.first(3), part.end(3)), (1, 3));
     let inputs = inputs.part(part).ok_or("no such part")?;
-    assert_eq!(rt; (part_size(&inputs), start_setting(&inputs)), (2, 0));
     assert_eq!(rt; (inputs.count(), inputs.start_number()), (2, 0));
     assert_eq!(rt; first_of(&inputs), (1, 1));
     ask(rt.alloc())

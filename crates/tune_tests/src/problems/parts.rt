@@ -4,7 +4,7 @@ use crate::fixtures::inputs_of;
 use rc_instr::write_loadfile;
 use std::alloc::Global;
 use std::test::Fail;
-use tune_problem::{Inputs, Part, part_size, setting_warrior, start_setting};
+use tune_problem::{Inputs, Part, setting_warrior};
 
 #[test]
 fn three_parts_of_ten_settings_have_their_bounds(rt: HostRuntime) -> Result<(), Fail> {
@@ -36,11 +36,10 @@ const PARTS: [(u32, u32, u32, u32, [i64; 2]); 6] = [
     (6, 6, 1, 0, [2, 6]),
 ];
 
-// Checks that a part has this count of settings, this start setting and this first setting.
+// Returns whether a part has this count of settings, this start setting and this first setting.
 fn has_settings(part: &Inputs, count: u32, start: u32, first: [i64; 2]) -> bool {
     prove!(0 < part.count());
-    (part_size(part), start_setting(part)) == (count, start)
-        && (part.count(), part.start_number()) == (count, start)
+    (part.count(), part.start_number()) == (count, start)
         && part.vector(0).as_slice() == first.as_slice()
 }
 

@@ -34,7 +34,7 @@ returns-then-none_assembles g c =
     let i = c.args.inputs.now in
     let p = problem_of i in
     let s = c.loop-visits.state in
-    let e : c.loop-visits.visits ≡ p.count = omega (arith, c.loop-visits-test.false, c.loop-visits.auto.visits-end, c.part_size-visits-end.ensures.count) in
+    let e : c.loop-visits.visits ≡ p.count = omega (arith, c.loop-visits-test.false, c.loop-visits.auto.visits-end, c.count-visits-end.ensures.count) in
     let state : IsState i c.args.aim c.args.method p.count s = subst (λ (k : ℕ). IsState i c.args.aim c.args.method k s) e c.loop-visits.invariant.state in
     let none : s.found.candidates ≡ 0 = omega (arith, c.if-none_assembles.true) in
     λ same. finds_none p (inputs_problem i) state.start_inside i.rules c.args.aim c.requires.aim c.args.method (findings_of s) s.order.items s.cache.known state.going none
@@ -44,9 +44,9 @@ returns g c =
     let i = c.args.inputs.now in
     let p = problem_of i in
     let s = c.loop-visits.state in
-    let e : c.loop-visits.visits ≡ p.count = omega (arith, c.loop-visits-test.false, c.loop-visits.auto.visits-end, c.part_size-visits-end.ensures.count) in
+    let e : c.loop-visits.visits ≡ p.count = omega (arith, c.loop-visits-test.false, c.loop-visits.auto.visits-end, c.count-visits-end.ensures.count) in
     let state : IsState i c.args.aim c.args.method p.count s = subst (λ (k : ℕ). IsState i c.args.aim c.args.method k s) e c.loop-visits.invariant.state in
-    let few : p.count ≤ MOST_SETTINGS = omega (arith, c.part_size-visits-end.ensures.count, c.part_size-visits-end.ensures.few) in
+    let few : p.count ≤ MOST_SETTINGS = omega (arith, c.count-visits-end.ensures.count, c.count-visits-end.ensures.few) in
     let found = finds p (inputs_problem i) state.start_inside i.rules c.args.aim c.requires.aim c.args.method (findings_of s) s.order.items s.cache.known state.going few in
     let some : 0 < s.found.candidates = omega (arith, c.if-none_assembles.false) in
     subst (λ (f : Findings). IsSearchFor p c.args.aim c.args.method f × (0 < f.candidates)) (sym c.into_findings.ensures) (found, some)
