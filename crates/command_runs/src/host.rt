@@ -84,7 +84,7 @@ impl<F: Files, T: Witness, V: Write> Host<'_, F, T, V> {
         }
     }
 
-    // Writes the line of the fault of a run, and lets the witness explain it.
+    // Writes the line of the fault of a run, lets the witness explain it, and returns the ending.
     pub(crate) fn refuse(&mut self, refused: &Refused<'_>, fault: RunFault) -> Ending
         ensures { IsEndingOf fault result }
     {

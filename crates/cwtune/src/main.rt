@@ -50,8 +50,8 @@ fn witness_of<'a>(rt: &'a HostRuntime, words: &[String]) -> Progress<&'a HostRun
     )
 }
 
-// Runs the command. It takes any witness, so that neither its proof nor its wrong bodies reach
-// `Progress`.
+// Runs the command. Takes any witness, so that a check of this function, or of an edit of it, does
+// not reach `Progress`.
 fn run<R: Read, W: Write, V: Write, T: Witness>(
     rt: &HostRuntime,
     words: &[String],

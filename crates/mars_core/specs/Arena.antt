@@ -1,4 +1,4 @@
--- An arena as contracts see it, and the state that it keeps, to see whether it comes back.
+-- An arena as contracts see it, and the snapshot by which it finds that a state comes back.
 use Rattle.std.specs.Prelude.{◌≡◌, ℕ, ◌+◌, ◌*◌, ◌%◌, ◌<◌, ◌≤◌, List, [], length, replicate}
 use Rattle.rc_instr.specs.Instruction.{empty_cell}
 use Rattle.rc_instr.specs.Rules.{RulesView, IsRules}
@@ -59,7 +59,7 @@ pub record IsBack (kept : SnapshotView) (core : List Instruction) (mine theirs :
   pub period_is : kept.cycles + period ≡ cycles
 
 -- What holds of every arena: checked rules, a core and tasks of their size, queues with room for
--- the tasks that the rules allow, and a snapshot of as many cells.
+-- the tasks that the rules allow, a snapshot of as many cells, and at most two turns a cycle.
 pub record IsArena (rules : RulesView) (core : List Instruction) (candidate opponent : Queue) (snapshot : SnapshotView) (turns : ℕ) : Type 0 where
   pub rules_hold : IsRules rules
   pub core_holds : IsCore rules.core core

@@ -60,7 +60,7 @@ pub(crate) fn act<C: Store>(
         Opcode::Jmp => Jump,
         Opcode::Jmz => choose(all_tested_are(modifier, 0, y), Jump, Next),
         Opcode::Jmn => choose(all_tested_are(modifier, 0, y), Next, Jump),
-        // `y` was copied before: a number that is 1 in it is 0 in the cell now.
+        // Tests `y`, the copy from before the decrement: hence 1, not 0.
         Opcode::Djn => {
             let target = read(cells, size, b.address);
             write(cells, size, b.address, count_down(modifier, size, target));

@@ -94,9 +94,10 @@ fn play_on<C: Cells>(
     2 * played + cells.alternate(mine, theirs, size, cycles - played)
 }
 
-// Does what `play_on` does, but leaves out whole periods once a state comes back: it will come back
-// again and again, so the fight is a tie. Marks all cells once 3 marks for each turn reach the core
-// size: the marks then promise no shorter reset, and writes need no journal.
+// Plays a fight. Once a state comes back the fight is a tie, so whole periods are left out.
+//
+// Marks all cells once 3 marks a turn could reach the core size: a reset may then have to set every
+// cell, so a journal of the writes spares nothing.
 pub(crate) fn decide<C: Cells>(
     cells: &mut C,
     mine: &mut C::Queue,

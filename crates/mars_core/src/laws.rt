@@ -14,15 +14,14 @@ use crate::packed_cells::PackedCells;
 use crate::side::Side;
 use rc_instr::Warrior;
 
-/// States that a fight has exactly one outcome: `IsOutcome` holds of the computed one, and of no
-/// other.
+/// A fight has exactly one outcome, the computed one.
 pub fn a_fight_has_one_outcome()
     ensures { (limit : ℕ) (start : State) (first : Side) (cycles : ℕ) (o : Outcome)
         → (IsOutcome limit start first cycles o) ↔ (o ≡ outcome_of limit start first cycles) }
 {}
 
-/// States that a state which comes back decides a fight: from it on no side ever loses its last
-/// task, and `n` cycles lead to the state to which `n` modulo the period lead.
+/// A state that comes back makes the fight a tie: no side ever loses its last task, and `n` cycles
+/// lead to the same state as `n` modulo the period.
 pub fn a_state_that_comes_back_decides()
     ensures turns { (limit : ℕ) (s : State) (first : Side) (p n : ℕ) → ComesBack limit s first p → turns_of limit s first n ≡ 2 * n }
     ensures state { (limit : ℕ) (s : State) (first : Side) (p n : ℕ) → ComesBack limit s first p

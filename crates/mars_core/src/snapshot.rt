@@ -66,9 +66,9 @@ impl<C: Cells> Snapshot<C> {
         self.due = 0;
     }
 
-    // Returns how many cycles ago the state was taken, if it is found to be back. `None` promises
-    // nothing: marks are compared too, so a cell that is first written after the state was taken
-    // hides that it is back, and only a state that is taken later can be found again.
+    // Returns how many cycles ago the state was taken, if it is the same again. May miss that:
+    // marks are compared too, so a cell first written after the state was taken makes a difference.
+    // A state that is taken later has that mark.
     pub(crate) fn period(
         &mut self,
         cells: &C,

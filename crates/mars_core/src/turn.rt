@@ -74,8 +74,8 @@ pub(crate) fn next_turn<C: Store, const PLACE: u64>(
 
 // Executes the instruction at `pc`, which is `cell`, by its class (1994 draft).
 //
-// A test comes before each match. As one arm of 65 the rest would seem too rare to the compiler to
-// be inlined (docs/HOT_LOOP.md).
+// Tests the class before each match: a default arm beside 64 others would seem rare to the
+// compiler, which would not inline it (docs/HOT_LOOP.md).
 #[inline(always)]
 fn execute<C: Store, const PLACE: u64>(
     cells: &mut C,

@@ -45,8 +45,8 @@ pub enum ScheduleFaultKind {
 #[derive(Clone, Copy, Debug, PartialEq, Eq, Error)]
 #[error("record {row}: {kind}")]
 pub struct ScheduleFault {
-    /// The record. The header is record 0, so the record of the first fight is record 1. It is also
-    /// 0 for `Empty` and `OutOfMemory`.
+    /// The index of the record: 0 for the header, 1 for the first fight; 0 also for `Empty` and
+    /// `OutOfMemory`.
     pub row: u64,
     /// What is wrong with the record.
     pub kind: ScheduleFaultKind,

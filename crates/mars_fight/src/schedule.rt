@@ -56,7 +56,7 @@ impl Schedule {
     /// - `TooMany`, at record 10001, whatever that record holds.
     /// - `FieldCount`: the record does not have as many fields as the header.
     /// - `BadNumber`: the opponent, the position or the weight is not 1 to 9 digits.
-    /// - `NoSuchOpponent`, `BadPosition`, `BadFirst`, `BadWeight`: the field has no such value.
+    /// - `NoSuchOpponent`, `BadPosition`, `BadFirst`, `BadWeight`: not a value as above.
     /// - `OutOfMemory`, at record 0: an allocation failed.
     #[tactic(auto, unfolding(crate::specs::Schedule::schedule_of))]
     pub fn read(
@@ -73,7 +73,7 @@ impl Schedule {
         Ok(Schedule { fights, greatest })
     }
 
-    /// Returns the fights, 1 to 10000, in the order of the text: the one at 0 is that of record 1.
+    /// Returns the fights, 1 to 10000, in the order of the text. The one at index 0 is record 1.
     pub fn fights(&self) -> &[Fight]
         ensures fights { result.now ≡ self.now }
         ensures few { (0 < length self.now) × (length self.now ≤ MOST_FIGHTS) }

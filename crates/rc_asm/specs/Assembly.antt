@@ -31,7 +31,7 @@ abbrev pub warrior_of_reading : RulesView → ReadingView → Result WarriorView
 warrior_of_reading rules r =
     with_fault (λ e. at_line 0 (Warrior e)) (warrior_of rules (warrior_view r.code (start_index r.code (start_value r.starts))))
 
--- The warrior of well-formed lines.
+-- The warrior of the lines, or the first fault of their values, which a malformed line has too.
 abbrev pub warrior_of_lines : List ℕ → NameValues → List Line → Result WarriorView AsmFault
 warrior_of_lines source names lines = after_lines source names lines nothing_read >>= warrior_of_reading names.rules
 

@@ -66,8 +66,8 @@ pub fn assemble(
     }
 }
 
-// Assembles the expanded lines. A malformed line has no value. So forms are checked only after a
-// fault, and each line of a good text is parsed once.
+// Assembles the expanded lines. Checks forms only after a fault: a malformed line always gives one,
+// so each line of a text without faults is parsed once.
 fn assemble_lines(
     alloc: Global,
     source: &[u8],
@@ -94,7 +94,7 @@ fn assemble_lines(
 }
 
 // Makes the warrior of lines. Returns the fault of the first line that has one, else that of the
-// warrior. A line may be malformed: the caller then looks for the first that is.
+// warrior. It may be the fault of a malformed line: the caller looks for the first such line.
 fn warrior_of_lines(
     alloc: Global,
     source: &[u8],

@@ -14,6 +14,6 @@ pub record EquView : Type 0 where
 abbrev pub Equs : Type 0
 Equs = List (List ℕ × EquView)
 
--- The EQU name that a token is, if it is one.
+-- The EQU name with the spelling of the token, if there is one.
 abbrev pub equ_in : (source : List ℕ) → Equs → Token → Option EquView
 equ_in source equs t = if is_name_token t then entry_of equs (name_of source t) else None

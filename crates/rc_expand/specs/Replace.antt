@@ -53,7 +53,7 @@ module _ (source : List ℕ) where
   exempt_len _ ts = 0
 
 module _ (context : ContextView) where
-  -- The tokens of the EQU name that a token is, if it is one.
+  -- The tokens of the EQU name with the spelling of the token, if there is one.
   abbrev pub equ_body : Token → Option (List Token)
   equ_body t = option_map (λ e. e.tokens) (equ_in context.source context.equs t)
 

@@ -32,12 +32,14 @@ use std::alloc::Global;
 ///   then the outermost FOR without a ROF (`ForWithoutRof`).
 /// - `BadDirective`, `DuplicateName`: an EQU line outside of blocks without exactly one plain name
 ///   before EQU, or whose name is taken: a constant, a predefined name or an earlier EQU name.
-/// - While blocks are unrolled: `BadDirective` for a ninth counter joined to a name, a counter that
-///   is not a plain name, an EQU in a block, or, after the lines of its block, a ROF with labels or
-///   tokens beside it; `DuplicateName` for a counter that is a constant, a predefined name, an EQU
-///   name (at the later of the two lines) or the counter of an enclosing block; `EquTooDeep`,
-///   `TooManyTokens` or `CountRefused` for a count that cannot be replaced, has no value or is
-///   above 4096; `TooManyLines` for more than 4096 lines and copies.
+/// - While blocks are unrolled, line by line:
+///   - `BadDirective`: a ninth counter joined to a name; a counter that is not a plain name; an EQU
+///     in a block; or, after the lines of its block, a ROF with labels or tokens beside it.
+///   - `DuplicateName`: a counter that is a constant, a predefined name, the counter of an
+///     enclosing block, or an EQU name (at the later of the two lines).
+///   - `EquTooDeep`, `TooManyTokens`: EQU names in a count nest too deep, or give too many tokens.
+///   - `CountRefused`: a count that has no value, or one above 4096.
+///   - `TooManyLines`: more than 4096 lines and copies.
 /// - In each unrolled line, first `DuplicateName`: a label or an EQU name that is defined before,
 ///   or is a constant or a predefined name; then, whichever is met first, `EquTooDeep`: EQU names
 ///   nested more than 16 deep; or `TooManyTokens`: more than 4096 tokens or EQU replacements in a

@@ -1,4 +1,5 @@
-//! Expansion of Redcode: to lines without EQU names and FOR blocks. Counters are joined to names.
+//! Expands Redcode to lines without EQU names and FOR blocks. The number of a block's counter takes
+//! the place of its name, or is joined to the name before `&`.
 //!
 //! It goes in three passes: `read` reads the lines up to END, `unroll` notes which line is in which
 //! copies of blocks, and `replace` makes these lines one by one, defines their names, and puts the

@@ -54,7 +54,7 @@ pub(crate) fn replace_lines(
     Ok(out.lines)
 }
 
-// Adds a line that was reached. A line that no copy changes is used as the text has it.
+// Adds an unrolled line. If no copy changes it, the line of the text is used, without a clone.
 fn replace_reached(
     out: &mut LinesSoFar,
     context: &Context,

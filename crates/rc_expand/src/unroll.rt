@@ -1,6 +1,7 @@
 //! The second pass: each FOR block is replaced by copies of its lines, outer blocks first. In a
 //! copy the name of the counter becomes its number, or its number is joined to the name before `&`.
-//! Copies are lazy: a line that is reached is a line of the text and the copies that it is in.
+//! Copies are lazy: `Reached` keeps a line of the text and the copies that it is in, and the third
+//! pass makes the copied line.
 ghost use Rattle.std.specs.Prelude.{◌≡◌};
 ghost use Rattle.rc_expand.specs.Results.{Returns};
 ghost use Rattle.rc_expand.specs.Contexts.{seen_context};

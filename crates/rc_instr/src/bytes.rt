@@ -1,4 +1,4 @@
-//! A given byte at the front of bytes.
+//! Takes one expected byte off the front of a slice.
 ghost use Rattle.std.specs.Prelude.{◌≡◌, ℕ, List, ◌∷◌, IfSome, IsSomeAnd};
 
 /// Returns the rest of `bytes` if the first of them is `byte`.

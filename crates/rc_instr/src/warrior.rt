@@ -9,7 +9,7 @@ use crate::rules::Rules;
 use std::marker::Model;
 use thiserror::Error;
 
-/// A warrior's instructions. Contracts see the list, also where [`Refused`] hands it back.
+/// Instructions without a start, as [`Refused`] hands them back. Contracts see the list.
 #[derive(Debug, Drop)]
 pub struct Code {
     instructions: Vec<Instruction>,
@@ -25,7 +25,7 @@ impl Model for Code {
 }
 
 impl Code {
-    /// Makes code of instructions.
+    /// Wraps a list of instructions.
     pub fn from_vec(instructions: Vec<Instruction>) -> Code
         ensures { result ≡ instructions.items }
     {

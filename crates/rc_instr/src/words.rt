@@ -4,7 +4,7 @@ ghost use Rattle.rc_instr.specs.Words.{opcode_text, modifier_text, opcode_of, mo
 
 use crate::instruction::{Modifier, Opcode};
 
-/// Returns the opcode that `name` is, in letters of any case. CMP is another word for SEQ.
+/// Returns the opcode whose word is `name`, in letters of any case. CMP is another word for SEQ.
 pub fn opcode_named(name: &[u8]) -> Option<Opcode>
     ensures { result ≡ opcode_named name.now }
 {
@@ -18,7 +18,7 @@ pub fn opcode_named(name: &[u8]) -> Option<Opcode>
     }
 }
 
-/// Returns the modifier that `name` is, in letters of any case.
+/// Returns the modifier whose word is `name`, in letters of any case.
 pub fn modifier_named(name: &[u8]) -> Option<Modifier>
     ensures { result ≡ modifier_named name.now }
 {

@@ -12,8 +12,8 @@ use std::marker::Model;
 /// The records of a text that are still to be read. Contracts see a list of lists of fields.
 ///
 /// The crate `csv` reads them: fields are separated by commas, records by LF, CR or CR LF, and a
-/// field may be in double quotes, in which two of them are one. Empty lines are skipped, and so is
-/// a byte order mark at the very front.
+/// field may be in double quotes, inside which `""` stands for one. Empty lines are skipped, and so
+/// is a byte order mark at the very front.
 #[derive(Drop)]
 pub struct Records<'a> {
     reader: Reader<&'a [u8]>,

@@ -1,6 +1,5 @@
 -- What a check of a share says of a certificate, by its demand: certificates with either answer,
--- and those that show the first of the ranking. In names `by` means from a failure, `on` from a
--- statement, `of` from records.
+-- and those that show the first K of the ranking.
 use Rattle.std.specs.Prelude.{◌≡◌, ℕ, ◌<◌, ◌^◌, Bool, false, ◌==◌, List, [], length, slice_get, Option, Some, None, option_map, Result, Ok, Err}
 use Rattle.std.specs.List.{AllByRecursion}
 use Rattle.std.specs.Option.{unwrap_or, is_some}

@@ -44,8 +44,8 @@ use tune_problem::{Answer, Inputs, Silent, Statement, Watcher, cert_version};
 /// `OutOfMemory` if an allocation failed.
 pub fn check(alloc: Global, inputs: &Inputs, bytes: &[u8]) -> Result<Verdict, CheckFault>
     // The verdict is that on the certificate that the bytes spell, or Malformed. `laws` has what it
-    // promises: what it says holds, everything that is checked before a rejection is right, an
-    // accepted certificate names the optimum and its total, and a valid one is accepted.
+    // promises: what it says holds, every check before the one that fails holds, an accepted
+    // certificate names the optimum and its total, and a valid one is accepted.
     ensures verdict { IfOk result (IsVerdictOf (problem_of inputs.now) whole (records_of bytes.now)) }
 {
     let demand = Demand::none();
@@ -60,7 +60,7 @@ pub fn check(alloc: Global, inputs: &Inputs, bytes: &[u8]) -> Result<Verdict, Ch
 /// one that is asked for (else `BestRow`), and no cap may reach it (else `CapTooHigh`). All other
 /// checks are the same.
 ///
-/// With `keep` a certificate that names a best setting has to show the first of the ranking too.
+/// With `keep` a certificate that names a best setting has to show the first K of the ranking too.
 /// The settings of which every fight is listed, by their own rows or by those to which they refer,
 /// are ranked by their listed totals. The cap of any other setting that assembles must not contend
 /// with the first `keep` of these (else `CapTooHigh`, as the last reason of its row). So a

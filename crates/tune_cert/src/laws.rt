@@ -43,8 +43,8 @@ pub fn records_spell_at_most_one_certificate()
 {}
 
 /// States that a share has one verdict on records, and what a verdict on all rows promises: what it
-/// says of the bytes holds, everything that is checked before a rejection is right, an accepted
-/// certificate names the optimum and its total, whoever made it, and a valid one is accepted.
+/// says of the bytes holds, every check before the one that fails holds, an accepted certificate
+/// names the optimum and its total, whoever made it, and a valid one is accepted.
 pub fn the_verdict_is_right()
     ensures one { (p : Problem) (share : Part) (records : List Fields) (v w : Verdict)
         → IsVerdictOf p share records v → IsVerdictOf p share records w → v ≡ w }

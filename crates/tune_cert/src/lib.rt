@@ -1,7 +1,7 @@
 //! The text of certificates, and the checker that judges it.
 //!
 //! `tune_problem` defines certificates and which of them are valid; its names are passed on below.
-//! In this API a setting is called a vector.
+//! A number named `vector` is the index of a setting.
 #![tactic(auto)]
 
 mod checker;

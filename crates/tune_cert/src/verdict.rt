@@ -32,11 +32,10 @@ pub enum Reason {
     Version,
 }
 
-/// What a check says of a certificate, or of a share of its rows.
+/// What `check` says of a certificate.
 #[derive(Clone, Copy, Debug, PartialEq, Eq)]
 pub enum Verdict {
-    /// All that was looked at is right. In a check of all rows the certificate is then valid, and
-    /// its best setting is the optimum.
+    /// The certificate is valid, and its best setting is the optimum.
     Accepted {
         /// The index of the certificate's best setting, from 0.
         best: u32,

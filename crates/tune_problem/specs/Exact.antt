@@ -53,12 +53,12 @@ abbrev pub ranking_shown : Aim → ℕ → Option ℕ → List Best → List Bes
 ranking_shown aim v None ranking = ranking
 ranking_shown aim v (Some total) ranking = next_ranking aim total v ranking
 
--- The first of the ranking of the settings below k whose totals are shown.
+-- The first K of the ranking of the settings below k whose totals are shown.
 unfoldable pub ranking_below : Problem → Aim → List Row → ℕ → List Best
 ranking_below p aim rows zero = []
 ranking_below p aim rows (suc k) = ranking_shown aim k (total_at p rows k) (ranking_below p aim rows k)
 
--- The first of the ranking that the rows list: of all settings whose totals they show.
+-- The first K of the ranking that the rows list: of all settings whose totals they show.
 abbrev pub listed_ranking : Problem → Aim → List Row → List Best
 listed_ranking p aim rows = ranking_below p aim rows (length rows)
 

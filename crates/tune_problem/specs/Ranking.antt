@@ -81,7 +81,7 @@ abbrev pub In : Best → List Best → Type 0
 In x [] = ⊥
 In x (y ∷ ys) = (x ≡ y) ⊎ In x ys
 
--- The first of the ranking of some settings: at most `keep`, in order, each with its total; any
+-- The first K of the ranking of some settings: at most `keep`, in order, each with its total; any
 -- other candidate among them does not contend.
 pub record IsRanking (p : Problem) (aim : Aim) (among : ℕ → Type 0) (ranking : List Best) : Type 0 where
   pub few : length ranking ≤ aim.keep
@@ -90,6 +90,6 @@ pub record IsRanking (p : Problem) (aim : Aim) (among : ℕ → Type 0) (ranking
   pub others : (v : ℕ) (w : WarriorView) → v < p.count → among v → p.warrior v ≡ Some w
       → In (record { total = total_of p w; vector = v }) ranking ⊎ (contends aim (total_of p w) v ranking ≡ false)
 
--- Every setting: `among`, for a ranking of all.
+-- Holds of every setting: the `among` of a ranking of all.
 abbrev pub Any : ℕ → Type 0
 Any v = Unit {0}

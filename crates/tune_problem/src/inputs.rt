@@ -60,8 +60,8 @@ impl Inputs {
         }
     }
 
-    /// Returns the same inputs with another part of the template's settings. The part is tuned as
-    /// if the template had no other settings: indices count from 0 within it.
+    /// Returns these inputs with `part` in place of their part, which is tuned as if the template
+    /// had no other settings: indices count from 0 within it.
     ///
     /// Returns `None` unless `part.number` is 1 to `part.parts`, and `part.parts` is at most the
     /// number of the template's settings.

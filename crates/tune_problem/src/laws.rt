@@ -40,7 +40,7 @@ pub fn a_certificate_below_a_floor_is_right()
     ensures { (p : Problem) (floor version : ℕ) (rows : List Row) → IsProblem p → IsValidBelow p floor version rows → AllBelow p floor }
 {}
 
-/// States that the rows of a valid certificate list the first of the ranking of all settings, if
+/// States that the rows of a valid certificate list the first K of the ranking of all settings, if
 /// they are exact for the aim.
 pub fn an_exact_certificate_has_the_first_of_the_ranking()
     ensures { (p : Problem) (c : Cert) (aim : Aim) → IsProblem p → IsAim aim → IsValid p c → IsExact p aim c.rows

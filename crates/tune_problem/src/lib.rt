@@ -2,7 +2,8 @@
 //!
 //! The optimum is the first setting with the greatest total. A certificate has a row for each
 //! setting, which shows why that setting is not better. Both the search and the checker use this
-//! crate, and neither uses the other. In this API a setting is called a vector.
+//! crate, and neither uses the other. A number named `vector` is the index of a setting; a `Vector`
+//! has the setting's values.
 #![tactic(auto)]
 
 mod aim;

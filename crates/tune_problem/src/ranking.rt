@@ -49,8 +49,9 @@ impl Ranking {
         self.settings.first().copied()
     }
 
-    /// Ranks setting `vector` with the total `cap`, if that contends: puts it before the first
-    /// setting that it beats, and removes the last one if there are then more than `aim` keeps.
+    /// Ranks setting `vector` if the total `cap` contends: puts it before the first setting that it
+    /// beats, and removes the last one if there are then more than `aim` keeps. The cap of a
+    /// dropped setting may be passed, too: it does not contend.
     ///
     /// Fails only if out of memory. The ranking is then as it was.
     pub fn rank(&mut self, aim: Aim, cap: u32, vector: u32) -> Result<(), AllocError>

@@ -45,7 +45,7 @@ pub fn equal_tunings_write_equal_bytes()
 {}
 
 /// States that the line of a check is that of the right verdict on the bytes, whoever made them:
-/// what the verdict says holds, everything that is checked before a rejection is right, an accepted
+/// what the verdict says holds, every check before the one that fails holds, an accepted
 /// certificate names the optimum and its total, and a valid one is accepted.
 pub fn a_check_writes_the_right_verdict()
     ensures { (t : Texts) (bytes : List ℕ) (accepted : Bool) (out : Writer) → Checks t bytes accepted out → IsRightLine t bytes accepted out }

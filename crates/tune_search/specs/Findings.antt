@@ -48,7 +48,7 @@ abbrev pub IsFull : Problem → List Row → Best → Type 0
 IsFull p rows x = (u : ℕ) × (row : List (ℕ × ℕ)) × (slice_get rows u ≡ Some (Cap row)) × (length row ≡ p.fights)
     × ((u ≡ x.vector) ⊎ (slice_get rows x.vector ≡ Some (Same u)))
 
--- What a search by a method finds if it is asked for the first of the ranking.
+-- What a search by a method finds if it is asked for the first K of the ranking.
 pub record IsSearchFor (p : Problem) (aim : Aim) (method : Method) (f : Findings) : Type 0 where
   -- the ranking has the first of all settings that reach the floor, as many as the aim keeps
   pub ranking : IsRanking p aim Any f.ranking

@@ -21,7 +21,7 @@ setting_visited start k = if k == 0 then start else if nat_lt start k then k els
 abbrev pub visits_before : (start v : ℕ) → ℕ
 visits_before start v = if v == start then 0 else if nat_lt v start then v + 1 else v
 
--- The first of the ranking of the first k settings visited, by their totals.
+-- The first K of the ranking of the first k settings visited, by their totals.
 unfoldable pub ranking_after : Problem → Aim → (k : ℕ) → List Best
 ranking_after p aim zero = []
 ranking_after p aim (suc k) = ranking_with p aim (setting_visited p.start k) (p.warrior (setting_visited p.start k)) (ranking_after p aim k)

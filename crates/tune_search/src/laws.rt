@@ -67,7 +67,8 @@ pub fn a_floor_hides_only_what_is_below_it()
         → first_of f.ranking ≡ best_from aim.floor g }
 {}
 
-/// States that the ranking after any number of visits has the first of the settings visited.
+/// States that the ranking after any number of visits has the first K of the settings visited so
+/// far, by their totals, where K is what the aim keeps.
 pub fn a_ranking_has_the_first_settings()
     ensures { (p : Problem) (aim : Aim) (k : ℕ) → IsAim aim → k ≤ p.count → p.start < p.count → IsRankingBy p aim k (ranking_after p aim k) }
 {}

@@ -1,4 +1,4 @@
-//! The search for the optimum of a tuning, and for the first of the ranking of its settings.
+//! The search for the optimum of a tuning, and for the first K of the ranking of its settings.
 //!
 //! `search` finds the optimum by `Method::Dropping`. `search_for` finds what an `Aim` asks for, the
 //! first settings of the ranking that reach a floor, by either method, and takes a watcher. Fields

@@ -107,7 +107,7 @@ impl State {
         Ok(())
     }
 
-    // Plays the fights of a candidate whose load file is not in the cache, and puts it there.
+    // Plays the fights of a candidate whose load file is not in the cache, and puts that there.
     fn fight<T: Watcher>(
         &mut self,
         alloc: Global,

@@ -1,4 +1,4 @@
-//! The search for the optimum, and for the first of the ranking.
+//! The search for the optimum, and for the first K of the ranking.
 ghost use Rattle.std.specs.Prelude.{◌≡◌, ◌<◌, ◌≤◌, MatchResult};
 ghost use Rattle.tune_problem.specs.Problem.{problem_of};
 ghost use Rattle.tune_problem.specs.Ranking.{IsAim};
@@ -15,7 +15,7 @@ use mars_core::{Arena, PackedCells};
 use std::alloc::Global;
 use tune_problem::{Aim, Best, Found, Inputs, Silent, Standing, Watcher};
 
-/// Finds the optimum: the first setting of the part that is tuned with the greatest total in the
+/// Finds the optimum: of the settings of the part, the first one with the greatest total in the
 /// fights of the schedule. Plays only fights that can matter.
 ///
 /// Visits the start setting first, then the others in order. The start setting plays its fights by

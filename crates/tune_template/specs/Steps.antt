@@ -1,12 +1,12 @@
 -- What contracts of private functions see while the ranges are being read.
 use Rattle.std.specs.Prelude.{◌≡◌, ◌≤◌, ◌<◌, ℕ, map, length, All}
-use Rattle.tune_template.specs.declared.range.Reading.{Reading}
+use Rattle.tune_template.specs.declared.range.RangesSoFar.{RangesSoFar}
 use Rattle.tune_template.specs.declared.span.Span.{Span}
 use Rattle.tune_template.specs.Limits.{MOST_CONSTANTS, MOST_SETTINGS}
 use Rattle.tune_template.specs.Ranges.{Ranges, ranges, vector_count}
 
 -- The ranges that were read so far.
-abbrev pub seen_ranges : Reading → Ranges
+abbrev pub seen_ranges : RangesSoFar → Ranges
 seen_ranges r = ranges (map (λ n. n.items) r.names.items) r.spans.items
 
 -- The span is not empty, and its start is one of the values.

@@ -20,7 +20,7 @@ use std::alloc::Global;
 
 // The constants and their spans so far, and how many settings they have.
 #[derive(Debug, Drop)]
-pub(crate) struct Reading {
+pub(crate) struct RangesSoFar {
     pub(crate) names: Vec<Vec<u8>>,
     pub(crate) spans: Vec<Span>,
     pub(crate) count: u32,
@@ -36,12 +36,12 @@ struct Words<'a> {
     start: &'a [u8],
 }
 
-impl Reading {
+impl RangesSoFar {
     pub(crate) fn new(alloc: Global) -> Self
         ensures read { seen_ranges result ≡ ranges [] [] }
         ensures counted { AreCounted (seen_ranges result) result.count }
     {
-        Reading {
+        RangesSoFar {
             names: Vec::new(alloc),
             spans: Vec::new(alloc),
             count: 1,

@@ -12,7 +12,7 @@ ghost use Rattle.tune_template.specs.Steps.{seen_ranges, AreCounted, HasValues};
 
 use crate::fault::{TemplateFault, TemplateKind, at_line};
 use crate::lines::{first_line, is_range_line};
-use crate::range::Reading;
+use crate::range::RangesSoFar;
 use crate::span::Span;
 use crate::vector::Vector;
 use rc_asm::limits::MOST_BYTES;
@@ -77,7 +77,7 @@ impl Template {
             return Err(at_line(0, TemplateKind::TextTooLong));
         }
         let text = bytes.to_vec(alloc)?;
-        let Reading {
+        let RangesSoFar {
             names,
             spans,
             count,
@@ -159,7 +159,7 @@ impl Template {
 
 // Adds the constant of a line, if it is a range line.
 fn add_line(
-    reading: &mut Reading,
+    reading: &mut RangesSoFar,
     alloc: Global,
     number: u64,
     line: &[u8],
@@ -177,11 +177,11 @@ fn add_line(
     }
 }
 
-fn read_lines(alloc: Global, bytes: &[u8]) -> Result<Reading, TemplateFault>
+fn read_lines(alloc: Global, bytes: &[u8]) -> Result<RangesSoFar, TemplateFault>
     ensures read { Returns seen_ranges result (ranges_from 1 (ranges [] []) (lines_of bytes.now)) }
     ensures counted { IfOk result (λ r. AreCounted (seen_ranges r) r.count) }
 {
-    let mut reading = Reading::new(alloc);
+    let mut reading = RangesSoFar::new(alloc);
     let mut number: u64 = 1;
     let mut rest = Some(bytes);
     while let Some(text) = rest {

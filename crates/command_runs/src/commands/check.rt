@@ -8,7 +8,7 @@ ghost use Rattle.tune_runs.specs.Given.{rules_given, texts_given};
 ghost use Rattle.command_runs.specs.Commands.{WritesCheckLine, IsCheckEnded};
 
 use crate::ending::Ending;
-use crate::files::cert_ending::reject;
+use crate::files::cert_ending::explain_rejection;
 use crate::files::reading::TuneFiles;
 use crate::host::Host;
 use crate::telling::witness::Witness;
@@ -62,7 +62,7 @@ fn check_texts<F: Files, T: Witness, W: Write, V: Write>(
     match check_for_run(host.alloc, texts, demand, share, host.witness, cert, out) {
         Ok(true) => Ok(()),
         Ok(false) => {
-            reject(host, words, texts, cert);
+            explain_rejection(host, words, texts, cert);
             Err(Ending::Refused)
         }
         Err(fault) => Err(host.refuse_tuning(words, texts, fault)),

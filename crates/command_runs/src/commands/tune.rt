@@ -10,7 +10,7 @@ ghost use Rattle.command_runs.specs.Commands.{WritesReport, IsEnded};
 ghost use Rattle.command_words.specs.CommandLine.{aim_meant, method_meant};
 
 use crate::ending::Ending;
-use crate::files::cert_ending::{end_files, end_unopened, inputs_beside};
+use crate::files::cert_ending::{end_unopened, finish_files, inputs_beside};
 use crate::files::cert_file::open_cert;
 use crate::host::Host;
 use crate::telling::witness::Witness;
@@ -49,7 +49,7 @@ pub(crate) fn tune<F: Files, T: Witness, W: Write, V: Write>(
     let method = method_meant(method);
     let aim = aim_meant(demand);
     let ended = tune_into(host, words, &texts, method, aim, out, &mut cert);
-    end_files(host, words, &texts, method, cert, beside);
+    finish_files(host, words, &texts, method, cert, beside);
     ended
 }
 

@@ -5,7 +5,7 @@ ghost use Rattle.std.specs.Prelude.{◌≢◌, IfErr};
 use crate::ending::Ending;
 use crate::files::cert_file::{CertFile, NotOpened};
 use crate::files::digest::Digested;
-use crate::files::guard::{Barred, Written, check_old};
+use crate::files::guard::{Barred, Written, check_overwritable};
 use crate::files::inputs_file::{Tuning, name_beside, write_inputs};
 use crate::files::other_inputs::differences;
 use crate::host::Host;
@@ -17,7 +17,7 @@ use std::io::Write;
 use std::rt::Files;
 use tune_runs::{Method, TuneTexts};
 
-// Says why the file CERT is not opened.
+// Writes the line that says why CERT is not opened, and returns the ending.
 pub(crate) fn end_unopened<F: Files, T: Witness, V: Write>(
     host: &mut Host<'_, F, T, V>,
     name: &str,
@@ -31,7 +31,7 @@ pub(crate) fn end_unopened<F: Files, T: Witness, V: Write>(
     }
 }
 
-// Says why a file is not overwritten.
+// Writes the line that says why a file is not overwritten, and returns the ending.
 fn end_barred<F: Files, T: Witness, V: Write>(
     host: &mut Host<'_, F, T, V>,
     written: Written,
@@ -69,7 +69,7 @@ pub(crate) fn inputs_beside<F: Files, T: Witness, V: Write, R: Files + Drop>(
     let Ok(name) = name_beside(host.alloc, words.cert) else {
         return Err(host.end_without_memory());
     };
-    match check_old(host.rt, host.alloc, words, Written::Inputs, name.as_str()) {
+    match check_overwritable(host.rt, host.alloc, words, Written::Inputs, name.as_str()) {
         Ok(()) => {}
         Err(barred) => return Err(end_barred(host, Written::Inputs, name.as_str(), &barred)),
     }
@@ -78,7 +78,7 @@ pub(crate) fn inputs_beside<F: Files, T: Witness, V: Write, R: Files + Drop>(
 
 // Writes CERT.inputs, whose name is `beside`, if CERT has its new text; says what was found if CERT
 // is lost. Called after the report, and also if the tuning was refused or has failed.
-pub(crate) fn end_files<F: Files, T: Witness, V: Write, R: Files + Drop>(
+pub(crate) fn finish_files<F: Files, T: Witness, V: Write, R: Files + Drop>(
     host: &mut Host<'_, F, T, V>,
     words: &TuneWords<'_>,
     texts: &TuneTexts<'_>,
@@ -86,14 +86,14 @@ pub(crate) fn end_files<F: Files, T: Witness, V: Write, R: Files + Drop>(
     cert: Outlet<CertFile<R>>,
     beside: Option<String>,
 ) {
-    if let (Some(name), Some(cert)) = (beside, end_cert(host, words, cert)) {
-        end_inputs(host, words, texts, method, &cert, name.as_str());
+    if let (Some(name), Some(cert)) = (beside, finish_cert(host, words, cert)) {
+        save_inputs(host, words, texts, method, &cert, name.as_str());
     }
 }
 
 // Returns the size and the digest of the certificate if a regular file has it. If it could not be
 // written, says which setting the search had found.
-fn end_cert<F: Files, T: Witness, V: Write, R: Files + Drop>(
+fn finish_cert<F: Files, T: Witness, V: Write, R: Files + Drop>(
     host: &mut Host<'_, F, T, V>,
     words: &TuneWords<'_>,
     cert: Outlet<CertFile<R>>,
@@ -110,7 +110,7 @@ fn end_cert<F: Files, T: Witness, V: Write, R: Files + Drop>(
 }
 
 // Writes CERT.inputs to `name`. If that fails, only the witness says so: the ending stays.
-fn end_inputs<F: Files, T: Witness, V: Write>(
+fn save_inputs<F: Files, T: Witness, V: Write>(
     host: &mut Host<'_, F, T, V>,
     words: &TuneWords<'_>,
     texts: &TuneTexts<'_>,
@@ -128,8 +128,8 @@ fn end_inputs<F: Files, T: Witness, V: Write>(
     }
 }
 
-// Lets the witness say which inputs of a rejected certificate differ from its tuning's.
-pub(crate) fn reject<F: Files, T: Witness, V: Write>(
+// Lets the witness say which inputs of a rejected certificate are not those of its tuning.
+pub(crate) fn explain_rejection<F: Files, T: Witness, V: Write>(
     host: &mut Host<'_, F, T, V>,
     words: &TuneWords<'_>,
     texts: &TuneTexts<'_>,

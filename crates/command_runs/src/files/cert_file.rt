@@ -4,7 +4,7 @@ ghost use Rattle.std.specs.Prelude.{◌≡◌, ◌≤◌, length, IfOk, IsTrue, 
 ghost use Rattle.command_runs.specs.CertFile.{names_twice};
 
 use crate::files::digest::{Digested, Digesting};
-use crate::files::guard::{Barred, Written, check_old};
+use crate::files::guard::{Barred, Written, check_overwritable};
 use crate::files::replacing::{Replacement, replacement_at};
 use command_words::TuneWords;
 use std::alloc::Global;
@@ -163,7 +163,7 @@ fn open_other<'a, R: Files + Copy>(
     alloc: Global,
     words: &'a TuneWords<'_>,
 ) -> Result<CertFile<R>, NotOpened<'a>> {
-    if let Err(barred) = check_old(&rt, alloc, words, Written::Cert, words.cert) {
+    if let Err(barred) = check_overwritable(&rt, alloc, words, Written::Cert, words.cert) {
         return Err(NotOpened::Barred(barred));
     }
     match open_checked(rt, alloc, words.cert) {
@@ -172,7 +172,7 @@ fn open_other<'a, R: Files + Copy>(
     }
 }
 
-// Opens CERT after `check_old`: it is empty, a certificate, not a regular file, or not there.
+// Opens CERT after `check_overwritable`: it is empty, a certificate, not regular, or not there.
 fn open_checked<R: Files + Copy>(rt: R, alloc: Global, name: &str) -> io::Result<CertFile<R>> {
     match fs::metadata(&rt, name) {
         Ok(found) => open_found(rt, alloc, name, &found),

@@ -40,9 +40,10 @@ pub(crate) enum Barred<'a> {
     Unread { name: &'a str, error: io::Error },
 }
 
-// Checks that no other word names the file, and that it is empty or begins as its kind does. A file
-// that is not there or not regular, such as a terminal, has no text to lose.
-pub(crate) fn check_old<'a, F: Files>(
+// Checks that no other word and no standard stream leads to the file, and that it is empty or
+// begins as a `written` file does. A file that is not there or not regular, such as a terminal, has
+// no text to lose.
+pub(crate) fn check_overwritable<'a, F: Files>(
     rt: &F,
     alloc: Global,
     words: &'a TuneWords<'_>,
@@ -65,7 +66,7 @@ pub(crate) fn check_old<'a, F: Files>(
     }
 }
 
-// Returns whether `name` is a regular file with a text that does not begin as its kind does.
+// Returns whether `name` is a regular file with a text that does not begin as a `written` one does.
 pub(crate) fn has_other_text<F: Files>(
     rt: &F,
     alloc: Global,

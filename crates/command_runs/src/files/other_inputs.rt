@@ -9,8 +9,9 @@ use std::rt::Files;
 use std::str;
 use tune_runs::TuneTexts;
 
-// The line for the case that no input differs. CERT.inputs does not have the `--keep` and the
-// `--floor` of the tuning, and a certificate without a best setting is rejected without `--floor`.
+// The line for the case that no input differs; "these" are those of the line before it. CERT.inputs
+// does not have the `--keep` and the `--floor` of the tuning, and a certificate without a best
+// setting is rejected without `--floor`.
 const ALL_THE_SAME: &str =
     "all of these are the tuning's, so its --keep or --floor was another, or the certificate \
         itself is wrong";

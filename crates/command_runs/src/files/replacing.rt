@@ -100,8 +100,8 @@ impl<R: Files> Replacement<R> {
         named
     }
 
-    // Renames the file, unless `name` is a text of another kind by now. If there is no memory for a
-    // look, renames it.
+    // Renames the file, unless `name` is a text of another kind by now. If that cannot be found
+    // out, renames it.
     fn name_file(&self, file: &R::File) -> io::Result<()> {
         file.sync_all()?;
         let name = self.name.as_str();

@@ -1,10 +1,10 @@
-//! What was refused, with the texts that were read, for the witness.
+//! What a run that failed was given, for the witness.
 
 use command_words::{DuelWords, TuneWords};
 use rc_instr::Rules;
 use tune_runs::{DuelTexts, RawRules, TuneTexts};
 
-/// What was refused: the words of a run, and the texts that it has read.
+/// What a run was given, as far as it was read when it was refused or failed.
 #[derive(Clone, Copy)]
 pub enum Refused<'a> {
     Rules(RawRules),

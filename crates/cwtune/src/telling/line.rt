@@ -66,7 +66,7 @@ pub(crate) fn is_free(word: &&[u8]) -> bool {
 }
 
 impl<'a> Line<'a> {
-    // Returns the index of the first of the words that is `name`, in any letters.
+    // Returns the index of the first word that equals `name`, ignoring case.
     pub(crate) fn position(&self, name: &[u8]) -> Option<usize> {
         let mut index: usize = 0;
         for word in self.words.as_slice() {

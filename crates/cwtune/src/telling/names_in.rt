@@ -61,7 +61,7 @@ fn constant_in(line: &[u8]) -> Option<&[u8]> {
     rest.split(is_gap).find(is_word)
 }
 
-// Returns a name of the text that differs from a name in capital and small letters alone.
+// Returns a word of `text` that equals `name` but for the case of its letters.
 pub(crate) fn like_name<'a>(alloc: Global, text: &'a [u8], name: &[u8]) -> Option<&'a [u8]> {
     for line in text.split(is_line_feed) {
         if let Some(word) = like_in(alloc, line, name) {
@@ -120,8 +120,8 @@ fn meaning_before(word: &[u8]) -> Meaning {
     }
 }
 
-// Returns the first name of a line that the text gives no value, also one in the text of an EQU
-// name. A line with a joining `&` is not looked into: its names may be parts of others.
+// Returns the first name of `line` that has no value in `text`. Looks into its EQU names, too. A
+// line with a joining `&` is not looked into: its names may be parts of others.
 pub(crate) fn unknown_name<'a>(alloc: Global, text: &'a [u8], line: &'a [u8]) -> Option<&'a [u8]> {
     let mut lines = Vec::new(alloc);
     let _ = lines.push(line);

@@ -80,7 +80,7 @@ fn has_lost_range(line: &[u8]) -> bool {
     !is_range_line(line) && line.split(is_semicolon).skip(1).any(begins_as_range)
 }
 
-// Returns whether the first word of a comment is `@tune`, in any letters.
+// Returns whether the first word of a comment is `@tune`, ignoring case.
 fn begins_as_range(comment: &[u8]) -> bool {
     let word = comment.split(is_gap).find(is_word).unwrap_or(b"");
     is_same_word(word, b"@tune")

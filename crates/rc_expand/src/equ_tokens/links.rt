@@ -43,7 +43,7 @@ pub(crate) fn link_equs(
     Ok(links)
 }
 
-// Returns the index of the EQU name that a token is.
+// Looks up `token` as an EQU name. Returns its index in the table.
 fn equ_index(source: &[u8], token: &Token, equs: &NameTable<Equ>) -> Option<usize>
     ensures { at_index equs.now result ≡ equ_in source.now equs.now token.now }
 {

@@ -91,8 +91,7 @@ impl<'a> BlockSlice<'a> {
     }
 }
 
-// Returns a number for each line: the distance from a FOR to its ROF, 1 if they are neighbours, and
-// 0 for any other line. Refuses what `find` does.
+// Returns the distances that `Blocks` keeps. Refuses what `find` refuses.
 fn check_blocks(alloc: Global, lines: &[RawLine]) -> Result<Vec<usize>, ExpandFault>
     ensures { Returns (λ v. v.items) result (mapped distances (blocks_of lines.now)) }
 {

@@ -120,7 +120,7 @@ fn equ_token<'a>(source: &[u8], raw: &'a RawLine) -> Result<&'a Token, ExpandFau
     }
 }
 
-// Returns the line that defines the EQU name that a token is.
+// Looks up `token` as an EQU name. Returns the line that defines it.
 pub(crate) fn equ_line(equs: &NameTable<Equ>, source: &[u8], token: &Token) -> Option<u64>
     ensures { result ≡ option_map (λ e. e.line) (entry_of equs.now (name_of source.now token.now)) }
 {

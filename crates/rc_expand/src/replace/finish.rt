@@ -130,7 +130,7 @@ fn line_tokens(
     replace_tokens(context, line, kept, back)
 }
 
-// Counts the tokens that EQU names do not replace at the front of a line.
+// Counts the tokens at the front of a line in which EQU names are not replaced.
 fn exempt_len(source: &[u8], word: RawWord, tokens: &[Token]) -> usize
     ensures exempt { result ≡ exempt_len source.now word tokens.now }
     ensures room { result ≤ length tokens.now }
@@ -141,8 +141,8 @@ fn exempt_len(source: &[u8], word: RawWord, tokens: &[Token]) -> usize
     }
 }
 
-// Counts the tokens that EQU names do not replace at the front of a line of code: its first one,
-// and the modifier after an opcode and a dot.
+// Counts the tokens at the front of a line of code in which EQU names are not replaced: the first
+// one, or an opcode, a dot and a modifier.
 fn exempt_len_of_code(source: &[u8], tokens: &[Token]) -> usize
     ensures exempt { result ≡ exempt_len_of_code source.now tokens.now }
     ensures room { result ≤ length tokens.now }

@@ -104,9 +104,8 @@ fn earlier_line(alloc: Global, raw: &RawLine) -> Result<RawLine, AllocError>
     Ok(RawLine::bare(alloc, raw.number, labels))
 }
 
-// Makes a line as it is in `copies`, the outermost first: of `raw` for the first copy with a
-// counter, and of the line made before for each further one. So `raw` is cloned only if no copy has
-// a counter.
+// Returns `raw` as it is in `copies`, the outermost first: each copy with a counter numbers the
+// line that the one before made. Clones `raw` only if no copy has a counter.
 pub(crate) fn line_in(
     alloc: Global,
     source: &[u8],
@@ -132,8 +131,7 @@ pub(crate) fn line_in(
     }
 }
 
-// Copies `line` for the first of `copies` that has a counter, that copy for the next one, and so
-// on.
+// Numbers `line` for each of `copies` that has a counter, the outermost first.
 fn copy_for_each(
     alloc: Global,
     source: &[u8],

@@ -1,7 +1,7 @@
 use Rattle.std.proofs.Common.{refl}
 use Rattle.tune_template.specs.Steps.{seen_ranges}
 use Rattle.tune_template.proofs.Counts.{counted_more}
-use Rattle.tune_template.proofs.range.Reading.push.Goals as goal
+use Rattle.tune_template.proofs.range.RangesSoFar.push.Goals as goal
 
 pub returns-clause-counted : goal.returns-clause-counted
 returns-clause-counted c =
