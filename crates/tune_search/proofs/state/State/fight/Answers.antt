@@ -79,7 +79,7 @@ returns g c =
           (ap (λ n. slice_set s.found.rows n (Cap c.sort_by_index.result.items)) (sym own) ∙ ap (λ (l : List (ℕ × ℕ)). slice_set s.found.rows e.vector (Cap l)) (sym c.from_vec.ensures) ∙ sym c.set.ensures)
           (ap (λ n. next_ranking s.aim bout.cap n s.found.ranking) (sym own) ∙ sym c.in_ok-rank.ensures.ranked)
           (sym (c.in_ok-learn_order.ensures ∙ ap (λ l. if k == 0 then by_points l else s.order.items) listed))
-          (sym (c.in_ok-bout.ensures.fights (small_count s.arena.fights k (length bout.listing.items) p.count c.requires.state.going.room c.requires.visits (omega (arith, c.part_size.ensures.count, c.part_size.ensures.few)) c.in_ok-bout.ensures.few)))
+          (sym (c.in_ok-bout.ensures.fights (small_count s.arena.fights k (length bout.listing.items) p.count c.requires.state.going.room c.requires.visits (omega (arith, c.count.ensures.count, c.count.ensures.few)) c.in_ok-bout.ensures.few)))
           (ap (λ n. take (capacity_of c.args.self.now.method) ((e.text.items, record { vector = n; cap = bout.cap }) ∷ s.cache.known)) (sym own)
           ∙ ap (λ n. take n ((e.text.items, record { vector = e.vector; cap = bout.cap }) ∷ s.cache.known)) (sym c.requires.state.capacity_is)
           ∙ sym (ap (λ (m : CacheView). m.known) c.in_ok-remember.ensures));
