@@ -183,9 +183,13 @@ def status_of(returncode):
     return returncode if returncode in (1, 2) else 3
 
 
+def how_ended(returncode):
+    return f"ended by signal {-returncode}" if returncode < 0 else f"ended with status {returncode}"
+
+
 def ended_with(program, returncode):
     """Returns the fault of a run of a program of which no more is known than its status."""
-    return Fault(f"{program} ended with status {returncode}", status_of(returncode))
+    return Fault(f"{program} {how_ended(returncode)}", status_of(returncode))
 
 
 def end_as(program, returncode, stderr):

@@ -34,12 +34,13 @@ class Grid:
             raise Fault(f"{path}: two range lines of one constant")
         kept = [code_of(line.decode("latin-1").removeprefix(KEPT)) for line in self.lines
                 if line.startswith(KEPT.encode())]
-        self.lists = {match[1]: match[2].split(",") for line in kept
-                      for match in SLOT.finditer(line) if match[1] in self.names and match[2]}
-        for name, values in zip(self.names, self.ranges):
-            if name in self.lists and not 0 <= values[0] <= values[-1] < len(self.lists[name]):
-                raise Fault(f"{path}: {name} is an index of a list of {len(self.lists[name])}, "
-                            "from 0")
+        lists = [(match[1], match[2].split(",")) for line in kept
+                 for match in SLOT.finditer(line) if match[1] in self.names and match[2]]
+        self.lists, range_of = dict(lists), dict(zip(self.names, self.ranges))
+        for name, texts in lists:
+            values = range_of[name]
+            if not 0 <= values[0] <= values[-1] < len(texts):
+                raise Fault(f"{path}: {name} is an index of a list of {len(texts)}, from 0")
 
     def read(self, path):
         return pathlib.Path(path).read_bytes()

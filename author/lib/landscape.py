@@ -276,8 +276,10 @@ def main():
              f"{fights.greatest}")
     if args.opponent is not None:
         title += f"\nthe fights against opponent {args.opponent}"
-    save(draw_line(plot, totals) if len(template.names) == 1 else draw_maps(plot, totals, *axes),
-         title, args.picture)
-    if args.effects:
-        save(draw_effects(plot, totals), title, args.effects)
+    is_line = len(template.names) == 1
+    figure = draw_line(plot, totals) if is_line else draw_maps(plot, totals, *axes)
+    effects = draw_effects(plot, totals) if args.effects else None
+    save(figure, title, args.picture)
+    if effects:
+        save(effects, title, args.effects)
     cert_inputs.print_note(why_unused)

@@ -146,26 +146,42 @@ def assembled_lines(text):
 def lines_of(text, adapted=None):
     """Returns the opcode and directive lines with their labels. `adapted` is None if the text is
     the author's own."""
-    lines, waiting, depth, numbers = [], [], 0, set()
+    lines, waiting, counts, numbers = [], [], [], set()
     for row, line in assembled_lines(text):
         code = code_of(line)
         head = HEAD.match(code) or LONE_LABELS.fullmatch(code + " ")
         if not head:
             continue
         names, word = names_in(head[1]), head[2].lower() if head.re is HEAD else ""
-        depth -= word == "rof"
+        if not word and "0" in counts:  # prose, whose words are no labels
+            continue
+        counts = counts[:-1] if word == "rof" else counts
         if word != "equ":  # the last name before FOR is the block's counter
             waiting = waiting + (names[:-1] if word == "for" else names)
         if word:
             labels = waiting if word in OPEN_OPCODES else names if word == "equ" else []
             lines.append(Line(number_of(adapted, row, head.start(2)), row, line, labels, word,
-                              fields_of(code, head, word), {}, depth, adapted, numbers))
+                              fields_of(code, head, word), {}, len(counts), adapted, numbers))
         waiting = [] if word in OPEN_OPCODES else waiting
-        depth += word == "for"
+        counts = [*counts, code[head.end():].strip()] if word == "for" else counts
     # In place: each line has this set.
     numbers.update(line.number for line in lines)
     hide_fields(lines)
     return lines
+
+
+def copied(lines):
+    """Yields lines, without those of blocks whose count is 0 or an EQU name for it."""
+    zeros = {"0", *(label for line in lines if "equ" in line.fields
+                    and line.spelled(line.fields["equ"]) == "0" for label in line.labels)}
+    dropped = None
+    for line in lines:
+        if dropped is not None and line.depth <= dropped:
+            dropped = None
+        if dropped is None:
+            yield line
+            if line.word == "for" and line.spelled(line.fields["a"]) in zeros:
+                dropped = line.depth
 
 
 def number_of(adapted, row, column):
@@ -306,7 +322,8 @@ def line_of(path, lines, name, field):
                 or difflib.get_close_matches(name, labels, 1))
         what = f"label `{name}`" if field else f"line `{name} EQU number`"
         raise Fault(f"{path}: no {what}{f'; did you mean {near[0]}?' if near else ''}")
-    return named[0]
+    rows = {line.row for line in copied(lines)}
+    return min(named, key=lambda line: line.row not in rows)
 
 
 def line_written_out(lines, name):

@@ -36,7 +36,7 @@ def edits_of(args, template, setting, adapted):
     if len(own) != len(texts):
         raise other_text(args)
     for number, ((kept, of_line), text) in enumerate(zip(own, texts), 1):
-        if not of_line and kept != text and not is_range_line(kept.encode("latin-1")):
+        if not of_line and not is_same_line(kept, text):
             raise other_text(args)
         for slot, (start, end) in spans(args, kept, of_line or (), text).items():
             new = slots.text_in(kept, slot, slot.text_of(value_of[slot.name]))
@@ -46,6 +46,12 @@ def edits_of(args, template, setting, adapted):
             if origin is None:
                 raise Fault(f"{args.original} has no place for {slot.name}")
             yield origin, end - start, new
+
+
+def is_same_line(kept, text):
+    """Returns whether two lines are equal, or have a range of the same constant."""
+    are_ranges = all(is_range_line(line.encode("latin-1")) for line in (kept, text))
+    return kept == text or are_ranges and kept.split()[1:2] == text.split()[1:2]
 
 
 def other_text(args):

@@ -18,7 +18,7 @@ from .adapt import adapt, adapted_if_refused, read_text, start_of
 from .endings import Fault, note
 from .grid import ADAPTED, is_range_line
 from .openings import place_named
-from .places import HEAD, assembled_lines, lines_of, spots_in
+from .places import HEAD, assembled_lines, copied, lines_of, spots_in
 from .pmars.text import kept_of
 from .pmars.tokens import code_of, tokens_of
 from .program import assemble, load_file_of, refuse_other_warrior, rules_of
@@ -168,20 +168,6 @@ def print_pmars_notes(text):
     for line in copied(lines_of(text.decode("latin-1"))):
         if line.word in ("nop", "dat") and not line.fields.keys() & {"a", "b"}:
             note(f"pMARS refuses line {line.number}: {line.word.upper()} without an operand")
-
-
-def copied(lines):
-    """Yields lines, without those of blocks whose count is 0 or an EQU name for it."""
-    zeros = {"0", *(label for line in lines if "equ" in line.fields
-                    and line.spelled(line.fields["equ"]) == "0" for label in line.labels)}
-    dropped = None
-    for line in lines:
-        if dropped is not None and line.depth <= dropped:
-            dropped = None
-        if dropped is None:
-            yield line
-            if line.word == "for" and line.spelled(line.fields["a"]) in zeros:
-                dropped = line.depth
 
 
 def checked_text(args, template, setting, totals):

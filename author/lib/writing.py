@@ -10,7 +10,7 @@ def naming(path):
     try:
         yield
     except OSError as error:
-        raise Fault(f"{path}: {error.strerror}", 3) from None
+        raise Fault(f"{path}: {error.strerror or error}", 3) from None
 
 
 @contextlib.contextmanager

@@ -75,9 +75,9 @@ class Landscapes(Trial):
             for name in ["x.svg", "y.svg"]])
         self.same("settings that were dropped", (
             1, "", "refused: settings were dropped: the means need a certificate of `cwtune tune "
-            "--all`\n", None), (
+            "--all`\n", None, None), (
             *self.call("cwtune-landscape step.red step.cert x.png --effects y.png"),
-            self.read("y.png")))
+            self.read("x.png"), self.read("y.png")))
 
     def test_means(self):
         template, nan = tuning_files.Template(str(self.folder / "two.red")), math.nan

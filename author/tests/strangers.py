@@ -1,9 +1,9 @@
 """Gives the commands names, texts and files that a stranger chose, and looks what they leave."""
-import ast, contextlib, fcntl, os, pathlib, re, signal, struct, subprocess, termios, time
+import ast, contextlib, fcntl, os, pathlib, re, shutil, signal, struct, subprocess, termios, time
 from unittest import mock
 
 from author.lib import writing
-from author.lib.endings import quoted
+from author.lib.endings import Fault, quoted
 from author.lib.spread.hosts import HostJobs
 from gate.lib import play
 
@@ -345,6 +345,8 @@ echo $$ >> {self.folder}/pids; exec sleep 99""")
         for name in [*kept, f"x.svg.{NO_PROCESS}.new"]:
             self.write(name, "<svg")
         os.symlink("t.red", self.folder / f"x.svg.{NO_PROCESS + 1}.new")
+        with self.assertRaisesRegex(Fault, "^x: the same$"), writing.naming("x"):
+            raise shutil.SameFileError("the same")
         with writing.whole_file(self.folder / "x.svg") as file:
             file.write("<svg>")
         self.same("what a killed run has left of a picture is removed", sorted([

@@ -1,10 +1,10 @@
 """Plays `cwtune-study`: compares its report with the other commands, kills it and starts it again,
 and gives it other inputs, other folders and wrong words.
 """
-import fcntl, json, math, os, random, shutil, signal, subprocess, time
+import fcntl, json, math, os, random, shutil, signal, subprocess, time, types
 
 from author.lib import grid, tuning_files
-from author.lib.study.raced import is_replaced
+from author.lib.study.raced import RaceOfStudy, is_replaced
 from author.lib.study.result import Box
 
 from .study_trial import FEW, OPPONENTS, PLANE, TEMPLATE, WARRIOR, StudyTrial
@@ -251,6 +251,21 @@ class Studying(StudyTrial):
         self.write("one.red", TEMPLATE.replace("1 9 2 5", "5 5 1 5"))
         self.same("one setting", "the winner is START: nothing better was found",
                   self.study("one.red", "all").out.splitlines()[-3])
+
+    def test_names_of_opponents(self):
+        """Repeats a study with an opponent that is named as what a kill leaves."""
+        self.write("x.report", "DAT 0, 0\n")
+        copy = self.folder / "t.study/opponents/x.report"
+        made = [self.study("t.red", "x.report") and copy.stat().st_mtime_ns for _ in range(2)]
+        self.same("its copy is made once", 1, len(set(made)))
+
+    def test_box_rounds(self):
+        """Gives a box the rounds for which its race ended early, though that played less."""
+        args = types.SimpleNamespace(certify=False, rounds=20, box=2, exact=1000, fights=300000,
+                                     minutes=None)
+        study = types.SimpleNamespace(args=args, folder=None, opponents=["x.red"] * 8)
+        race = RaceOfStudy(study, types.SimpleNamespace(ranges=[range(5)] * 4))
+        self.same("the rounds of the box", 6, race.box_rounds({"fights": 234000}))
 
     def test_no_fights_left(self):
         """Makes a study whose race, in which START alone is bad, leaves no fights for the gain."""

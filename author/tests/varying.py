@@ -40,6 +40,17 @@ x&i     dat i, 7
         rof
         end
 """
+# A label, which is also a word of prose and the label of a dropped instruction.
+DROPPED = """for 0
+the old bomb
+rof
+for 0
+bomb DAT 5, 5
+rof
+throw MOV 7, @aim
+aim DAT 0, 0
+bomb DAT 9, 1
+"""
 # The number of a line, what opens a place of it, what the template has there, and the notes.
 OPENED = [
     (5, "GATE=-40:-10:5", ";@text GATE equ [GATE]\n;@tune GATE -40 -10 5 -25", ""),
@@ -204,6 +215,10 @@ class Varying(Trial):
         self.same("too many settings for tune", (
             0, "note: 3000000 settings: too many for `cwtune tune`; cwtune-study and cwtune-seek "
             "have them race\n"), (status, err))
+        self.write("bomb.red", DROPPED)
+        self.same("a label that dropped blocks have too", (0, 1), (
+            (result := self.opened("bomb.red", "bomb.a=1:9")).status,
+            result.out.count("\n;@text bomb DAT [bomb_a], 1\n")))
         self.write("two.red", TEXT.replace("FOR  2", "FOR  0"))
         self.same("what could be opened", (0, LIST, ""), self.opened("two.red"))
 

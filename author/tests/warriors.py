@@ -117,6 +117,8 @@ class Warriors(Trial):
              "refused: kept.red, line 3: what follows it is not what cwtune-vary wrote there"),
             ("list.red", b";@text DAT [L_choice:3,5]\n;@tune L_choice 0 2 1 0\nDAT 3\n",
              "refused: list.red: L_choice is an index of a list of 2, from 0"),
+            ("lists.red", b";@text DAT [L:3,5]\n;@text DAT [L:1,2,3,4]\n;@tune L 0 3 1 0\nDAT 3\n",
+             "refused: lists.red: L is an index of a list of 2, from 0"),
             ("chain.red", CHAIN, "refused: with its values the text does not assemble: "
              "Asm line "),
             ("refused.red", b"DAT 1/0\n", "refused: setting 0 does not assemble: Asm line 1 "),
@@ -145,7 +147,7 @@ class Warriors(Trial):
         for name, text, expected in [
             ("notes", "echo '  a note' >&2; echo 'error: a fault' >&2; exit 2",
              (2, "", "error: a fault\n  a note\n")),
-            ("dies", "kill -9 $$", (3, "", "failed: ./dies ended with status -9\n")),
+            ("dies", "kill -9 $$", (3, "", "failed: ./dies ended by signal 9\n")),
         ]:
             self.write_program(name, text)
             self.same(f"a program that {name}", expected, self.call(

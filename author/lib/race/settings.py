@@ -17,8 +17,8 @@ def spread_evenly(ranges, count, dice):
 
 
 def child(parents, ranges, reach, dice):
-    """Returns a setting near one of the parents, the best first: with values of a second one, with
-    some moved by `reach`, a part of the range, or both."""
+    """Returns a setting near one of `parents`, which are sorted with the best first. Some of its
+    values are a second parent's, or are moved by about `reach` of their range, or both."""
     first, second = dice.choice(parents[:max(2, len(parents) // 2)]), dice.choice(parents)
     values = [other if dice.random() < SECOND_PARENT else own for own, other in zip(first, second)]
     if tuple(values) == first or dice.random() < CHANGED:

@@ -206,7 +206,7 @@ def make_parser():
                high=MOST_FIGHTS)
     parser.add_argument("--seed", type=number_from(1, 65535), metavar="S",
                         help="the seed of a race, and the first position of a tuning, as SEED of "
-                        "cwtune-series [default: 4321, or less in a small core]")
+                        "cwtune-series [default: 4321, or another if the rules exclude it]")
     add_number(parser, "--exact", "N", 1000, "tune a template of at most N settings whole, and "
                "race in a larger one", high=MOST_SETTINGS)
     add_number(parser, "--fresh", "F", 100, "fresh fights against each opponent in a heat, if the "

@@ -107,10 +107,11 @@ class StudyFolder(OwnFolder):
         if begins and mark:
             self.write_mark(dataclasses.replace(mark, stages={}, removing=True))
             self.remove_all()
-        # What a run that was killed may leave, but for that of `cwtune-spread`.
+        # What a run that was killed may leave, but for that of `cwtune-spread`. The names of
+        # opponents are the user's.
         for name, pattern in self.patterns():
             with self.room(name) as room:
-                if room and not name.startswith("best.cert."):
+                if room and name in ("", "fresh"):
                     room.remove(f"(?=(?:{pattern})$){UNFINISHED}")
         self.mark = Mark(self.maker(), fingerprint, {}) if begins else mark
         self.write_mark(self.mark)

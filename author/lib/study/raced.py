@@ -39,7 +39,7 @@ class RaceOfStudy:
         results = {"race": race, "box": None, "challenge": None, "winner": race["winner"],
                    "points": race["points"]}
         has_gained = gains(race["points"], self.args.weights)
-        if self.rounds(race["fights"]) and (has_gained or self.args.certify):
+        if self.box_rounds(race) and (has_gained or self.args.certify):
             results["box"] = box = stage("box", lambda: self.tune_box(race), "box.red",
                                          "schedule.csv", "best.cert", "best.txt")
             results["challenge"] = found = stage("challenge", lambda: self.challenge(race, box))
@@ -88,17 +88,22 @@ class RaceOfStudy:
 
     def rounds(self, fights):
         """Returns the box's fights against each opponent, 0 if they are too few. `fights` are those
-        of the race, None if it has no limit of them."""
+        of the budget, None if it has no limit of them."""
         if self.args.certify or fights is None:
             return self.args.rounds
         plays = self.most_settings(self.reach()) * len(self.study.opponents)
         rounds = int(BOX_PART * fights / plays)
         return min(self.args.rounds, rounds) if rounds >= LEAST_ROUNDS else 0
 
+    def box_rounds(self, race):
+        """Returns the rounds of the box: those for which the race ended early, and if only time
+        was limited, those by the fights that the race played."""
+        return self.rounds(budget_of(self.args).fights or race["fights"])
+
     def tune_box(self, race):
         """Tunes the box in new fights. Returns its size, its part of the budget, and the check."""
         folder, began_at, winner = self.folder, time.monotonic(), race["winner"]
-        ranges, rounds = self.grid.box(winner, self.reach()), self.rounds(race["fights"])
+        ranges, rounds = self.grid.box(winner, self.reach()), self.box_rounds(race)
         settings = math.prod(map(len, ranges))
         tell(f"the {settings} settings around the winner are tuned")
         folder.write("box.red", self.grid.text(ranges, winner))
