@@ -85,8 +85,8 @@ def is_whole(row, record):
 
 
 def is_of_form(text, actual):
-    """Returns whether an assembly ended with a fault at a line of the text, or, once all of the
-    line with the label of its start is there, with a load file."""
+    """Returns whether an assembly ended with a fault at a line of the text, or with a load file;
+    the latter only if the text has all of FIRST, the line with the label of its start."""
     if actual.status == 0:
         return (FIRST in text and actual.out.startswith(b"ORG ") and actual.out.endswith(b"\n")
                 and actual.err == b"")

@@ -4,8 +4,8 @@ changes in the checkout have no effect.
 First `rt ci` proves and tests every crate, without the edits in must-fail/, which it would try one
 by one. Then the other modules try the program. Beside both edits.py judges the edits, over the
 libraries that `rt ci` has built, as far as processors and memory are left; what it says comes after
-the trials. The last line sums the steps up, after the lines of the trials that were left out since
-a tool is not installed. If `rt ci` fails, nothing else counts or is run.
+the trials. At the end come the trials that were left out because a tool is not installed, and as
+the last line the sum of all steps. If `rt ci` fails, nothing else counts or is run.
 """
 import contextlib, os, pathlib, re, resource, shutil, signal, subprocess, sys, tempfile, time
 

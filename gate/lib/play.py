@@ -31,8 +31,8 @@ def end(status, out="", err="", files=None, **more):
 
 
 def status_of(text):
-    """Returns the exit status of a run that writes a text, by its last line with a first word of
-    STATUSES."""
+    """Returns the exit status of a run that writes a text: that of the last line which begins with
+    a word of STATUSES, or 0."""
     words = re.findall(rf"(?m)^({'|'.join(STATUSES)})[: ]", text)
     return STATUSES[words[-1]] if words else 0
 

@@ -5,9 +5,10 @@ refused each has to pass. With a request refused it has to pass too, or to end b
 returned `OutOfMemory` (at line or record 0, never another fault), or because a request of the test
 itself was refused. The last line says how many requests were refused, too.
 
-The tests of the modules `no_memory` have to pass up to their last line with every request refused
-after their largest one. Those of the modules `arenas` have to make one arena each. Each program has
-to have tests of one of the three. Needs `cc` and a system with LD_PRELOAD.
+In a test of a module `no_memory` every request after its largest one is refused, and it may fail
+only at its last line, which asks for memory to show that. Those of the modules `arenas` have to
+make one arena each. Each program has to have tests of one of the three. Needs `cc` and a system
+with LD_PRELOAD.
 """
 import functools, pathlib, subprocess
 
