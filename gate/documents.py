@@ -12,7 +12,7 @@ A block is indented, or between fences.
 
 Also looks in each document for the lines of a merge that nobody has settled.
 """
-import os, pathlib, re, shutil, subprocess, tempfile
+import collections, os, pathlib, re, shutil, subprocess, tempfile
 from typing import NamedTuple
 
 from author.lib.endings import run_tool
@@ -151,7 +151,9 @@ def shown_in(text):
     files = saved_files(text)
     saved = {name: block for name, block in files.items() if block is not None}
     found = [*runs_in_blocks(text), *runs_in_tables(text, saved),
-             *(f"no block to save as {name}" for name in files if name not in saved)]
+             *(f"no block to save as {name}" for name in files if name not in saved),
+             *(f"{name} is saved twice" for name, times
+               in collections.Counter(SAVED.findall(text)).items() if times > 1)]
     runs = [run for run in found if isinstance(run, Run)]
     return saved, runs, [lack for lack in found if isinstance(lack, str)]
 
