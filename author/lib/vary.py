@@ -71,7 +71,8 @@ class Varied:
 
     def lines_for(self, row, line, starts_alone):
         here = sorted((opened for opened in self.opened if opened.spot.line.row == row),
-                      key=lambda opened: opened.spot.span, reverse=True)
+                      key=lambda opened: (opened.spot.span, opened.spot.kind == "mode"),
+                      reverse=True)  # where neither is written, the modifier is before the mode
         if not here:
             return [line]
         kept, range_lines = line, []

@@ -281,6 +281,15 @@ class Varying(Trial):
                 len(own) == PLACES.count("\n") + 1
                 and len(differ) <= (0 if setting == "start" else most)))
 
+    def test_side_by_side(self):
+        """Opens two fields that are not written, and between which is nothing."""
+        self.write("near.red", " jmp(1)\n")
+        modifier, mode = "1.modifier=a,b", "1.a-mode=$,@"
+        for words in (modifier, mode), (mode, modifier):
+            kept = self.opened("near.red", *words).out.split("\n")[0]
+            self.same(" ".join(words), ";@text  jmp[line1_modifier:,.a,.b][line1_a_mode:,@](1)",
+                      kept)
+
     def test_refusals(self):
         self.refused(WRONG_RANGES)
         self.same("a missing file", 3, self.call("cwtune-vary none").status)
