@@ -16,13 +16,11 @@ from typing import NamedTuple
 
 from .endings import Fault
 from .grid import ADAPTED, KEPT, SLOT, is_range_line
-from .places import HEAD
+from .places import HEAD, PLAIN, fields_of
 from .pmars.tokens import code_of
 
 # What the line with the values of a setting begins with.
 STRATEGY = ";strategy cwtune: "
-# An operator before a number. A negative number after it gets parentheses.
-OPERATOR = re.compile(r"[-+/%=!&|]\s*$")
 
 
 class Slot(NamedTuple):
@@ -63,8 +61,27 @@ def filled(line, texts):
 
 
 def text_in(line, slot, text):
-    """Returns the text of a slot as its line has it."""
-    return f"({text})" if text.startswith("-") and OPERATOR.search(line[:slot.start]) else text
+    """Returns the text of a slot as its line has it: a number below 0 is in parentheses, unless it
+    is all of a field, as the next `cwtune-vary` would take its sign for an operator."""
+    before, after = line[:slot.start], line[slot.end:]
+    has_them = before.endswith("(") and after.startswith(")")
+    is_bare = text.startswith("-") and not has_them and not is_plain(before, after)
+    return f"({text})" if is_bare else text
+
+
+def is_plain(before, after):
+    """Returns whether a number between two parts of a line is what `PLAIN` says of a field."""
+    before, after = (SLOT.sub(first_text, part) for part in (before, after))
+    code = code_of(f"{before}0{after}")
+    head = HEAD.match(code)
+    fields = fields_of(code, head, head[2].lower()) if head else {}
+    return any(start <= len(before) < end and PLAIN.fullmatch(code, start, end)
+               for start, end in fields.values())
+
+
+def first_text(slot):
+    """Returns what the match of a slot may stand for."""
+    return "0" if slot[2] is None else slot[2].split(",")[0]
 
 
 def code_of_kept(line, names):

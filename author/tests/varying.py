@@ -1,5 +1,5 @@
 """Plays `cwtune-vary` with the program."""
-import subprocess
+import re, subprocess
 
 from .trial import SECONDS, Refusal, Trial, command, refusals_of, usage_errors
 
@@ -255,6 +255,20 @@ class Varying(Trial):
         status, out, err = self.opened("signs.red", "AIM.2=5,3,-9")
         self.same("opened again", (0, "note: 3 settings\n", 1), (
             status, err, out.count("AIM EQU 7-([AIM_2_choice:5,3,-9])")))
+
+    def test_negatives(self):
+        """Gives numbers values below 0, and opens them again."""
+        self.write("start.red", "AIM EQU 5+bomb\nbomb DAT #2*8-1, <-5\n MOV <2+1, {+7\n")
+        places = ["AIM.1", "bomb.a.2", "bomb.b", "3.a.1", "3.b"]
+        self.opened("start.red", *(f"{place}=-9:9:{step}" for place, step in zip(
+            places, [7, 17, 2, 11, 8])))
+        own = self.call("cwtune-warrior --setting=0 t.red").out
+        line, _, text = own.partition("\n")
+        self.same("below 0", "AIM EQU (-9)+bomb\nbomb DAT #2*(-9)-1, <-9\n MOV <(-9)+1, {+-9\n",
+                  text)
+        self.write("own.red", text)
+        listed = re.findall(r"(?m)^(.*)(?==-9: )", self.opened("own.red").out)
+        self.same("listed", (places, 5), (listed, line.count("=-9")))
 
     def test_places(self):
         self.write("places.red", PLACES)
