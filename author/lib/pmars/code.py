@@ -166,7 +166,7 @@ class Load:
     def __init__(self, text):
         self.text, self.start, self.lines = text, 0, []
         if not text.address:
-            raise PmarsFault(0, "no instruction")
+            raise PmarsFault(None, "no instruction")
         self.start_code, self.org_codes = None, []
         for code in text.code:
             instruction = Instruction(text, code, len(self.lines))
@@ -176,10 +176,10 @@ class Load:
             else:
                 self.add(instruction)
         if len(self.lines) != text.address:
-            raise PmarsFault(0, "an EQU of several lines as an operand, which pMARS reads by "
+            raise PmarsFault(None, "an EQU of several lines as an operand, which pMARS reads by "
                              "chance")
         if len(self.lines) > text.rules.length:
-            raise PmarsFault(0, f"{len(self.lines)} instructions")
+            raise PmarsFault(None, f"{len(self.lines)} instructions")
         if self.start >= len(self.lines):
             text.finder.code.start_outside(self.start_code)
 

@@ -20,7 +20,8 @@ MOST_PMARS_COPIES, MOST_WARNINGS = 65535, 9
 
 
 class PmarsFault(Exception):
-    """Why pMARS refuses a text, or why it is not known what it would make of it."""
+    """Why pMARS refuses a text, or why it is not known what it would make of it. `index` is that of
+    a line, or None."""
 
     def __init__(self, index, message):
         super().__init__(message)
