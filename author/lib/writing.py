@@ -101,11 +101,16 @@ def write_bytes(path, text):
 
 @contextlib.contextmanager
 def temporary_file(name, text):
-    """Gives a block the path of a file with a text, in a folder that is made for it."""
+    """Gives a block the path of a file with a text, in a folder that is made for it. A fault of the
+    block calls the file `name`."""
     with temporary_folder() as folder:
-        path = pathlib.Path(folder, pathlib.Path(name).name)
+        path = str(pathlib.Path(folder, pathlib.Path(name).name))
         write_bytes(path, text)
-        yield str(path)
+        try:
+            yield path
+        except Fault as fault:
+            fault.args = (str(fault).replace(path, str(name)),)
+            raise
 
 
 @contextlib.contextmanager

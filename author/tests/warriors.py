@@ -100,6 +100,14 @@ class Warriors(Trial):
             self.write("t.red", of)
             self.same(name, expected, self.call(f"cwtune-warrior {words} t.red"))
 
+    def test_names(self):
+        """Refuses an adapted copy of a template by the name of the template."""
+        self.write("t.red", ";@tune K 0 9999 1 7\n;@tune L 0 999 1 5\nbomb EQU DAT #K, #L\nbomb\n")
+        for words in "--setting=5", "--setting=start --template":
+            status, _, err = self.call(f"cwtune-warrior {words} t.red")
+            self.same(words, (1, "refused: t.red: more than 1000000 settings"),
+                      (status, err.splitlines()[-1]))
+
     def test_settings(self):
         """Counts and finds the settings of a template, which are not kept."""
         self.write("three.red", ";@tune A 0 2 1 1\n;@tune B 5 9 2 7\n;@tune C 0 0 1 0\nDAT A, B\n")
