@@ -53,7 +53,8 @@ class Varied:
         lines = lines_of(*source)
         for opening in openings:
             spot = spot_of(path, lines, opening.place)
-            constant, why = constant_of(spot, opening, source.text)
+            names = [opened.constant.name for opened in self.opened]
+            constant, why = constant_of(spot, opening, "\n".join([source.text, *names]))
             twins = spot.twins(lines)
             for twin, other in itertools.product(twins, self.opened):
                 if twin.overlaps(other.spot):

@@ -295,6 +295,15 @@ class Varying(Trial):
                 len(own) == PLACES.count("\n") + 1
                 and len(differ) <= (0 if setting == "start" else most)))
 
+    def test_names(self):
+        """Opens two places after which one constant would be named."""
+        self.write("names.red", "line2 dat 5, 6\n dat 7, 8\n")
+        self.opened("names.red", "line2.a=1:9", "2.a=1:9")
+        self.same("a name for each", "t.red: template of 81 settings, constants line2_a line2_a_\n",
+                  self.call("cwtune-files t.red").out)
+        self.same("their places", ";strategy cwtune: line2.a=1 2.a=2",
+                  self.call("cwtune-warrior --setting=1 t.red").out.split("\n")[0])
+
     def test_side_by_side(self):
         """Opens two fields that are not written, and between which is nothing."""
         self.write("near.red", " jmp(1)\n")
