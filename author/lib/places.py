@@ -48,8 +48,8 @@ class Line(NamedTuple):
     """A line that is assembled. `number` is that of the author's line, and `row` that of the line
     in the text that is read. `word` is its opcode or directive in small letters, and `fields` has a
     span for each field; that of an EQU line is `equ`. `hidden` says of other fields why they are no
-    places. `depth` is how many blocks are open. `adapted` is the adapted text, or None, and
-    `numbers` has the numbers of all lines."""
+    places. `depth` is how many blocks are open, and `is_dropped` whether one of them has no copies.
+    `adapted` is the adapted text, or None, and `numbers` has the numbers of all lines."""
 
     number: int
     row: int
@@ -59,6 +59,7 @@ class Line(NamedTuple):
     fields: dict
     hidden: dict
     depth: int
+    is_dropped: bool
     adapted: Adapted | None
     numbers: set
 
@@ -146,42 +147,42 @@ def assembled_lines(text):
 def lines_of(text, adapted=None):
     """Returns the opcode and directive lines with their labels. `adapted` is None if the text is
     the author's own."""
-    lines, waiting, counts, numbers = [], [], [], set()
+    lines, waiting, blocks, numbers = [], [], [], set()
+    zeros = zeros_in(text)
     for row, line in assembled_lines(text):
         code = code_of(line)
         head = HEAD.match(code) or LONE_LABELS.fullmatch(code + " ")
         if not head:
             continue
         names, word = names_in(head[1]), head[2].lower() if head.re is HEAD else ""
-        if not word and "0" in counts:  # prose, whose words are no labels
+        if not word and "0" in dict(blocks):  # prose, whose words are no labels
             continue
-        counts = counts[:-1] if word == "rof" else counts
+        if word == "rof" and blocks:
+            count, before = blocks.pop()
+            waiting = before if count in zeros else waiting
         if word != "equ":  # the last name before FOR is the block's counter
             waiting = waiting + (names[:-1] if word == "for" else names)
         if word:
             labels = waiting if word in OPEN_OPCODES else names if word == "equ" else []
             lines.append(Line(number_of(adapted, row, head.start(2)), row, line, labels, word,
-                              fields_of(code, head, word), {}, len(counts), adapted, numbers))
-        waiting = [] if word in OPEN_OPCODES else waiting
-        counts = [*counts, code[head.end():].strip()] if word == "for" else counts
+                              fields_of(code, head, word), {}, len(blocks),
+                              not zeros.isdisjoint(dict(blocks)), adapted, numbers))
+        if word == "for":
+            blocks.append((code[head.end():].strip(), waiting))
+        if word in OPEN_OPCODES or word == "for" and blocks[-1][0] in zeros:
+            waiting = []
     # In place: each line has this set.
     numbers.update(line.number for line in lines)
     hide_fields(lines)
     return lines
 
 
-def copied(lines):
-    """Yields lines, without those of blocks whose count is 0 or an EQU name for it."""
-    zeros = {"0", *(label for line in lines if "equ" in line.fields
-                    and line.spelled(line.fields["equ"]) == "0" for label in line.labels)}
-    dropped = None
-    for line in lines:
-        if dropped is not None and line.depth <= dropped:
-            dropped = None
-        if dropped is None:
-            yield line
-            if line.word == "for" and line.spelled(line.fields["a"]) in zeros:
-                dropped = line.depth
+def zeros_in(text):
+    """Returns the counts of blocks without copies: 0, and each EQU name for it."""
+    codes = [code_of(line) for _, line in assembled_lines(text)]
+    equs = [(head[1], code[head.end():].strip()) for code in codes
+            if (head := HEAD.match(code)) and head[2].lower() == "equ"]
+    return {"0", *(name for labels, value in equs if value == "0" for name in names_in(labels))}
 
 
 def number_of(adapted, row, column):
@@ -322,8 +323,7 @@ def line_of(path, lines, name, field):
                 or difflib.get_close_matches(name, labels, 1))
         what = f"label `{name}`" if field else f"line `{name} EQU number`"
         raise Fault(f"{path}: no {what}{f'; did you mean {near[0]}?' if near else ''}")
-    rows = {line.row for line in copied(lines)}
-    return min(named, key=lambda line: line.row not in rows)
+    return min(named, key=lambda line: line.is_dropped)
 
 
 def line_written_out(lines, name):

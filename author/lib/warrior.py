@@ -18,7 +18,7 @@ from .adapt import adapt, adapted_if_refused, read_text, start_of
 from .endings import Fault, note
 from .grid import ADAPTED, is_range_line
 from .openings import place_named
-from .places import HEAD, assembled_lines, copied, lines_of, spots_in
+from .places import HEAD, assembled_lines, lines_of, spots_in
 from .pmars.text import kept_of
 from .pmars.tokens import code_of, tokens_of
 from .program import assemble, load_file_of, refuse_other_warrior, rules_of
@@ -165,8 +165,9 @@ def print_pmars_notes(text):
     for number, line in enumerate(text.split(b"\n"), 1):
         if len(line) > MOST_LINE_BYTES:
             note(f"pMARS cuts line {number} at {MOST_LINE_BYTES} bytes")
-    for line in copied(lines_of(text.decode("latin-1"))):
-        if line.word in ("nop", "dat") and not line.fields.keys() & {"a", "b"}:
+    for line in lines_of(text.decode("latin-1")):
+        is_bare = line.word in ("nop", "dat") and not line.fields.keys() & {"a", "b"}
+        if is_bare and not line.is_dropped:
             note(f"pMARS refuses line {line.number}: {line.word.upper()} without an operand")
 
 

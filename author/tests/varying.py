@@ -219,6 +219,10 @@ class Varying(Trial):
         self.same("a label that dropped blocks have too", (0, 1), (
             (result := self.opened("bomb.red", "bomb.a=1:9")).status,
             result.out.count("\n;@text bomb DAT [bomb_a], 1\n")))
+        self.write("go.red", "DEC EQU 0\ngo\nFOR DEC\n DAT 5, 5\nROF\n MOV 1, 2\n JMP go\n")
+        self.same("a label before a dropped block", (0, 1), (
+            (result := self.opened("go.red", "go.a=1:9")).status,
+            result.out.count("\n;@text  MOV [go_a], 2\n")))
         self.write("two.red", TEXT.replace("FOR  2", "FOR  0"))
         self.same("what could be opened", (0, LIST, ""), self.opened("two.red"))
 
