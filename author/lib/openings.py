@@ -102,7 +102,7 @@ def constant_of(spot, opening, text):
         return Constant(number_name(spot, text), values, start, []), note
     numbers = sorted({start, *map(int, values)})
     values = range(numbers[0], numbers[-1] + 1, numbers[1] - numbers[0] if numbers[1:] else 1)
-    if list(values) != numbers:
+    if list(values) != numbers or values.step > MOST_VALUE:
         return constant_of_list(spot, f"{spot.name}.choice", list(opening.values), text)
     return Constant(number_name(spot, text), values, start, []), tried_too(spot, opening.values)
 

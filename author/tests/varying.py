@@ -299,6 +299,13 @@ class Varying(Trial):
                 len(own) == PLACES.count("\n") + 1
                 and len(differ) <= (0 if setting == "start" else most)))
 
+    def test_far_apart(self):
+        """Gives a list of two numbers between which is more than the greatest step."""
+        self.write("far.red", "FAR EQU 40000\n DAT 0, FAR\n")
+        self.opened("far.red", "FAR=40000,-40000")
+        self.same("an index", "t.red: template of 2 settings, constants FAR_choice\n",
+                  self.call("cwtune-files t.red").out)
+
     def test_names(self):
         """Opens two places after which one constant would be named."""
         self.write("names.red", "line2 dat 5, 6\n dat 7, 8\n")
