@@ -20,7 +20,7 @@ from .endings import Fault, note
 from .grid import ADAPTED, KEPT, is_range_line
 from .openings import Constant, constant_of, opening_from
 from .places import FIELDS, OPEN_OPCODES, Span, Spot, lines_of, spot_of, spots_in
-from .pmars.tokens import code_of
+from .pmars.tokens import BLANKS, code_of
 from .program import assemble_bytes, load_file_of, refuse_other_warrior, rules_of
 from .slots import code_of_kept
 from .tuning_files import MOST_CONSTANTS, MOST_SETTINGS
@@ -130,7 +130,7 @@ def lines_of_numbers(lines):
 def lines_of_others(lines):
     """Yields for each instruction a line that says what else of it can be opened."""
     for line, spots in spots_of(lines, FIELDS[2:]):
-        fields = [f"{spot.field}={spot.spelled().strip(' .') or UNWRITTEN[spot.field]}"
+        fields = [f"{spot.field}={spot.spelled().strip(BLANKS + '.') or UNWRITTEN[spot.field]}"
                   for spot in spots]
         if fields:
             label = line.labels[-1] if line.labels else line.number

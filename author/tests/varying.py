@@ -234,6 +234,8 @@ class Varying(Trial):
                 ("3.b-mode=<,>", ", line 3: 3.b-mode is in line 1, an EQU line")]),
             ("prose.red", PROSE, PROSE_LIST, []),
             ("uses.red", USES, USES_LIST, []),
+            ("tab.red", " MOV\t.I 0, 1\n", "1.a=0: line 1\n1.b=1: line 1\n1: line 1, a-mode=$ "
+             "b-mode=$ modifier=I opcode=MOV\n", []),
             ("old.red", OLD, OLD_LIST, [
                 ("go.a=1:9", ", line 2: 0 is not written there, so go.a can have no range"),
                 ("8.a=1:9", ", line 8: nothing there can be opened"),
