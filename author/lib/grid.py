@@ -35,7 +35,8 @@ class Grid:
         kept = [code_of(line.decode("latin-1").removeprefix(KEPT)) for line in self.lines
                 if line.startswith(KEPT.encode())]
         lists = [(match[1], match[2].split(",")) for line in kept
-                 for match in SLOT.finditer(line) if match[1] in self.names and match[2]]
+                 for match in SLOT.finditer(line)
+                 if match[1] in self.names and match[2] is not None]
         self.lists, range_of = dict(lists), dict(zip(self.names, self.ranges))
         for name, texts in lists:
             values = range_of[name]

@@ -317,6 +317,13 @@ class Varying(Trial):
         self.same("their places", ";strategy cwtune: line2.a=1 2.a=2",
                   self.call("cwtune-warrior --setting=1 t.red").out.split("\n")[0])
 
+    def test_only_mode(self):
+        """Opens a mode that is not written for this mode alone."""
+        self.write("mode.red", " jmp 0\n")
+        self.opened("mode.red", "1.a-mode=$")
+        self.same("its value", ";strategy cwtune: 1.a-mode=-\n jmp 0\n",
+                  self.call("cwtune-warrior --setting=0 t.red").out)
+
     def test_side_by_side(self):
         """Opens two fields that are not written, and between which is nothing."""
         self.write("near.red", " jmp(1)\n")
