@@ -15,8 +15,9 @@ from .counts import Curline
 
 DEEPEST_BLOCK = 8
 RESERVED = [*(word for word in OPCODES if word not in P_SPACE_OPCODES), "EQU", "FOR", "ROF"]
-# What `cwtune` takes for tokens, and blanks.
-TOKENS = re.compile(rf"(?:{NAME}|[0-9]+|[<>=!]=|&&|\|\||[.,#$@{{}}<>*()+\-/%:&!]|[ \t\r])*")
+# What `cwtune` takes for tokens, and blanks. No token is given back, or words could be divided in
+# more ways than can be tried.
+TOKENS = re.compile(rf"(?:{NAME}|[0-9]+|[<>=!]=|&&|\|\||[.,#$@{{}}<>*()+\-/%:&!]|[ \t\r])*+")
 HEAD_LABEL = re.compile(rf"[ \t\r]*({NAME})((?:[ \t\r]*&[ \t\r]*{NAME})*)[ \t\r]*:?")
 ONE_COPY = "pMARS makes one copy of the block"
 # The reading of changes that are made only in a line that is always dropped.
