@@ -187,6 +187,10 @@ class Merging(SpreadTrial):
         self.same("--merge --keep", ranks,
                   self.spread("--merge=4", "--keep=4", *RANKED).out.splitlines()[6:])
         self.clear()
+        self.run_jobs(4, *words, "--all")
+        self.merged("--merge --keep of parts that show all and rank one each", (
+            2, "", "error: the parts show the first 3 of the ranking, and not 4: were they tuned "
+            "with --keep 4?\n"), "--merge=4", "--keep=4", "--all", *RANKED)
         self.run_jobs(4, *words, "--floor=5")
         self.merged("--merge of parts that are all below", (
             2, "", "error: the part from setting 0 on says only that it is below 5, and no other "

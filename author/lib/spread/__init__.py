@@ -19,7 +19,7 @@ a folder is of other inputs; 3 a job has no result, or a file cannot be read or 
 
 Example: cwtune-spread --jobs 4 my.red fights.csv my.cert dwarf.red scanner.red
 """
-import contextlib, os, shutil, sys
+import contextlib, itertools, os, shutil, sys
 
 from .. import cert_inputs, tuning_files
 from ..endings import Fault, end_as, tell
@@ -185,14 +185,17 @@ def refuse_floors(parts):
                         f"no other total is above {max(greatest, 0)}: it may hide the best", 2)
 
 
-def refuse_ranking(args, cert):
-    """Refuses parts of a cluster that do not show the first of the ranking."""
+def refuse_ranking(args, cert, parts):
+    """Refuses parts of a cluster that do not show the first of the ranking, or do not rank them."""
     if args.merge and args.keep > 1:
         found = tuning_files.Certificate(cert)
         found.path = args.cert  # which faults name
-        _, dropped, exact = found.ranked(found.fights(args.schedule))
-        if dropped and exact < args.keep:
-            raise Fault(f"the parts show the first {exact} of the ranking, and not {args.keep}: "
+        full, dropped, exact = found.ranked(found.fights(args.schedule))
+        ranked = {setting for part in parts for setting in part.ranked()}
+        first = [setting for _, setting in full[:min(exact, args.keep)]]
+        shown = len(list(itertools.takewhile(ranked.__contains__, first)))
+        if shown < min(args.keep, len(full) + dropped):
+            raise Fault(f"the parts show the first {shown} of the ranking, and not {args.keep}: "
                         f"were they tuned with --keep {args.keep}?", 2)
 
 
@@ -208,7 +211,7 @@ def finish(args, folder, progress, notes):
     refuse_floors(parts)
     with naming(folder.given_path):
         write_whole(folder, progress.results)
-    refuse_ranking(args, whole)
+    refuse_ranking(args, whole, parts)
     ranks = ranks_of(parts, args.keep)
     printed, status = check(args, folder.setting_count, notes, whole) if args.check else ("", 0)
     if status:
