@@ -56,7 +56,7 @@ def outcome_numbers(grid, outcome, weights, text):
             "finalists": [{"values": dict(zip(grid.names, one.values)),
                            "percent": 100 * one.rate(), "blocks": one.blocks}
                           for one in (outcome.finalists if outcome else ())],
-            "template": text.decode("latin-1")}
+            "template": text.decode(errors="surrogateescape")}
 
 
 def ranges_of(args, grid, values):

@@ -208,7 +208,7 @@ class Racing(Trial):
     def found(self, *words):
         """Races in a plane of 45 settings, against two opponents. One counts three times."""
         came = self.seek(*words)
-        return came, grid.Grid("found.red", came.out.encode())
+        return came, grid.Grid("found.red", os.fsencode(came.out))
 
     def test_finds(self):
         (status, _, err), found = self.found()
@@ -221,6 +221,7 @@ class Racing(Trial):
             *(line.partition(":")[0] for line in lines[-2:])])
 
     def test_json(self):
+        self.write("plane.red", ";author Jörg\n".encode() + b"; \xf6\n" + PLANE.encode())
         (_, out, err), found = self.found()
         numbers = json.loads(self.seek("--json").out)
         self.same("its winner", dict(zip(found.names, found.start_values)), numbers["winner"])
