@@ -258,6 +258,10 @@ class Studying(StudyTrial):
         copy = self.folder / "t.study/opponents/x.report"
         made = [self.study("t.red", "x.report") and copy.stat().st_mtime_ns for _ in range(2)]
         self.same("its copy is made once", 1, len(set(made)))
+        self.write("all/\udce9.red", "DAT 0, 0\n")
+        self.same("one in a folder that is not UTF-8", (
+            2, "", "error: the name of an opponent has a line end, or is not UTF-8: "
+            "'all/\udce9.red'\n"), self.study("t.red", "all"))
 
     def test_box_rounds(self):
         """Gives a box the rounds for which its race ended early, though that played less."""

@@ -159,8 +159,10 @@ def refuse_text(args, name, *words, **options):
 
 def opponents_of(args):
     """Returns names and texts of the opponents. A name that is taken gets a number."""
-    if any("\n" in path for path in args.opponents):
-        raise Fault("the name of an opponent has a line end", 2)
+    for path in args.opponents:
+        if "\n" in path or os.fsencode(path).decode(errors="replace") != path:
+            raise Fault("the name of an opponent has a line end, or is not UTF-8: "
+                        f"{quoted(path)}", 2)
     texts = {}
     for path, text, is_adapted in adapted_opponents(args, args.opponents):
         if not is_adapted:
