@@ -106,8 +106,8 @@ SHARED = {
     "--anew": {"action": "store_true", "help": "throw away what is done, and begin again"},
     "--as-is": {"action": "store_true",
                 "help": "do not adapt a text that pMARS reads otherwise (cwtune-adapt)"},
-    "--jobs": {"type": number_from(1), "default": len(os.sched_getaffinity(0)), "metavar": "N",
-               "help": "jobs that run side by side, on each host "
+    "--jobs": {"type": number_from(1, 10000), "default": len(os.sched_getaffinity(0)),
+               "metavar": "N", "help": "jobs that run side by side, on each host, 10000 at most "
                "[default: the processors of this one]"},
     "--json": {"action": "store_true",
                "help": "print one JSON object in place of lines (docs/FORMATS.md)"},

@@ -34,6 +34,7 @@ REFUSALS = [
     *usage_errors(f"cwtune-seek {RACED}", [
         *((f"--fights={number}", f"argument --fights: {number} is not 1000 to 1000000000000")
           for number in [999, 10 ** 400]),
+        (f"--jobs={10 ** 400}", f"argument --jobs: {10 ** 400} is not 1 to 10000"),
         ("--minutes=0", "argument --minutes: 0 is not 0.01 to 100000"),
         ("--minutes=x", "argument --minutes: x is not a number of minutes")]),
     Refusal(f"cwtune-seek --hosts=empty {RACED}", 2, "error: empty: no host in it"),

@@ -13,8 +13,9 @@ from .spread_trial import (DECOY, OPPONENTS, RANKED, SCHEDULE, SMALL, TWELVE, Sp
 from .trial import SECONDS, usage_errors, wait_until
 
 WRONG_OPTIONS = usage_errors(f"cwtune-spread {' '.join(SMALL)}", [
-    *((f"{name}={number}", f"argument {name}: {number} is not 1 or more")
-      for name, number in [("--jobs", 0), ("--jobs", -1), ("--parts", 0), ("--parts", -3)]),
+    *((f"{name}={number}", f"argument {name}: {number} is not 1 {limit}")
+      for name, number, limit in [("--jobs", 0, "to 10000"), ("--jobs", -1, "to 10000"),
+                                  ("--parts", 0, "or more"), ("--parts", -3, "or more")]),
     *((f"--keep={number}", f"argument --keep: {number} is not 1 to 1000")
       for number in [0, 1001, -2]),
     ("--merge=2 --parts=2", "argument --merge: not allowed with argument --parts"),
