@@ -56,6 +56,14 @@ class Spreading(SpreadTrial):
             begun.unlink()
             self.clear()
 
+    def test_fifo(self):
+        """Tunes where CERT.inputs is a FIFO, which somebody reads, so that no write waits."""
+        os.mkfifo(self.folder / "CERT.inputs")
+        reader = os.open(self.folder / "CERT.inputs", os.O_RDONLY | os.O_NONBLOCK)
+        status = self.spread("--parts=2", *DECOY).status
+        self.same("nothing is written there", (0, b""), (status, os.read(reader, 99)))
+        os.close(reader)
+
     def test_link_to_cert(self):
         """Tunes where a link CERT.inputs leads to CERT, which is to come."""
         (self.folder / "CERT.inputs").symlink_to("CERT")

@@ -231,11 +231,11 @@ def finish(args, folder, progress, notes):
 
 
 def write_inputs(args):
-    """Writes CERT.inputs beside a regular CERT, but not over CERT, to which a link of that name may
-    lead; if that fails, removes an older one."""
+    """Writes CERT.inputs beside a regular CERT, but not to a FIFO or the like, nor over CERT, to
+    which a link of that name may lead; if that fails, removes an older one."""
     name = f"{args.cert}{cert_inputs.SUFFIX}"
-    if (not os.path.isfile(args.cert)
-            or os.path.exists(name) and os.path.samefile(name, args.cert)):
+    if (not os.path.isfile(args.cert) or os.path.exists(name)
+            and (not os.path.isfile(name) or os.path.samefile(name, args.cert))):
         return
     files = [args.template, args.schedule, *args.opponents]
     try:
