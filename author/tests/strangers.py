@@ -182,6 +182,10 @@ class Strangers(Trial):
             self.refused([Refusal("cwtune-spread --merge=1 t.red s.csv C dat.red", 2,
                                   f"error: {name} is not a regular file")])
             (self.folder / name).unlink()
+        self.tune("t.red", "s.csv", "cert", "dat.red")
+        os.mkfifo(self.folder / "cert.1.check.fault")
+        self.refused([Refusal("cwtune-spread --check-only --merge=1 t.red s.csv cert dat.red", 2,
+                              "error: cert.1.check.fault is not a regular file")])
 
     def test_encodings(self):
         """Prints names that the encoding of the streams does not have."""

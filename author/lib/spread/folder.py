@@ -12,7 +12,7 @@ missing is put back from its input, once that is seen to have the digest of the 
 A piece is a part of a tuning or a share of a check. It is done when `I.done` is there, which is
 written once the piece has a result, so neither a kill nor a crash leaves half of one.
 """
-import dataclasses, json, os, pathlib, shutil, subprocess
+import dataclasses, json, os, shutil, subprocess
 from typing import Annotated, NamedTuple
 
 from ..endings import STATUS_WORDS, Fault, fault_of, shown
@@ -78,7 +78,8 @@ class ClusterPieces(Pieces):
         """Returns the fault that a job wrote, `otherwise` if it wrote none, or where to look."""
         path = f"{self.given_path}.{kind}"
         try:
-            lines = pathlib.Path(path).read_text(errors="replace").splitlines()
+            with open_regular(path) as file:
+                lines = file.read(MOST_REPORT_BYTES).decode(errors="replace").splitlines()
         except FileNotFoundError:
             return f"no {path}: see slurm-ARRAY.out where sbatch was called"
         words = tuple(f"{word}: " for word in STATUS_WORDS.values())
