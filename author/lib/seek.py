@@ -33,7 +33,8 @@ from .writing import temporary_folder, write_bytes
 def print_outcome(grid, outcome, weights):
     tell(f"found: {grid.constants_of(outcome.winner)}")
     if outcome.winner == grid.start_values:
-        note("it is START: the race found nothing better")
+        note("it is START: " + ("the race found nothing better" if len(outcome.finalists) > 1 else
+                                "no other setting has played; give more --fights or --minutes"))
     elif outcome.points is None:
         note("START does not assemble, so there is no gain over it")
     elif not outcome.points[0]:

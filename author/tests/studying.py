@@ -279,6 +279,21 @@ class Studying(StudyTrial):
         self.same("no gain is measured", (0, "keep START: no fights were left", False, None), (
             status, line[:31], report["winner"]["values"] == {"K": 5}, report["gain"]))
 
+    def test_no_rivals(self):
+        """Makes a study whose race has so few fights that START alone plays, and seeks so."""
+        status, out, _ = self.study("--exact=1", "--fights=1000", "p.red", *["all"] * 21)
+        lead = b"No other setting has played in the race."
+        self.same("no other setting has played in a study", (
+            0, "the winner is START: no other setting has played in the race; give more --fights "
+            "or --minutes", True),
+            (status, out.splitlines()[-3], lead in self.read("p.study/report.html")))
+        self.write("s.csv", self.call("cwtune-series --hill=nano 33 1 63").out)
+        status, _, err = self.call("cwtune-seek --hill=nano --jobs=1 --fights=1000 p.red s.csv",
+                                   *["all/dat.red"] * 63)
+        self.same("nor in a race of cwtune-seek", (
+            0, "note: it is START: no other setting has played; give more --fights or --minutes"),
+            (status, err.splitlines()[-1]))
+
     def test_certified_box(self):
         """Certifies a box with more fights than the race has, and then has another setting of it
         take the place of the race's winner."""

@@ -36,7 +36,7 @@ from .folder import StudyFolder
 from .fresh import FIRST_HEAT_PLAYERS, find_winner
 from .inputs import read_inputs
 from .raced import RaceOfStudy
-from .report import html_of, shown_values
+from .report import has_rivals, html_of, shown_values
 from .result import raced_numbers, tuned_numbers
 
 
@@ -186,7 +186,9 @@ def print_end(folder, report):
     gain = report["gain"]
     print_raced(report) if report["race"] else print_tuned(report)
     if report["winner"]["values"] == report["start"]["values"]:
-        print("the winner is START: nothing better was found")
+        print("the winner is START: " + (
+            "nothing better was found" if has_rivals(report) else
+            "no other setting has played in the race; give more --fights or --minutes"))
     elif gain is None:
         print("keep START: no fights were left to measure the gain; give more --fights or "
               "--minutes")

@@ -45,12 +45,19 @@ def paragraph(piece, style=""):
     return f'<p class="{style}">{piece}</p>' if style else f"<p>{piece}</p>"
 
 
+def has_rivals(report):
+    """Returns whether settings were compared with START: a race of few fights may play none."""
+    return not report["race"] or len(report["race"]["finalists"]) > 1
+
+
 def opening(report):
     start, winner, gain = report["start"], report["winner"], report["gain"]
     title = f"<h1>{escaped(report['title'])}</h1>"
     if gain is None:
-        sentence = ("Nothing better than START was found." if start["values"] == winner["values"]
-                    else "No fights were left to measure the gain. Keep START.")
+        sentence = ("No fights were left to measure the gain. Keep START."
+                    if start["values"] != winner["values"]
+                    else "Nothing better than START was found." if has_rivals(report)
+                    else "No other setting has played in the race.")
         return [title, paragraph(sentence, "lead")]
     more = "more" if gain["percent"] >= 0 else "less"
     sentence = (
