@@ -77,11 +77,11 @@ class Holdout:
             self.points[setting] = self.play(f"--setting={setting}", "--", self.args.template)
         return self.points[setting]
 
-    def player(self, setting, rank=None):
+    def player(self, setting):
         """Returns a setting's numbers: rank None if not exact, total None if it was dropped."""
-        return {"setting": setting, "rank": rank if rank and rank <= self.ranking.exact else None,
-                "values": self.template.values_by_name(setting),
-                "total": self.cert.total_of(setting, self.fights),
+        total = self.cert.total_of(setting, self.fights)
+        return {"setting": setting, "rank": self.ranking.rank_of(setting, total),
+                "values": self.template.values_by_name(setting), "total": total,
                 "fresh": self.fresh_points(setting).numbers()}
 
     def print_setting(self, name, player):
@@ -92,8 +92,8 @@ class Holdout:
               f"{self.template.constants(player['setting'])}", flush=True)
 
     def first(self):
-        for rank, (_, setting) in enumerate(self.ranking.full[:self.args.top], 1):
-            yield self.player(setting, rank)
+        for _, setting in self.ranking.full[:self.args.top]:
+            yield self.player(setting)
 
     def print_first(self):
         for player in self.first():

@@ -238,6 +238,13 @@ class Ranking(NamedTuple):
     dropped: int
     exact: int
 
+    def rank_of(self, setting, total):
+        """Returns the rank of a setting with its total, from 1, or None if it is not exact."""
+        if total is None:
+            return None
+        index = bisect.bisect_left(self.full.keys, (-total << 32) + setting)
+        return index + 1 if index < self.exact else None
+
 
 class Certificate(AnyCertificate):
     """A certificate that names a best setting."""

@@ -215,7 +215,7 @@ class Warriors(Trial):
                                    "t.red cert imp.red")
         words = "no difference that these fights show"
         self.same("cwtune-holdout --json", (0, {
-            "greatest": 3, "players": [player], "start": player | {"rank": None},
+            "greatest": 3, "players": [player], "start": player,
             "against": player["fresh"],
             "gain": {"over": "imp.red", "setting": 0, "percent": 0.0, "error": 0.0, "words": words},
             "dropped": 0, "exact": 2}), (status, json.loads(out)))
