@@ -121,8 +121,8 @@ def add_shared(parser, *names):
 
 
 def program_at(word):
-    """Returns the path of a program that an option names: a file, or a name on the PATH."""
-    return shutil.which(word) or word
+    """Returns the path of a program that an option names: a name on the PATH, or a file."""
+    return shutil.which(word) or (os.path.abspath(word) if os.path.isfile(word) else word)
 
 
 def add_program(parser):

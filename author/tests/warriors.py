@@ -160,6 +160,8 @@ class Warriors(Trial):
             self.write_program(name, text)
             self.same(f"a program that {name}", expected, self.call(
                 f"cwtune-warrior step.red --setting=3 --program=./{name}"))
+        self.same("a program in the folder, named alone", (2, "", "error: a fault\n  a note\n"),
+                  self.call("cwtune-warrior step.red --setting=3 --program=notes"))
 
     def tuned(self, template, *words):
         """Tunes a template against an imp, or as `words` say."""
