@@ -249,8 +249,10 @@ class Studying(StudyTrial):
 
     def test_one_setting(self):
         self.write("one.red", TEMPLATE.replace("1 9 2 5", "5 5 1 5"))
-        self.same("one setting", "the winner is START: nothing better was found",
-                  self.study("one.red", "all").out.splitlines()[-3])
+        _, out, err = self.study("one.red", "all")
+        self.same("one setting", ("the winner is START: nothing better was found",
+                                  "the tuning and its check: about 18 fights in 1 second"),
+                  (out.splitlines()[-3], err.partition(" on ")[0]))
 
     def test_names_of_opponents(self):
         """Repeats a study with an opponent that is named as what a kill leaves."""

@@ -252,7 +252,7 @@ class Arena:
         rate = self.args.jobs * self.fights / self.processes.seconds
         limits = [self.budget.seconds, self.budget.fights and self.budget.fights / rate]
         seconds = min(filter(None, limits))
-        tell(f"{what}: about {round(seconds * rate, -2):.0f} fights in {duration(seconds)} on "
+        tell(f"{what}: about {float(f'{seconds * rate:.2g}'):.0f} fights in {duration(seconds)} on "
              f"{counted(self.args.jobs, 'processor')}")
 
     def tell_progress(self):
