@@ -132,8 +132,8 @@ fn equal_warriors_are_ranked(rt: HostRuntime) -> Result<(), Fail> {
     Ok(())
 }
 
-// The cap of setting 3 is 4, which does not beat setting 2. Setting 1 refers to that row, and by its
-// smaller index the same cap beats setting 2.
+// The cap of setting 3 is 4, which does not beat setting 2. Setting 1 refers to that row, and by
+// its smaller index the same cap beats setting 2.
 #[test]
 fn a_same_row_contends_as_its_own_setting(rt: HostRuntime) -> Result<(), Fail> {
     let inputs = inputs_of(rt.alloc(), FOUR_EQUAL)?;
