@@ -1,6 +1,8 @@
 -- Words and their parts.
-use Rattle.std.proofs.Common.{◌≡◌, ℕ, sym, ◌∙◌, ◌<◌, ◌≤◌, ◌+◌, ◌*◌, ◌-◌, ◌/◌, ◌%◌, inl, inr, ap, refl, arith}
-use Rattle.rc_instr.specs.Instruction.{opcode_number, modifier_number, mode_number}
+use Rattle.std.proofs.Common.{◌≡◌, ℕ, Bool, true, false, sym, subst, ◌∙◌, ◌<◌, ◌≤◌, ◌+◌, ◌*◌, ◌-◌, ◌/◌, ◌%◌, ◌==◌, inl, inr, ap, refl, arith}
+use Rattle.std.proofs.lemmas.Bool.{eqb-true, eq-eqb}
+use Rattle.rc_instr.specs.Instruction.{opcode_number, modifier_number, mode_number, same_instruction}
+use Rattle.rc_instr.proofs.Same.{derived, same-true, same_self}
 use Rattle.rc_instr.specs.declared.instruction.Instruction.{Instruction}
 use Rattle.rc_instr.specs.declared.instruction.Opcode.{Opcode}
 use Rattle.rc_instr.specs.declared.instruction.Opcode.TheVariants.{Dat, Mov, Add, Sub, Mul, Div, Mod, Jmp, Jmz, Jmn, Djn, Seq, Sne, Slt, Spl, Nop}
@@ -85,11 +87,11 @@ pub modes_class : (i : Instruction) (n : ℕ) → n ≡ modes_class_of i → IsC
 modes_class i n e = record { own = λ l. absurd (omega (arith, e, l)); modes = λ _. e }
 
 -- the opcode and the modifier in the code of a word
-pub code_opcode : (w : ℕ) → opcode_of (w % 128 / 8) ≡ opcode_of (w / 8 % 16)
-code_opcode w = let h : w % 128 / 8 ≡ w / 8 % 16 = omega arith in ap opcode_of h
+pub code_opcode : (w : ℕ) → opcode_of (w / 4294967296 % 128 / 8) ≡ opcode_of (w / 34359738368 % 16)
+code_opcode w = let h : w / 4294967296 % 128 / 8 ≡ w / 34359738368 % 16 = omega arith in ap opcode_of h
 
-pub code_modifier : (w : ℕ) → modifier_of (w % 128 % 8) ≡ modifier_of (w % 8)
-code_modifier w = let h : w % 128 % 8 ≡ w % 8 = omega arith in ap modifier_of h
+pub code_modifier : (w : ℕ) → modifier_of (w / 4294967296 % 128 % 8) ≡ modifier_of (w / 4294967296 % 8)
+code_modifier w = let h : w / 4294967296 % 128 % 8 ≡ w / 4294967296 % 8 = omega arith in ap modifier_of h
 
 -- the opcode and the modifier in the code of an instruction
 pub opcode_coded : (o : Opcode) (k : Modifier) (n : ℕ) → n ≡ modifier_number k + 8 * opcode_number o → opcode_of (n / 8) ≡ o
@@ -114,10 +116,10 @@ unpacked_packed i w e a b =
     let sm = mode_small i.a_mode in
     let sn = mode_small i.b_mode in
     let c = class_small (key_of (canonical i)) (key_small (canonical i)) in
-    let o : w / 8 % 16 ≡ opcode_number i.opcode = omega (arith, so.0, sk.0, sm.0, sn.0, c) in
-    let k : w % 8 ≡ modifier_number i.modifier = omega (arith, so.0, sk.0, sm.0, sn.0, c) in
-    let m : w / 256 % 8 ≡ mode_number i.a_mode = omega (arith, so.0, sk.0, sm.0, sn.0, c) in
-    let n : w / 2048 % 8 ≡ mode_number i.b_mode = omega (arith, so.0, sk.0, sm.0, sn.0, c) in
+    let o : w / 34359738368 % 16 ≡ opcode_number i.opcode = omega (arith, so.0, sk.0, sm.0, sn.0, c) in
+    let k : w / 4294967296 % 8 ≡ modifier_number i.modifier = omega (arith, so.0, sk.0, sm.0, sn.0, c) in
+    let m : w / 1099511627776 % 8 ≡ mode_number i.a_mode = omega (arith, so.0, sk.0, sm.0, sn.0, c) in
+    let n : w / 8796093022208 % 8 ≡ mode_number i.b_mode = omega (arith, so.0, sk.0, sm.0, sn.0, c) in
     let x : w / 65536 % 65536 ≡ i.a_number = omega (arith, so.0, sk.0, sm.0, sn.0, c) in
     let y : w / 281474976710656 ≡ i.b_number = omega (arith, so.0, sk.0, sm.0, sn.0, c) in
     rw (o, k, m, n, x, y, so.1, sk.1, sm.1, sn.1) refl
@@ -132,7 +134,9 @@ classed_packed i w e a b =
     let sn = mode_small i.b_mode in
     let c = class_small (key_of (canonical i)) (key_small (canonical i)) in
     let h : class_in w ≡ class_of i = omega (arith, so.0, sk.0, sm.0, sn.0, c) in
-    record { class_is = own_class (unpacked w) (class_in w) (h ∙ sym (ap class_of (unpacked_packed i w e a b))) }
+    let k : w / 4294967296 % 65536 ≡ key_of i = omega (arith, so.0, sk.0, sm.0, sn.0, c) in
+    let u = unpacked_packed i w e a b in
+    record { class_is = own_class (unpacked w) (class_in w) (h ∙ sym (ap class_of u)); key_is = k ∙ sym (ap key_of u) }
 
 -- what is true of an instruction is true of one that differs in its numbers alone
 still_class : (i j : Instruction) (c d : ℕ) → d ≡ c → class_of j ≡ class_of i → modes_class_of j ≡ modes_class_of i → IsClassOf i c → IsClassOf j d
@@ -141,10 +145,10 @@ still_class i j c d e f g h = record {
   modes = λ l. e ∙ h.modes (omega (arith, e, l)) ∙ sym g;
 }
 
--- what keeps the class and changes no more than the numbers
-same_class : (v w : ℕ) → class_in v ≡ class_in w → class_of (unpacked v) ≡ class_of (unpacked w) →
-    modes_class_of (unpacked v) ≡ modes_class_of (unpacked w) → IsClassed w → IsClassed v
-same_class v w e f g h = record { class_is = still_class (unpacked w) (unpacked v) (class_in w) (class_in v) e f g h.class_is }
+-- what keeps the class and the key, and changes no more than the numbers
+same_class : (v w : ℕ) → class_in v ≡ class_in w → v / 4294967296 % 65536 ≡ w / 4294967296 % 65536 → class_of (unpacked v) ≡ class_of (unpacked w) →
+    modes_class_of (unpacked v) ≡ modes_class_of (unpacked w) → key_of (unpacked v) ≡ key_of (unpacked w) → IsClassed w → IsClassed v
+same_class v w e k f g l h = record { class_is = still_class (unpacked w) (unpacked v) (class_in w) (class_in v) e f g h.class_is; key_is = k ∙ h.key_is ∙ sym l }
 
 -- a word with another A-number
 with_a : (w n v : ℕ) → n < 65536 → v ≡ w % 65536 + 65536 * n + 4294967296 * (w / 4294967296) →
@@ -152,35 +156,43 @@ with_a : (w n v : ℕ) → n < 65536 → v ≡ w % 65536 + 65536 * n + 429496729
 unfolding unpacked
 with_a w n v l e =
     let p : unpacked v ≡ with_field ANumber n (unpacked w) =
-    parts _ _ _ _ _ _ _ _ _ _ _ _ (let h : v / 8 % 16 ≡ w / 8 % 16 = omega arith in h) (let h : v % 8 ≡ w % 8 = omega arith in h)
-    (let h : v / 256 % 8 ≡ w / 256 % 8 = omega arith in h) (let h : v / 65536 % 65536 ≡ n = omega arith in h)
-    (let h : v / 2048 % 8 ≡ w / 2048 % 8 = omega arith in h) (let h : v / 281474976710656 ≡ w / 281474976710656 = omega arith in h) in
-    (p, same_class v w (let h : class_in v ≡ class_in w = omega arith in h) (ap class_of p) (ap modes_class_of p))
+    parts _ _ _ _ _ _ _ _ _ _ _ _ (let h : v / 34359738368 % 16 ≡ w / 34359738368 % 16 = omega arith in h) (let h : v / 4294967296 % 8 ≡ w / 4294967296 % 8 = omega arith in h)
+    (let h : v / 1099511627776 % 8 ≡ w / 1099511627776 % 8 = omega arith in h) (let h : v / 65536 % 65536 ≡ n = omega arith in h)
+    (let h : v / 8796093022208 % 8 ≡ w / 8796093022208 % 8 = omega arith in h) (let h : v / 281474976710656 ≡ w / 281474976710656 = omega arith in h) in (
+      p,
+      same_class v w (let h : class_in v ≡ class_in w = omega arith in h) (let h : v / 4294967296 % 65536 ≡ w / 4294967296 % 65536 = omega arith in h)
+          (ap class_of p) (ap modes_class_of p) (ap key_of p),
+    )
 
 with_b : (w n v : ℕ) → n < 65536 → v ≡ w % 281474976710656 + 281474976710656 * n →
     (unpacked v ≡ with_field BNumber n (unpacked w)) × (IsClassed w → IsClassed v)
 unfolding unpacked
 with_b w n v l e =
     let p : unpacked v ≡ with_field BNumber n (unpacked w) =
-    parts _ _ _ _ _ _ _ _ _ _ _ _ (let h : v / 8 % 16 ≡ w / 8 % 16 = omega arith in h) (let h : v % 8 ≡ w % 8 = omega arith in h)
-    (let h : v / 256 % 8 ≡ w / 256 % 8 = omega arith in h) (let h : v / 65536 % 65536 ≡ w / 65536 % 65536 = omega arith in h)
-    (let h : v / 2048 % 8 ≡ w / 2048 % 8 = omega arith in h) (let h : v / 281474976710656 ≡ n = omega arith in h) in
-    (p, same_class v w (let h : class_in v ≡ class_in w = omega arith in h) (ap class_of p) (ap modes_class_of p))
+    parts _ _ _ _ _ _ _ _ _ _ _ _ (let h : v / 34359738368 % 16 ≡ w / 34359738368 % 16 = omega arith in h) (let h : v / 4294967296 % 8 ≡ w / 4294967296 % 8 = omega arith in h)
+    (let h : v / 1099511627776 % 8 ≡ w / 1099511627776 % 8 = omega arith in h) (let h : v / 65536 % 65536 ≡ w / 65536 % 65536 = omega arith in h)
+    (let h : v / 8796093022208 % 8 ≡ w / 8796093022208 % 8 = omega arith in h) (let h : v / 281474976710656 ≡ n = omega arith in h) in (
+      p,
+      same_class v w (let h : class_in v ≡ class_in w = omega arith in h) (let h : v / 4294967296 % 65536 ≡ w / 4294967296 % 65536 = omega arith in h)
+          (ap class_of p) (ap modes_class_of p) (ap key_of p),
+    )
 
 -- a mark changes nothing in the instruction
 pub unpacked_marked : (w : ℕ) → unpacked (marked w) ≡ unpacked w
 unfolding unpacked marked mark_of
 unpacked_marked w =
     let v = w + 32768 * (1 - w / 32768 % 2) in
-    parts _ _ _ _ _ _ _ _ _ _ _ _ (let h : v / 8 % 16 ≡ w / 8 % 16 = omega arith in h) (let h : v % 8 ≡ w % 8 = omega arith in h)
-    (let h : v / 256 % 8 ≡ w / 256 % 8 = omega arith in h) (let h : v / 65536 % 65536 ≡ w / 65536 % 65536 = omega arith in h)
-    (let h : v / 2048 % 8 ≡ w / 2048 % 8 = omega arith in h) (let h : v / 281474976710656 ≡ w / 281474976710656 = omega arith in h)
+    parts _ _ _ _ _ _ _ _ _ _ _ _ (let h : v / 34359738368 % 16 ≡ w / 34359738368 % 16 = omega arith in h) (let h : v / 4294967296 % 8 ≡ w / 4294967296 % 8 = omega arith in h)
+    (let h : v / 1099511627776 % 8 ≡ w / 1099511627776 % 8 = omega arith in h) (let h : v / 65536 % 65536 ≡ w / 65536 % 65536 = omega arith in h)
+    (let h : v / 8796093022208 % 8 ≡ w / 8796093022208 % 8 = omega arith in h) (let h : v / 281474976710656 ≡ w / 281474976710656 = omega arith in h)
 
 pub classed_marked : (w v : ℕ) → v ≡ w + 32768 * (1 - w / 32768 % 2) → IsClassed w → IsClassed v
 unfolding marked mark_of
 classed_marked w v e p =
     let f : v ≡ marked w = e in
-    same_class v w (let h : class_in v ≡ class_in w = omega arith in h) (ap class_of (ap unpacked f ∙ unpacked_marked w)) (ap modes_class_of (ap unpacked f ∙ unpacked_marked w)) p
+    let u : unpacked v ≡ unpacked w = ap unpacked f ∙ unpacked_marked w in
+    same_class v w (let h : class_in v ≡ class_in w = omega arith in h) (let h : v / 4294967296 % 65536 ≡ w / 4294967296 % 65536 = omega arith in h)
+    (ap class_of u) (ap modes_class_of u) (ap key_of u) p
 
 pub mark_marked : (w : ℕ) → mark_of (marked w) ≡ 1
 unfolding marked mark_of
@@ -201,3 +213,31 @@ pub moved_b : (w n u x y v : ℕ) → w < 18446744073709551616 → n < 65536 →
 moved_b w n u x y v s l eu ex ey h =
     let g : v ≡ (w + 281474976710656 * ((x + (18446744073709551616 - y)) % 18446744073709551616) % 18446744073709551616) % 18446744073709551616 = rw (← eu) h in
     with_b w n v l (omega (arith, s, l, ex, ey, g))
+
+-- words that are equal but for class and mark have equal instructions
+unpacked_same : (v w : ℕ) → v / 65536 ≡ w / 65536 → unpacked v ≡ unpacked w
+unfolding unpacked
+unpacked_same v w e =
+    parts _ _ _ _ _ _ _ _ _ _ _ _ (let h : v / 34359738368 % 16 ≡ w / 34359738368 % 16 = omega (arith, e) in h) (let h : v / 4294967296 % 8 ≡ w / 4294967296 % 8 = omega (arith, e) in h)
+    (let h : v / 1099511627776 % 8 ≡ w / 1099511627776 % 8 = omega (arith, e) in h) (let h : v / 65536 % 65536 ≡ w / 65536 % 65536 = omega (arith, e) in h)
+    (let h : v / 8796093022208 % 8 ≡ w / 8796093022208 % 8 = omega (arith, e) in h) (let h : v / 281474976710656 ≡ w / 281474976710656 = omega (arith, e) in h)
+
+-- and the other way round
+rest_same : (v w : ℕ) → IsClassed v → IsClassed w → unpacked v ≡ unpacked w → v / 65536 ≡ w / 65536
+unfolding unpacked
+rest_same v w cv cw e =
+    let k : v / 4294967296 % 65536 ≡ w / 4294967296 % 65536 = cv.key_is ∙ ap key_of e ∙ sym cw.key_is in
+    let a : v / 65536 % 65536 ≡ w / 65536 % 65536 = ap (λ i. i.a_number) e in
+    let b : v / 281474976710656 ≡ w / 281474976710656 = ap (λ i. i.b_number) e in
+    omega (arith, k, a, b)
+
+both_ways : (b c : Bool) → (b ≡ true → c ≡ true) → (c ≡ true → b ≡ true) → b ≡ c
+both_ways true c f g = sym (f refl)
+both_ways false true f g = g refl
+both_ways false false f g = refl
+
+-- so they can be compared in place of the instructions
+pub same_words : (v w : ℕ) → IsClassed v → IsClassed w → (v / 65536 == w / 65536) ≡ same_instruction (unpacked v) (unpacked w)
+same_words v w cv cw = both_ways _ _
+    (λ e. subst (λ i. same_instruction (unpacked v) i ≡ true) (unpacked_same v w (eqb-true _ _ e)) (same_self (unpacked v)))
+    (λ e. eq-eqb _ _ (rest_same v w cv cw (same-true _ _ (derived _ _ ∙ e))))

@@ -1,7 +1,7 @@
 -- Queues of tasks.
 use Rattle.std.proofs.Common.{◌≡◌, ℕ, ◌+◌, ◌<◌, ◌≤◌, arith, List, [], ◌∷◌, ◌++◌, length, drop, take, get_or, true, false, refl, sym, ◌∙◌, ap, subst}
 use Rattle.std.proofs.lemmas.Bool.Decides.{nat_tests}
-use Rattle.std.specs.Prelude.{Option, Some, None, slice_get, slice_index, unwrap_or, nat_lt, if◌then◌else◌}
+use Rattle.std.specs.Prelude.{Option, Some, slice_get, slice_index, unwrap_or, nat_lt, if◌then◌else◌}
 use Rattle.std.proofs.lemmas.List.{length-take-le, take_more}
 use Rattle.std.proofs.lemmas.List.Elements.{All-tail, All-drop, All-push, All-head, All-get_or}
 use Rattle.mars_core.specs.Core.{AreTasks}
@@ -54,20 +54,4 @@ first_of_some (y ∷ ys) o x some h e = ap Some (e ∙ ap (λ p. unwrap_or p 0) 
 pub item_below : (m : ℕ) (tasks : List ℕ) (i x : ℕ) → AreTasks m tasks → i < length tasks → x ≡ slice_index tasks i → x < m
 item_below m tasks i x h l e = rw e (All-get_or (λ t. t < m) tasks i 0 l h.each)
 
--- a queue with a first task is not empty, and an empty one has no first task
-pub some_first : (xs : List ℕ) (x : ℕ) → Some x ≡ slice_get xs 0 → 0 < length xs
-some_first [] x e = absurd (cc)
-some_first (y ∷ ys) x e = omega arith
-
-pub some_left : (xs : List ℕ) (o : Option ℕ) (x : ℕ) → o ≡ slice_get xs 0 → o ≡ Some x → length xs ≡ 0 → ⊥
-some_left xs o x e s n = let l : 0 < length xs = some_first xs x (sym s ∙ e) in absurd (omega (arith, l, n))
-
-pub none_left : (xs : List ℕ) (o : Option ℕ) → o ≡ slice_get xs 0 → ((x : ℕ) → o ≡ Some x → ⊥) → length xs ≡ 0
-none_left [] o e n = refl
-none_left (x ∷ xs) o e n = absurd (n x e)
-
-pub none_first : (xs : List ℕ) → length xs ≡ 0 → None ≡ slice_get xs 0
-none_first [] e = refl
-none_first (x ∷ xs) e = absurd (omega (arith, e))
-
-pub ruleset queues = (some_first, first_is, first_below, rest_below, appended_below)
+pub ruleset queues = (first_is, first_below, rest_below, appended_below)

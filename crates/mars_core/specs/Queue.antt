@@ -30,18 +30,18 @@ stretch = 2000
 abbrev pub held_in : List ℕ → (first end : ℕ) → List ℕ
 held_in slots first end = drop first (take end slots)
 
--- A queue in slots, and the turns for which there is room.
+-- What contracts see of a `LinearQueue`: the queue, and the turns for which there are slots.
 pub record LinearView : Type 0 where
   pub queue : Queue
   pub turns : ℕ
 
-abbrev pub linear_view : List ℕ → (first end capacity : ℕ) → LinearView
-linear_view slots first end capacity = record { queue = queue (held_in slots first end) capacity; turns = stretch - first }
+-- There may be `free` more tasks.
+abbrev pub linear_view : List ℕ → (first end free : ℕ) → LinearView
+linear_view slots first end free = record { queue = queue (held_in slots first end) (end - first + free); turns = stretch - first }
 
--- What holds of all slots: after the last task, at `end`, there is one more slot.
-pub record IsLinear (slots : List ℕ) (first end capacity : ℕ) : Type 0 where
-  pub slots_are : length slots ≡ capacity + stretch + 1
+-- What holds of the slots, whose last task is before `end`: there is a slot after it.
+pub record IsLinear (slots : List ℕ) (first end free : ℕ) : Type 0 where
+  pub slots_are : length slots ≡ end - first + free + stretch + 1
   pub first_is : first ≤ stretch
   pub ordered : first ≤ end
-  pub within : end ≤ first + capacity
-  pub few : capacity ≤ 65535
+  pub few : end - first + free ≤ 65535

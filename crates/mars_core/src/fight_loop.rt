@@ -28,17 +28,13 @@ pub(crate) fn take_turns<C: Store>(
     if mine.is_empty() || theirs.is_empty() {
         return (cells, mine, theirs, 0);
     }
-    let (cells, mine, theirs, whole, more) = alternate_turns(cells, mine, theirs, size, cycles);
-    (cells, mine, theirs, 2 * whole + more)
+    alternate_turns(cells, mine, theirs, size, cycles)
 }
 
-// Does what `take_turns` does, for two queues that are not empty. Returns the whole cycles and the
-// turns beyond them, and not their sum: with that the compiler would keep the end of a queue in
-// memory.
+// Does what `take_turns` does, for two queues that are not empty.
 //
 // Owns the cells and the queues while it runs, so that the compiler keeps their fields in
-// registers: it has to assume that a write to a cell changes what is behind a reference. Too large
-// to be inlined.
+// registers: it has to assume that a write to a cell changes what is behind a reference.
 #[inline(never)]
 fn alternate_turns<C: Store>(
     mut cells: C,
@@ -46,29 +42,25 @@ fn alternate_turns<C: Store>(
     mut theirs: C::Queue,
     size: u32,
     cycles: u32,
-) -> (C, C::Queue, C::Queue, u32, u32)
+) -> (C, C::Queue, C::Queue, u32)
     requires can_play { CanPlay size (C.items cells) (C.Queue.held mine) (C.Queue.held theirs) cycles }
     requires few { cycles ≤ stretch }
     requires mine { 0 < length (C.Queue.held mine).items }
     requires theirs { 0 < length (C.Queue.held theirs).items }
-    ensures played { Plays size (C.items cells) (C.Queue.held mine) (C.Queue.held theirs) cycles (2 * result.3 + result.4) (C.items result.0) (C.Queue.held result.1) (C.Queue.held result.2) }
-    ensures marks { C.marks result.0 ≤ C.marks cells + 3 * (2 * result.3 + result.4) }
+    ensures played { Plays size (C.items cells) (C.Queue.held mine) (C.Queue.held theirs) cycles result.3 (C.items result.0) (C.Queue.held result.1) (C.Queue.held result.2) }
+    ensures marks { C.marks result.0 ≤ C.marks cells + 3 * result.3 }
 {
     mine.make_room();
     theirs.make_room();
-    let mut my_task = mine.first();
-    let mut their_task = theirs.first();
     for cycle in 0..cycles {
-        let Some(next) = next_turn::<C, 0>(&mut cells, &mut mine, size, my_task) else {
-            return (cells, mine, theirs, cycle, 1);
-        };
-        my_task = next;
-        let Some(next) = next_turn::<C, 1>(&mut cells, &mut theirs, size, their_task) else {
-            return (cells, mine, theirs, cycle, 2);
-        };
-        their_task = next;
+        if next_turn::<C, 0>(&mut cells, &mut mine, size) {
+            return (cells, mine, theirs, 2 * cycle + 1);
+        }
+        if next_turn::<C, 1>(&mut cells, &mut theirs, size) {
+            return (cells, mine, theirs, 2 * cycle + 2);
+        }
     }
-    (cells, mine, theirs, cycles, 0)
+    (cells, mine, theirs, 2 * cycles)
 }
 
 // Plays as `alternate` does, for any number of cycles, a stretch at a time.

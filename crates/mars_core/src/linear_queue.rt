@@ -16,7 +16,8 @@ pub struct LinearQueue {
     pub(crate) slots: Vec<u16>,
     pub(crate) first: usize,
     pub(crate) end: usize,
-    pub(crate) capacity: usize,
+    // How many more tasks there may be: a number that most turns leave as it is.
+    pub(crate) free: usize,
 }
 
 impl Model for LinearQueue {
@@ -24,9 +25,9 @@ impl Model for LinearQueue {
 
     ghost Value = { LinearView };
 
-    ghost view = { λ t. linear_view t.slots.items t.first t.end t.capacity };
+    ghost view = { λ t. linear_view t.slots.items t.first t.end t.free };
 
-    ghost invariant = { λ t. IsLinear t.slots.items t.first t.end t.capacity };
+    ghost invariant = { λ t. IsLinear t.slots.items t.first t.end t.free };
 }
 
 impl Tasks for LinearQueue {
@@ -40,7 +41,7 @@ impl Tasks for LinearQueue {
             slots,
             first: 0,
             end: 0,
-            capacity,
+            free: capacity,
         })
     }
 
@@ -80,29 +81,28 @@ impl Tasks for LinearQueue {
     #[inline]
     fn append(&mut self, task: u32) {
         self.slots[self.end] = task as u16;
-        self.end += usize::from(self.end - self.first < self.capacity);
+        let grows = usize::from(self.free > 0);
+        self.end += grows;
+        self.free -= grows;
     }
 
     #[tactic(auto, using(crate::proofs::Slots::slots))]
     #[inline]
-    fn remove_first(&mut self) -> Option<u32> {
+    fn remove_first(&mut self) {
         self.first += 1;
-        if self.first == self.end {
-            return None;
-        }
-        Some(u32::from(self.slots[self.first]))
+        self.free += 1;
     }
 
     #[tactic(auto, using(crate::proofs::Slots::slots))]
     #[inline]
-    fn replace_first(&mut self, last: u32) -> u32 {
+    fn replace_first(&mut self, last: u32) {
         self.slots[self.end] = last as u16;
         self.end += 1;
         self.first += 1;
-        u32::from(self.slots[self.first])
     }
 
     fn clear(&mut self) {
+        self.free += self.end - self.first;
         self.first = 0;
         self.end = 0;
     }

@@ -12,13 +12,13 @@ use crate::codes::{
 use crate::number::Field;
 use rc_instr::{Instruction, Modifier, Opcode};
 
-// What the parts of a word are multiplied by: the mark by 2^15, the A-number by 2^16, the class by
-// 2^32 and the B-number by 2^48. specs/Packed.antt has the table, with the parts below the mark.
+// What the parts of a word are multiplied by: the mark by 2^15, the A-number by 2^16, the key by
+// 2^32 and the B-number by 2^48. specs/Packed.antt has the table.
 const MARK: u64 = 32768;
 
 const A_NUMBER: u64 = 65536;
 
-const CLASS: u64 = 4294967296;
+const KEY: u64 = 4294967296;
 
 const B_NUMBER: u64 = 281474976710656;
 
@@ -65,12 +65,12 @@ fn pack(instruction: Instruction) -> u64
     let a = u64::from(instruction.a_number);
     let b = u64::from(instruction.b_number);
     let class = class_of_key(key_of(canonical(instruction)));
-    key_of(instruction) + A_NUMBER * a + CLASS * class + B_NUMBER * b
+    class + A_NUMBER * a + KEY * key_of(instruction) + B_NUMBER * b
 }
 
 impl PackedCell {
     // Returns the empty cell, without a mark.
-    #[tactic(auto, using(crate::proofs::Packing::classed_packed), unfolding(crate::specs::Packed::empty_word))]
+    #[tactic(auto, unfolding(crate::specs::Packed::empty_word))]
     #[inline]
     pub(crate) fn empty() -> PackedCell
         ensures { result.word ≡ empty_word }
@@ -81,7 +81,7 @@ impl PackedCell {
     }
 
     // Returns the cell with a mark.
-    #[tactic(auto, using(crate::proofs::Packing::classed_marked), unfolding(crate::specs::Packed::mark_of, crate::specs::Packed::marked))]
+    #[tactic(auto, unfolding(crate::specs::Packed::mark_of, crate::specs::Packed::marked))]
     #[inline]
     pub(crate) fn marked(self) -> PackedCell
         ensures { result.word ≡ marked self.word }
@@ -105,7 +105,7 @@ impl PackedCell {
 impl Cell for PackedCell {
     ghost held = { λ c. unpacked c.word };
 
-    #[tactic(auto, using(crate::proofs::Packing::unpacked_packed, crate::proofs::Packing::classed_packed))]
+    #[tactic(auto, using(crate::proofs::Packing::unpacked_packed))]
     #[inline]
     fn of(instruction: Instruction) -> PackedCell {
         PackedCell {
@@ -117,24 +117,24 @@ impl Cell for PackedCell {
     #[inline]
     fn instruction(self) -> Instruction {
         Instruction {
-            opcode: opcode_from(self.word / 8 % 16),
-            modifier: modifier_from(self.word % 8),
-            a_mode: mode_from(self.word / 256 % 8),
+            opcode: opcode_from(self.word / (8 * KEY) % 16),
+            modifier: modifier_from(self.word / KEY % 8),
+            a_mode: mode_from(self.word / (256 * KEY) % 8),
             a_number: (self.word / A_NUMBER % 65536) as u16,
-            b_mode: mode_from(self.word / 2048 % 8),
+            b_mode: mode_from(self.word / (2048 * KEY) % 8),
             b_number: (self.word / B_NUMBER) as u16,
         }
     }
 
     #[inline]
     fn class(self) -> u64 {
-        self.word / CLASS % CLASS_RANGE
+        self.word % CLASS_RANGE
     }
 
     #[tactic(auto, using(crate::proofs::Packing::code), unfolding(crate::specs::Packed::unpacked))]
     #[inline]
     fn code(self) -> u64 {
-        self.word % CODE_COUNT
+        self.word / KEY % CODE_COUNT
     }
 
     #[tactic(auto, unfolding(crate::specs::Packed::unpacked))]
@@ -162,9 +162,11 @@ impl Cell for PackedCell {
         }
     }
 
+    // Compares the key and the numbers, which are the whole instruction: class and mark are below.
+    #[tactic(auto, using(crate::proofs::Packing::same_words))]
     #[inline]
     fn is_same(self, other: PackedCell) -> bool {
-        Instruction::is_same(&self.instruction(), &other.instruction())
+        self.word / A_NUMBER == other.word / A_NUMBER
     }
 
     // Compares the marks and the classes too: one word with another.

@@ -127,13 +127,13 @@ fn play<const OPEN: u64>(
         slots: mem::replace(&mut mine.slots, Vec::new(alloc)),
         first: mine.first,
         end: mine.end,
-        capacity: mine.capacity,
+        free: mine.free,
     };
     let other = LinearQueue {
         slots: mem::replace(&mut theirs.slots, Vec::new(alloc)),
         first: theirs.first,
         end: theirs.end,
-        capacity: theirs.capacity,
+        free: theirs.free,
     };
     let (cells, one, other, turns) = take_turns(cells, one, other, size, cycles);
     *mine = one;

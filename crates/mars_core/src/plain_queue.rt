@@ -29,7 +29,7 @@ impl Tasks for PlainQueue {
 
     ghost held = { λ q. elim q.buffer [ Some b ↦ queue b.items b.capacity | None ↦ queue [] 0 ] };
 
-    // There is always room.
+    // Turns use no slots.
     ghost turns = { λ q. stretch };
 
     fn with_capacity(alloc: Global, capacity: usize) -> Result<PlainQueue, OutOfMemory> {
@@ -73,21 +73,19 @@ impl Tasks for PlainQueue {
         }
     }
 
-    fn remove_first(&mut self) -> Option<u32> {
+    fn remove_first(&mut self) {
         if let Some(buffer) = &mut self.buffer {
             let _ = buffer.pop_front();
         }
-        self.get(0).map(u32::from)
     }
 
     #[tactic(auto, using(crate::proofs::Queues::room))]
-    fn replace_first(&mut self, last: u32) -> u32 {
+    fn replace_first(&mut self, last: u32) {
         if let Some(buffer) = &mut self.buffer {
             prove!(buffer.len() <= buffer.capacity());
             let _ = buffer.pop_front();
             let _ = buffer.try_push_back(last as u16);
         }
-        self.first()
     }
 
     fn clear(&mut self) {

@@ -12,7 +12,7 @@ pub(crate) const STRETCH: u32 = 2000;
 pub trait Tasks: Drop {
     /// The tasks, and how many there may be.
     ghost held: { Self → Queue };
-    /// The turns for which there is room. A turn takes one task out.
+    /// How many turns may be made before the next `make_room`.
     ghost turns: { Self → ℕ };
 
     /// Makes an empty queue for at most `capacity` tasks.
@@ -48,26 +48,24 @@ pub trait Tasks: Drop {
         requires { task < 65536 }
         ensures tasks { held self.new ≡ queue_with (held self.old) (task ∷ []) }
         ensures turns { turns self.new ≡ turns self.old }
-        ensures first { 0 < length (held self.old).items → slice_get (held self.new).items 0 ≡ slice_get (held self.old).items 0 };
+        ensures some { 0 < length (held self.old).items → 0 < length (held self.new).items };
 
-    /// Removes the first task of a queue that has one. Returns the new first task, if any.
-    fn remove_first(&mut self) -> Option<u32>
+    /// Removes the first task of a queue that has one.
+    fn remove_first(&mut self)
         requires some { 0 < length (held self.old).items }
         requires turns { 0 < turns self.old }
         ensures tasks { held self.new ≡ without_first (held self.old) }
-        ensures turns { turns self.old ≤ turns self.new + 1 }
-        ensures first { result ≡ slice_get (held self.new).items 0 };
+        ensures turns { turns self.old ≤ turns self.new + 1 };
 
-    /// Removes the first task of a queue that has one, and appends `last`, for which there is room
-    /// then. Returns the new first task.
-    fn replace_first(&mut self, last: u32) -> u32
+    /// Removes the first task of a queue that has one, and appends `last`: there is room then.
+    fn replace_first(&mut self, last: u32)
         requires last { last < 65536 }
         requires some { 0 < length (held self.old).items }
         requires turns { 0 < turns self.old }
         ensures turns { turns self.old ≤ turns self.new + 1 }
         ensures tasks { held self.new ≡ queue (drop 1 (held self.old).items ++ last ∷ []) (held self.old).capacity }
         ensures room { length (held self.old).items ≤ (held self.old).capacity }
-        ensures first { Some result ≡ slice_get (held self.new).items 0 };
+        ensures some { 0 < length (held self.new).items };
 
     /// Takes all tasks out.
     fn clear(&mut self)

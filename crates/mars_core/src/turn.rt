@@ -1,5 +1,5 @@
 //! One turn of a side: its first task executes an instruction, and queues what follows.
-ghost use Rattle.std.specs.Prelude.{◌≡◌, ◌<◌, ◌≤◌, ◌+◌, Some, length, slice_get};
+ghost use Rattle.std.specs.Prelude.{◌≡◌, ◌<◌, ◌≤◌, ◌+◌, ◌==◌, length};
 ghost use Rattle.mars_core.specs.Queue.{queue_with, queue_after, without_first};
 ghost use Rattle.mars_core.specs.Classes.{first_of_further, first_of_modes, IsClassOf};
 ghost use Rattle.mars_core.specs.Core.{IsCore, AreTasks};
@@ -38,12 +38,10 @@ pub(crate) fn take_turn<C: Store>(cells: &mut C, tasks: &mut C::Queue, size: u32
         return;
     }
     tasks.make_room();
-    let pc = tasks.first();
-    next_turn::<C, 2>(cells, tasks, size, pc);
+    next_turn::<C, 2>(cells, tasks, size);
 }
 
-// Takes one turn of a side whose first task is `pc`. Returns the task that is first afterwards, so
-// that a loop need not read it from the queue.
+// Takes one turn of a side that has a task. Returns whether none is left.
 //
 // Each call has a `PLACE` of its own, so that each has its own copies of the large functions below,
 // with one caller: only then does the compiler inline them (docs/HOT_LOOP.md).
@@ -53,20 +51,20 @@ pub(crate) fn next_turn<C: Store, const PLACE: u64>(
     cells: &mut C,
     tasks: &mut C::Queue,
     size: u32,
-    pc: u32,
-) -> Option<u32>
+) -> bool
     requires core { IsCore size (C.items cells.old) }
     requires tasks { AreTasks size (C.Queue.held tasks.old).items }
-    requires pc { Some pc ≡ slice_get (C.Queue.held tasks.old).items 0 }
+    requires some { 0 < length (C.Queue.held tasks.old).items }
     requires turns { 0 < C.Queue.turns tasks.old }
     ensures cells { C.items cells.new ≡ core_after (C.items cells.old) (C.Queue.held tasks.old).items }
     ensures tasks { C.Queue.held tasks.new ≡ queue_after (C.items cells.old) (C.Queue.held tasks.old) }
-    ensures next { result ≡ slice_get (C.Queue.held tasks.new).items 0 }
+    ensures none { result ≡ (length (C.Queue.held tasks.new).items == 0) }
     ensures turns { C.Queue.turns tasks.old ≤ C.Queue.turns tasks.new + 1 }
     ensures core { IsCore size (C.items cells.new) }
     ensures below { AreTasks size (C.Queue.held tasks.new).items }
     ensures marks { C.marks cells.new ≤ C.marks cells.old + 3 }
 {
+    let pc = tasks.first();
     let cell = read(cells, size, pc);
     let executed = execute::<C, PLACE>(cells, size, pc, cell, cell.class());
     requeue(tasks, size, pc, executed)
@@ -274,10 +272,10 @@ fn execute_further<C: Store, const PLACE: u64>(
 }
 
 // Takes out the first task, which is at `pc`, and appends what its step queued, in order, each if
-// there is room. Returns the task that is first afterwards.
+// there is room. Returns whether no task is left.
 #[tactic(auto, using(crate::proofs::Queues::room_test))]
 #[inline(always)]
-fn requeue<Q: Tasks>(tasks: &mut Q, size: u32, pc: u32, executed: Executed) -> Option<u32>
+fn requeue<Q: Tasks>(tasks: &mut Q, size: u32, pc: u32, executed: Executed) -> bool
     requires size { (2 < size) × (size ≤ 65535) }
     requires pc { pc < size }
     requires jump { executed.jump < size }
@@ -285,18 +283,21 @@ fn requeue<Q: Tasks>(tasks: &mut Q, size: u32, pc: u32, executed: Executed) -> O
     requires turns { 0 < Q.turns tasks.old }
     ensures tasks { Q.held tasks.new ≡ queue_with (without_first (Q.held tasks.old)) (addresses size pc executed.jump executed.queued) }
     ensures below { AreTasks size (addresses size pc executed.jump executed.queued) }
-    ensures next { result ≡ slice_get (Q.held tasks.new).items 0 }
+    ensures none { result ≡ (length (Q.held tasks.new).items == 0) }
     ensures turns { Q.turns tasks.old ≤ Q.turns tasks.new + 1 }
 {
     match executed.queued {
-        Queued::Nothing => tasks.remove_first(),
-        Queued::Next => Some(tasks.replace_first(sum(size, pc, 1))),
-        Queued::Skip => Some(tasks.replace_first(sum(size, pc, 2))),
-        Queued::Jump => Some(tasks.replace_first(executed.jump)),
+        Queued::Nothing => {
+            tasks.remove_first();
+            return tasks.is_empty();
+        }
+        Queued::Next => tasks.replace_first(sum(size, pc, 1)),
+        Queued::Skip => tasks.replace_first(sum(size, pc, 2)),
+        Queued::Jump => tasks.replace_first(executed.jump),
         Queued::Split => {
-            let first = tasks.replace_first(sum(size, pc, 1));
+            tasks.replace_first(sum(size, pc, 1));
             tasks.append(executed.jump);
-            Some(first)
         }
     }
+    false
 }

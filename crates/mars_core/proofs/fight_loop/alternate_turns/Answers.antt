@@ -1,5 +1,5 @@
 use Rattle.std.proofs.Common.{◌≡◌, ◌+◌, ◌*◌, length, arith, sym, ◌∙◌, ap}
-use Rattle.mars_core.proofs.Queues.{none_left, some_left}
+use Rattle.std.proofs.lemmas.Bool.{eqb-true, eqb-false}
 use Rattle.mars_core.specs.Fight.{turns_of}
 use Rattle.mars_core.specs.State.{play_of, seen_from}
 use Rattle.mars_core.specs.declared.side.Side.{Side}
@@ -7,12 +7,12 @@ use Rattle.mars_core.proofs.Going.{mine_moved, theirs_moved, over_mine, over_the
 use Rattle.mars_core.proofs.fight_loop.alternate_turns.Goals as goal
 
 -- the side that moves first has lost its last task
-pub returns-in_default-clause-played : goal.returns-in_default-clause-played
-returns-in_default-clause-played g c =
+pub returns-then-next_turn-clause-played : goal.returns-then-next_turn-clause-played
+returns-then-next_turn-clause-played g c =
     let h = c.loop-cycle.invariant in
     let moved = λ (first : Side). mine_moved _ _ _ first c.loop-cycle.cycle _ _ _ _ _ h.mine_room c.next_turn.ensures.cells
     (ap (λ b. b.items) c.next_turn.ensures.tasks) h.mine_some h.theirs_some (h.going first) in
-    let none : length (g.C.Queue.Tasks.held c.next_turn.new.tasks).items ≡ 0 = none_left _ _ c.next_turn.ensures.next c.in_default.not-Some in
+    let none : length (g.C.Queue.Tasks.held c.next_turn.new.tasks).items ≡ 0 = eqb-true _ _ (sym c.if-next_turn.ensures.none) in
     record {
       turns_are = λ first. sym (ends_here _ _ first c.args.cycles (2 * c.loop-cycle.cycle + 1) _ _ _ (omega arith) (moved first) (over_mine first _ _ _ none));
       state_is = λ first. (moved first).state;
@@ -25,16 +25,16 @@ returns-in_default-clause-played g c =
     }
 
 -- the other side has lost its last task
-pub returns-in_default-next_turn-clause-played : goal.returns-in_default-next_turn-clause-played
-returns-in_default-next_turn-clause-played g c =
+pub returns-then-next_turn-2-clause-played : goal.returns-then-next_turn-2-clause-played
+returns-then-next_turn-2-clause-played g c =
     let h = c.loop-cycle.invariant in
-    let some = some_left _ _ _ c.next_turn.ensures.next c.in-Some.is in
+    let some : length (g.C.Queue.Tasks.held c.next_turn.new.tasks).items ≡ 0 → ⊥ = eqb-false _ _ (sym c.if-next_turn.ensures.none) in
     let moved = λ (first : Side).
     let half = mine_moved _ _ _ first c.loop-cycle.cycle _ _ _ _ _ h.mine_room c.next_turn.ensures.cells
     (ap (λ b. b.items) c.next_turn.ensures.tasks) h.mine_some h.theirs_some (h.going first) in
     theirs_moved _ _ _ first c.loop-cycle.cycle _ _ _ _ _ h.theirs_room c.next_turn-in-loop-cycle.ensures.cells
     (ap (λ b. b.items) c.next_turn-in-loop-cycle.ensures.tasks) some h.theirs_some half in
-    let none : length (g.C.Queue.Tasks.held c.next_turn-in-loop-cycle.new.tasks).items ≡ 0 = none_left _ _ c.next_turn-in-loop-cycle.ensures.next c.in_default-next_turn.not-Some in
+    let none : length (g.C.Queue.Tasks.held c.next_turn-in-loop-cycle.new.tasks).items ≡ 0 = eqb-true _ _ (sym c.if-next_turn-2.ensures.none) in
     let twice : 2 * (c.loop-cycle.cycle + 1) ≡ 2 * c.loop-cycle.cycle + 2 = omega arith in
     record {
       turns_are = λ first. sym twice ∙ sym (ends_here _ _ first c.args.cycles (2 * (c.loop-cycle.cycle + 1)) _ _ _ (omega arith) (moved first) (over_theirs first _ _ _ none));
@@ -51,17 +51,15 @@ returns-in_default-next_turn-clause-played g c =
 pub loop-cycle-preserved : goal.loop-cycle-preserved
 loop-cycle-preserved g c =
     let h = c.loop-cycle.invariant in
-    let some = some_left _ _ _ c.next_turn.ensures.next c.in-Some.is in
+    let some : length (g.C.Queue.Tasks.held c.next_turn.new.tasks).items ≡ 0 → ⊥ = eqb-false _ _ (sym c.if-next_turn.ensures.none) in
     record {
       going = λ first.
           let half = mine_moved _ _ _ first c.loop-cycle.cycle _ _ _ _ _ h.mine_room c.next_turn.ensures.cells
           (ap (λ b. b.items) c.next_turn.ensures.tasks) h.mine_some h.theirs_some (h.going first) in
           theirs_moved _ _ _ first c.loop-cycle.cycle _ _ _ _ _ h.theirs_room c.next_turn-in-loop-cycle.ensures.cells
           (ap (λ b. b.items) c.next_turn-in-loop-cycle.ensures.tasks) some h.theirs_some half;
-      mine_first = sym c.in-Some.is ∙ c.next_turn.ensures.next;
-      theirs_first = sym c.in-Some-next_turn.is ∙ c.next_turn-in-loop-cycle.ensures.next;
       mine_some = some;
-      theirs_some = some_left _ _ _ c.next_turn-in-loop-cycle.ensures.next c.in-Some-next_turn.is;
+      theirs_some = eqb-false _ _ (sym c.if-next_turn-2.ensures.none);
       core = c.next_turn-in-loop-cycle.ensures.core;
       mine_below = c.next_turn.ensures.below;
       theirs_below = c.next_turn-in-loop-cycle.ensures.below;
@@ -77,7 +75,7 @@ pub returns-clause-played : goal.returns-clause-played
 returns-clause-played g c =
     let h = c.loop-cycle.invariant in
     let all : c.loop-cycle.cycle ≡ c.args.cycles = omega arith in
-    let whole : 2 * c.loop-cycle.cycle ≡ 2 * c.args.cycles + 0 = omega (arith, all) in
+    let whole : 2 * c.loop-cycle.cycle ≡ 2 * c.args.cycles = omega (arith, all) in
     let limit = (g.C.Queue.Tasks.held c.args.mine).capacity in
     let start = λ (first : Side). seen_from first (g.C.Store.items c.args.cells) (g.C.Queue.Tasks.held c.args.mine).items (g.C.Queue.Tasks.held c.args.theirs).items in
     record {

@@ -1,5 +1,4 @@
 use Rattle.std.proofs.Common.{◌≡◌, ◌+◌, ◌*◌, ◌≤◌, length}
-use Rattle.std.specs.Prelude.{Some, slice_get}
 use Rattle.mars_core.specs.Core.{IsCore, AreTasks}
 use Rattle.mars_core.specs.Queue.{stretch}
 use Rattle.mars_core.specs.State.{seen_from}
@@ -14,8 +13,6 @@ invariant-loop-cycle g l =
     record {
       going : (first : Side) → IsGoing (g.C.Queue.Tasks.held l.fn.mine).capacity (seen_from first (items l.fn.cells) (g.C.Queue.Tasks.held l.fn.mine).items (g.C.Queue.Tasks.held l.fn.theirs).items) first
           (2 * l.cycle) (items l.cells) (g.C.Queue.Tasks.held l.mine).items (g.C.Queue.Tasks.held l.theirs).items;
-      mine_first : Some l.my_task ≡ slice_get (g.C.Queue.Tasks.held l.mine).items 0;
-      theirs_first : Some l.their_task ≡ slice_get (g.C.Queue.Tasks.held l.theirs).items 0;
       mine_some : length (g.C.Queue.Tasks.held l.mine).items ≡ 0 → ⊥;
       theirs_some : length (g.C.Queue.Tasks.held l.theirs).items ≡ 0 → ⊥;
       core : IsCore l.size (items l.cells);
